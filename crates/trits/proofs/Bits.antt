@@ -1,0 +1,88 @@
+-- The bits of a number: the operators work at each bit apart, a number is its bits, and the number that `fromBits` makes of given bits has them.
+-- Assumes nothing.
+use mathlib.Core.Path.{_≡_, refl, sym, ap, ap₂, _∙_, subst}
+use mathlib.Core.Logic.{_⊎_, inl, inr}
+use Prim.Native.Nat.{ℕ, zero, suc, _+_, _-_, _*_, _/_, _%_, _^_, _≤_, _<_, zero-le, suc-le-suc}
+use native.Mathlib.Nat.{zero-lt-suc, not-suc-le-zero, le-of-suc-le-suc, mod-lt, div-one, div-add-mod', zero-div, pow-suc, div-eq-of-lt}
+use native.Mathlib.Numerals.{one-add}
+use native.Mathlib.Omega.{arith}
+use lib.Bits.{bitAnd, bitOr, bitXor, and-shr, or-shr, xor-shr, and-mod, or-mod, xor-mod}
+use lib.Pow.{shr-shr, pow-mono}
+use lib.Arith.{lt-one}
+use Rattle.trits.specs.Planes.{bit, fromBits}
+
+-- ---- each operator at each bit
+
+pub bit-and : (i a b : ℕ) → bit i (bitAnd a b) ≡ bitAnd (bit i a) (bit i b)
+unfolding bit
+bit-and i a b = ap (λ (x : ℕ). x % 2) (and-shr a b i) ∙ and-mod (a / 2 ^ i) (b / 2 ^ i) 1
+
+pub bit-or : (i a b : ℕ) → bit i (bitOr a b) ≡ bitOr (bit i a) (bit i b)
+unfolding bit
+bit-or i a b = ap (λ (x : ℕ). x % 2) (or-shr a b i) ∙ or-mod (a / 2 ^ i) (b / 2 ^ i) 1
+
+pub bit-xor : (i a b : ℕ) → bit i (bitXor a b) ≡ bitXor (bit i a) (bit i b)
+unfolding bit
+bit-xor i a b = ap (λ (x : ℕ). x % 2) (xor-shr a b i) ∙ xor-mod (a / 2 ^ i) (b / 2 ^ i) 1
+
+-- ---- a bit is 0 or 1, and the bits by halves
+
+pub bit-lt : (i n : ℕ) → bit i n < 2
+unfolding bit
+bit-lt i n = mod-lt (n / 2 ^ i) (zero-lt-suc 1)
+
+pub bit-first : (n : ℕ) → bit 0 n ≡ n % 2
+unfolding bit
+bit-first n = ap (λ (x : ℕ). x % 2) (div-one n)
+
+pub bit-next : (i n : ℕ) → bit (suc i) n ≡ bit i (n / 2)
+unfolding bit
+bit-next i n = ap (λ (k : ℕ). n / 2 ^ k % 2) (sym (one-add i)) ∙ ap (λ (x : ℕ). x % 2) (sym (shr-shr n 1 i))
+
+pub bit-none : (i : ℕ) → bit i 0 ≡ 0
+unfolding bit
+bit-none i = ap (λ (x : ℕ). x % 2) (zero-div (2 ^ i))
+
+-- what a number of k bits has from k on
+pub bit-past : (k i n : ℕ) → n < 2 ^ k → k ≤ i → bit i n ≡ 0
+unfolding bit
+bit-past k i n h l = ap (λ (x : ℕ). x % 2) (div-eq-of-lt (omega (arith, pow-mono l)))
+
+pub half-lt : (k n : ℕ) → n < 2 ^ suc k → n / 2 < 2 ^ k
+half-lt k n h = omega (arith, pow-suc 2 k)
+
+-- ---- two numbers of k bits are equal when their bits are
+
+pub bits-eq : (k x y : ℕ) → x < 2 ^ k → y < 2 ^ k → ((i : ℕ) → i < k → bit i x ≡ bit i y) → x ≡ y
+bits-eq zero x y hx hy h = lt-one hx ∙ sym (lt-one hy)
+bits-eq (suc k) x y hx hy h =
+    let low : x % 2 ≡ y % 2 = sym (bit-first x) ∙ h 0 (zero-lt-suc k) ∙ bit-first y in
+    let high : x / 2 ≡ y / 2 = bits-eq k (x / 2) (y / 2) (half-lt k x hx) (half-lt k y hy) (λ i l. sym (bit-next i x) ∙ h (suc i) (suc-le-suc l) ∙ bit-next i y) in
+    omega arith
+
+-- ---- `fromBits`
+
+pub from-lt : (k : ℕ) (f : ℕ → ℕ) → ((i : ℕ) → f i < 2) → fromBits f k < 2 ^ k
+unfolding fromBits
+from-lt zero f d = zero-lt-suc 0
+from-lt (suc k) f d = omega (arith, pow-suc 2 k, from-lt k (λ i. f (suc i)) (λ i. d (suc i)), d 0)
+
+pub bit-from : (k : ℕ) (f : ℕ → ℕ) → ((i : ℕ) → f i < 2) → (i : ℕ) → i < k → bit i (fromBits f k) ≡ f i
+unfolding fromBits
+bit-from zero f d i l = absurd (not-suc-le-zero l)
+bit-from (suc k) f d zero l = bit-first (fromBits f (suc k)) ∙ omega (arith, d 0)
+bit-from (suc k) f d (suc i) l =
+    let half : (f 0 + 2 * fromBits (λ j. f (suc j)) k) / 2 ≡ fromBits (λ j. f (suc j)) k = omega (arith, d 0) in
+    bit-next i (fromBits f (suc k)) ∙ ap (bit i) half ∙ bit-from k (λ j. f (suc j)) (λ j. d (suc j)) i (le-of-suc-le-suc l)
+
+-- a number is the one that has its bits
+pub from-bits : (k n : ℕ) (f : ℕ → ℕ) → n < 2 ^ k → ((i : ℕ) → f i < 2) → ((i : ℕ) → i < k → bit i n ≡ f i) → n ≡ fromBits f k
+from-bits k n f h d e = bits-eq k n (fromBits f k) h (from-lt k f d) (λ i l. e i l ∙ sym (bit-from k f d i l))
+
+-- `!x` of a word of k bits, which is (2 ^ k - 1) - x
+pub bit-not : (k x i : ℕ) → x < 2 ^ k → i < k → bit i (2 ^ k - 1 - x) ≡ 1 - bit i x
+bit-not zero x i h l = absurd (not-suc-le-zero l)
+bit-not (suc k) x zero h l = bit-first (2 ^ suc k - 1 - x) ∙ omega (arith, pow-suc 2 k, bit-first x)
+bit-not (suc k) x (suc i) h l =
+    let half : (2 ^ suc k - 1 - x) / 2 ≡ 2 ^ k - 1 - x / 2 = omega (arith, pow-suc 2 k) in
+    bit-next i (2 ^ suc k - 1 - x) ∙ ap (bit i) half ∙ bit-not k (x / 2) i (half-lt k x h) (le-of-suc-le-suc l) ∙ ap (λ (b : ℕ). 1 - b) (sym (bit-next i x))

@@ -1,0 +1,13 @@
+-- The laws that the functions' proofs cite, and that callers may.
+pub mod Arithmetic
+pub mod Bits
+pub mod Lists
+pub mod Reading
+pub mod WordOps
+pub mod Patches
+pub mod Parts
+pub mod Counts
+pub mod Products
+pub mod Tests
+pub mod Put
+pub mod Matrix

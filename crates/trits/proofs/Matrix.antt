@@ -1,0 +1,124 @@
+-- Rows of a matrix: the part that a row is, its trits, and the test of every row. Assumes nothing.
+use mathlib.Core.Path.{_≡_, refl, sym, ap, ap₂, _∙_, subst}
+use mathlib.Core.Logic.{_⊎_, inl, inr, _≢_}
+use mathlib.Core.Bool.{Bool, true, false, _&&_, cond, and-false}
+use mathlib.Core.List.{List, []}
+use Prim.Native.Nat.{ℕ, zero, suc, _+_, _-_, _*_, _/_, _%_, _≤_, _<_}
+use native.Mathlib.Nat.{mul-le-mul-right, suc-mul, mul-div-cancel, mul-mod-left, div-add-mod'}
+use native.Mathlib.Decide.{decLt}
+use native.Mathlib.Omega.{arith}
+use borrow.Author.Tests.{eq-eqb, ne-eqb, lt-ltb, le-ltb}
+use borrow.Rule.Slice.PartMut.{midOf}
+use lib.Dec.{eqb, ltb}
+use lib.ListN.{length, take, drop}
+use Rattle.trits.specs.Trit.{Trit, t0, anyTo}
+use Rattle.trits.specs.Planes.{tritAt, wordsFor, pastEnd, Row}
+use Rattle.trits.specs.Rows.{rowPart, matrixAt, rowsPastEnd}
+use Rattle.trits.proofs.Reading.{read-past}
+use Rattle.trits.proofs.Parts.{length-mid, part-row, part-trit}
+use Rattle.trits.proofs.Tests.{any-found}
+
+-- ---- where rows begin and end
+
+-- row i of m rows ends within them
+pub row-le : (w : ℕ) {i m : ℕ} → i < m → i * w + w ≤ m * w
+row-le w {i} {m} h = omega (arith, mul-le-mul-right w h, suc-mul i w)
+
+-- two rows share no word
+pub rows-apart : (i j w : ℕ) → (i ≡ j → ⊥) → (i * w + w ≤ j * w) ⊎ (j * w + w ≤ i * w)
+rows-apart i j w f = by (decLt i j)
+  where
+    by : Dec (i < j) → (i * w + w ≤ j * w) ⊎ (j * w + w ≤ i * w)
+    by (yes l) = inl (row-le w l)
+    by (no g) = let n : i ≢ j = f in inr (row-le w (omega arith))
+
+-- ---- the part that a row is
+
+module _ (plane : List ℕ) (rows w i : ℕ) where
+  pub part-none : rows ≤ i → [] ≡ rowPart plane rows w i
+  unfolding rowPart
+  part-none h =
+      sym (ap (λ (t : Bool). cond (eqb (length plane) (rows * w) && t) (take w (drop (i * w) plane)) []) (le-ltb i rows h)
+      ∙ ap (λ (t : Bool). cond t (take w (drop (i * w) plane)) []) (and-false (eqb (length plane) (rows * w))))
+
+  pub part-wrong : (length plane ≡ rows * w → ⊥) → [] ≡ rowPart plane rows w i
+  unfolding rowPart
+  part-wrong f = sym (ap (λ (t : Bool). cond (t && ltb i rows) (take w (drop (i * w) plane)) []) (ne-eqb (length plane) (rows * w) f))
+
+  pub part-there : length plane ≡ rows * w → i < rows → take w (drop (i * w) plane) ≡ rowPart plane rows w i
+  unfolding rowPart
+  part-there e h =
+      sym (ap₂ (λ (s t : Bool). cond (s && t) (take w (drop (i * w) plane)) []) (eq-eqb (length plane) (rows * w) e) (lt-ltb i rows h))
+
+  pub part-length : length plane ≡ rows * w → i < rows → length (rowPart plane rows w i) ≡ w
+  part-length e h = ap length (sym (part-there e h)) ∙ length-mid (i * w) w plane (omega (arith, row-le w h))
+
+  empty : (t : Bool) → w ≡ 0 → [] ≡ cond t (take w (drop (i * w) plane)) []
+  empty true z = sym (ap (λ (k : ℕ). take k (drop (i * w) plane)) z)
+  empty false z = refl
+
+  -- the five ends of `row_part`
+  pub part-no-words : w ≡ 0 → [] ≡ rowPart plane rows w i
+  unfolding rowPart
+  part-no-words z = empty (eqb (length plane) (rows * w) && ltb i rows) z
+
+  module _ (p : w ≡ 0 → ⊥) where
+    positive : 0 < w
+    positive = let n : w ≢ 0 = p in omega arith
+
+    pub part-other : (length plane / w ≡ rows → ⊥) → [] ≡ rowPart plane rows w i
+    part-other f = part-wrong (λ e. f (ap (λ (n : ℕ). n / w) e ∙ mul-div-cancel rows positive))
+
+    pub part-over : (length plane % w ≡ 0 → ⊥) → [] ≡ rowPart plane rows w i
+    part-over f = part-wrong (λ e. f (ap (λ (n : ℕ). n % w) e ∙ mul-mod-left rows w))
+
+    pub part-size : length plane / w ≡ rows → length plane % w ≡ 0 → length plane ≡ rows * w
+    part-size d r = sym (div-add-mod' (length plane) w) ∙ ap₂ (λ (x y : ℕ). x * w + y) d r ∙ omega arith
+
+-- ---- its trits
+
+module _ {ones twos : List ℕ} (rows w i : ℕ) (r : Row ones twos) (e : length ones ≡ rows * w) (h : i < rows) where
+  within : i * w + w ≤ length ones
+  within = omega (arith, row-le w h)
+
+  twos-size : length twos ≡ rows * w
+  twos-size = r .same ∙ e
+
+  -- a row of planes that can be read can be read
+  pub part-reads : Row (rowPart ones rows w i) (rowPart twos rows w i)
+  part-reads =
+      subst (λ (l : List ℕ). Row l (rowPart twos rows w i)) (part-there ones rows w i e h)
+      (subst (λ (l : List ℕ). Row (midOf (i * w) w ones) l) (part-there twos rows w i twos-size h) (part-row r (i * w) w within))
+
+  -- place q of the row handed out is place q of row i of the matrix
+  pub part-trits : (q : ℕ) → tritAt (rowPart ones rows w i) (rowPart twos rows w i) q ≡ matrixAt w ones twos i q
+  unfolding matrixAt
+  part-trits q = by (decLt q (64 * w))
+    where
+      by : Dec (q < 64 * w) → tritAt (rowPart ones rows w i) (rowPart twos rows w i) q ≡ cond (ltb q (64 * w)) (tritAt ones twos (64 * (i * w) + q)) t0
+      by (yes l) =
+          ap₂ (λ (a b : List ℕ). tritAt a b q) (sym (part-there ones rows w i e h)) (sym (part-there twos rows w i twos-size h))
+          ∙ part-trit ones twos (i * w) w within (omega (arith, r .same, within)) q l
+          ∙ sym (ap (λ (t : Bool). cond t (tritAt ones twos (64 * (i * w) + q)) t0) (lt-ltb q (64 * w) l))
+      by (no f) =
+          read-past _ _ w q (part-length ones rows w i e h) (part-length twos rows w i twos-size h) (omega arith)
+          ∙ sym (ap (λ (t : Bool). cond t (tritAt ones twos (64 * (i * w) + q)) t0) (le-ltb q (64 * w) (omega arith)))
+
+-- ---- a bit past the length, in some row
+
+-- in row i
+abbrev pub rowPast : List ℕ → List ℕ → ℕ → ℕ → ℕ → Bool
+rowPast ones twos rows m i = pastEnd (rowPart ones rows (wordsFor m) i) (rowPart twos rows (wordsFor m) i) m
+
+-- what the test of the parts a and b told
+pub past-told : {a b : List ℕ} {t x : Bool} (ones twos : List ℕ) (rows m i : ℕ) → a ≡ rowPart ones rows (wordsFor m) i → b ≡ rowPart twos rows (wordsFor m) i
+    → t ≡ pastEnd a b m → t ≡ x → rowPast ones twos rows m i ≡ x
+past-told ones twos rows m i p q e f = ap₂ (λ (c d : List ℕ). pastEnd c d m) (sym p) (sym q) ∙ sym e ∙ f
+
+pub rows-found : (ones twos : List ℕ) (rows m i : ℕ) → i < rows → rowPast ones twos rows m i ≡ true → true ≡ rowsPastEnd ones twos rows m
+unfolding rowsPastEnd
+rows-found ones twos rows m i l e = sym (any-found (rowPast ones twos rows m) i rows l e)
+
+pub rows-all : (ones twos : List ℕ) (rows m i : ℕ) → i ≡ rows → anyTo (rowPast ones twos rows m) i ≡ false → false ≡ rowsPastEnd ones twos rows m
+unfolding rowsPastEnd
+rows-all ones twos rows m i p e = sym e ∙ ap (anyTo (rowPast ones twos rows m)) p

@@ -1,0 +1,57 @@
+-- Refusals, their numbers and their order ("Turned back by the input", "Turned back by the state"). Assumes nothing.
+use mathlib.Core.Bool.{Bool, cond}
+use mathlib.Core.List.{List}
+use Prim.Native.Nat.{ℕ}
+use lib.Dec.{eqb}
+use Rattle.trits.specs.Planes.{bothSet}
+use Rattle.trits.specs.Rows.{rowsPastEnd}
+use Rattle.trits.specs.declared.refusal.Refusal.{Refusal}
+use Rattle.trits.specs.declared.refusal.Refusal.the-variants.{Size, Length, BothPlanes, PastEnd, PackedByte, StreamEnd, NoPermutation, ZeroTrit, RankU, RankV, Line, FirstPartV, FirstPartU, Weight, NoKey, WholeKey, OtherKey}
+use Rattle.trits.specs.declared.refusal.Outcome.{Outcome}
+use Rattle.trits.specs.declared.refusal.Outcome.the-variants.{Done, Refused}
+
+-- the paper's number of each refusal
+abbrev pub numberOf : Refusal → ℕ
+numberOf Size = 1
+numberOf Length = 2
+numberOf BothPlanes = 3
+numberOf PastEnd = 4
+numberOf PackedByte = 5
+numberOf StreamEnd = 6
+numberOf NoPermutation = 7
+numberOf ZeroTrit = 8
+numberOf RankU = 9
+numberOf RankV = 10
+numberOf Line = 11
+numberOf FirstPartV = 12
+numberOf FirstPartU = 13
+numberOf Weight = 14
+numberOf NoKey = 20
+numberOf WholeKey = 21
+numberOf OtherKey = 22
+
+-- the number that an outcome is told by: 0 where nothing is refused
+abbrev pub codeOf : Outcome → ℕ
+codeOf Done = 0
+codeOf (Refused r) = numberOf r
+
+-- ---- an order of tests: the first that applies decides, and a chain that ends in 0 refuses nothing
+
+-- refused with this number where the test holds, else what follows decides
+abbrev pub refuse : Bool → ℕ → ℕ → ℕ
+refuse test n rest = cond test n rest
+
+-- refused with this number where the test fails, else what follows decides
+abbrev pub demand : Bool → ℕ → ℕ → ℕ
+demand test n rest = cond test rest n
+
+-- "a refusal returns its number alone; state and output stay": what a lent buffer is at exit
+abbrev pub atExit : ℕ → List ℕ → List ℕ → List ℕ
+atExit refusal new old = cond (eqb refusal 0) new old
+
+-- ---- the contents of one pair of planes, of `rows` rows of m trits: 3 over the whole buffer before 4
+unfoldable pub planesRefusal : List ℕ → List ℕ → ℕ → ℕ → ℕ
+planesRefusal ones twos rows m =
+    refuse (bothSet ones twos) 3
+    (refuse (rowsPastEnd ones twos rows m) 4
+    0)

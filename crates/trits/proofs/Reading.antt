@@ -163,6 +163,10 @@ reads-holds ones twos n v r ho hw = subst (λ (f : ℕ → Trit). Holds ones two
 pub reads-to : {ones twos : List ℕ} {n : ℕ} {u v : ℕ → Trit} → Reads ones twos n u → u ≡ v → Reads ones twos n v
 reads-to r e = record { row = r .row; size = r .size; trits = r .trits ∙ e }
 
+-- the words of planes that read as v, where there are n of them
+pub reads-words : {ones twos : List ℕ} {k n : ℕ} {v : ℕ → Trit} → Reads ones twos k v → k ≡ n → ((j : ℕ) → getD ones j 0 < 2 ^ 64) → ((j : ℕ) → getD twos j 0 < 2 ^ 64) → Holds ones twos n v
+reads-words {ones} {twos} {k} {n} {v} r e ho hw = reads-holds ones twos n v (record { row = r .row; size = r .size ∙ e; trits = r .trits }) ho hw
+
 -- so two pairs of planes that read alike are the same words
 pub same-words : {o t o′ t′ : List ℕ} {n : ℕ} {v : ℕ → Trit} → Holds o t n v → Holds o′ t′ n v → (o ≡ o′) × (t ≡ t′)
 same-words h g = (h .ones-are ∙ sym (g .ones-are), h .twos-are ∙ sym (g .twos-are))

@@ -1,0 +1,5 @@
+-- The laws that the functions' proofs cite, and that callers may.
+pub mod Digits
+pub mod Keeping
+pub mod Putting
+pub mod Turned

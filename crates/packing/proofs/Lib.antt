@@ -3,3 +3,5 @@ pub mod Digits
 pub mod Keeping
 pub mod Putting
 pub mod Turned
+pub mod RoundTrip
+pub mod Cases

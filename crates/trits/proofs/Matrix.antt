@@ -11,6 +11,7 @@ use borrow.Author.Tests.{eq-eqb, ne-eqb, lt-ltb, le-ltb}
 use borrow.Rule.Slice.PartMut.{midOf}
 use lib.Dec.{eqb, ltb}
 use lib.ListN.{length, take, drop}
+use lib.Seq.{take-all}
 use Rattle.trits.specs.Trit.{Trit, t0, anyTo}
 use Rattle.trits.specs.Planes.{tritAt, wordsFor, pastEnd, Row}
 use Rattle.trits.specs.Rows.{rowPart, matrixAt, rowsPastEnd}
@@ -122,3 +123,16 @@ rows-found ones twos rows m i l e = sym (any-found (rowPast ones twos rows m) i 
 pub rows-all : (ones twos : List ℕ) (rows m i : ℕ) → i ≡ rows → anyTo (rowPast ones twos rows m) i ≡ false → false ≡ rowsPastEnd ones twos rows m
 unfolding rowsPastEnd
 rows-all ones twos rows m i p e = sym e ∙ ap (anyTo (rowPast ones twos rows m)) p
+
+-- ---- a plane of one row
+
+pub one-row : (plane : List ℕ) (w : ℕ) → length plane ≡ w → rowPart plane 1 w 0 ≡ plane
+one-row plane w e =
+    let z : 0 * w ≡ 0 = omega arith in
+    let s : length plane ≡ 1 * w = omega arith in
+    sym (part-there plane 1 w 0 s (omega arith)) ∙ ap (λ (n : ℕ). take w (drop n plane)) z ∙ take-all w plane (omega arith)
+
+-- the test of a plane of one row is the row's own
+pub one-row-past : (ones twos : List ℕ) (m : ℕ) → length ones ≡ wordsFor m → length twos ≡ wordsFor m → rowsPastEnd ones twos 1 m ≡ pastEnd ones twos m
+unfolding rowsPastEnd anyTo
+one-row-past ones twos m o t = ap₂ (λ (a b : List ℕ). pastEnd a b m) (one-row ones (wordsFor m) o) (one-row twos (wordsFor m) t)

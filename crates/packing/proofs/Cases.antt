@@ -1,7 +1,7 @@
 -- The paper's starred cases of packing ("At the edges"), computed over the definitions that the contracts cite. Assumes nothing.
 use mathlib.Core.Path.{_≡_, refl}
 use mathlib.Core.List.{List, [], _∷_}
-use Prim.Native.Nat.{ℕ, _+_}
+use Prim.Native.Nat.{ℕ}
 use lib.ListN.{getD}
 use Rattle.trits.specs.Trit.{Trit, t0, t1, t2, anyTo, upTo}
 use Rattle.trits.specs.Planes.{bit, fromBits, bitAt, tritAt, tabulate, onesOf, twosOf, bothSet, pastEnd}

@@ -1,10 +1,10 @@
 -- Bytes and their five digits to the base 3: each determines the other. Assumes nothing.
-use mathlib.Core.Path.{_≡_, refl, sym, ap, ap₂, _∙_}
+use mathlib.Core.Path.{_≡_, refl, ap, ap₂, _∙_}
 use mathlib.Core.List.{List}
-use Prim.Native.Nat.{ℕ, zero, suc, _+_, _*_, _/_, _%_, _^_, _≤_, _<_}
+use Prim.Native.Nat.{ℕ, zero, suc, _+_, _*_, _/_, _%_, _^_, _<_}
 use native.Mathlib.Nat.{mod-lt, zero-lt-suc}
 use native.Mathlib.Omega.{arith}
-use lib.ListN.{length, getD}
+use lib.ListN.{getD}
 use Rattle.trits.specs.Trit.{Trit, t0, t1, t2, number, tritOf}
 use Rattle.trits.proofs.Arithmetic.{number-tritOf}
 use Rattle.packing.specs.Packed.{byteOf, digitOf, packedAt}

@@ -1,21 +1,21 @@
 -- A byte's trits put into a row, and the row after each byte of a stream. Assumes nothing.
-use mathlib.Core.Path.{_≡_, refl, sym, ap, ap₂, _∙_, subst, fun-ext}
-use mathlib.Core.Bool.{Bool, true, false, _&&_, cond}
+use mathlib.Core.Path.{_≡_, refl, sym, ap, ap₂, _∙_, fun-ext}
+use mathlib.Core.Bool.{Bool, _&&_, cond}
 use mathlib.Core.List.{List}
-use Prim.Native.Nat.{ℕ, zero, suc, _+_, _-_, _*_, _/_, _%_, _≤_, _<_}
+use Prim.Native.Nat.{ℕ, _+_, _-_, _*_, _≤_, _<_}
 use native.Mathlib.Decide.{decLt, ℕ-discrete}
 use native.Mathlib.Omega.{arith}
 use borrow.Author.Tests.{eq-eqb, ne-eqb, lt-ltb, le-ltb, le-leb, lt-leb}
-use lib.Dec.{eqb, leb, ltb}
+use lib.Dec.{ltb}
 use lib.ListN.{length, getD}
 use Rattle.trits.specs.Trit.{Trit, tritOf, putV, upTo}
-use Rattle.trits.specs.Planes.{tritAt, Row, Reads}
+use Rattle.trits.specs.Planes.{tritAt, Reads}
 use Rattle.trits.proofs.Ends.{upto-in, upto-out}
 use Rattle.packing.specs.Packed.{digitOf, packedAt}
 use Rattle.packing.specs.Stream.{kept, streamRow}
 use Rattle.packing.specs.Steps.{gives, withByte}
 use Rattle.packing.proofs.Digits.{packed-place}
-use Rattle.packing.proofs.Keeping.{given, given-more, given-same, given-at, given-le, given-all}
+use Rattle.packing.proofs.Keeping.{given, given-more, given-same, given-at, given-all}
 
 -- ---- the trits of a byte from a place on
 

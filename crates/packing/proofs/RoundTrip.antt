@@ -1,8 +1,8 @@
 -- Reading what was packed returns its trits, and packing what was read returns its bytes where the last byte is in order. Assumes nothing.
-use mathlib.Core.Path.{_≡_, refl, sym, ap, ap₂, _∙_, subst, fun-ext}
-use mathlib.Core.Bool.{Bool, true, false}
+use mathlib.Core.Path.{_≡_, sym, ap, _∙_, subst, fun-ext}
+use mathlib.Core.Bool.{false}
 use mathlib.Core.List.{List}
-use Prim.Native.Nat.{ℕ, zero, suc, _+_, _-_, _*_, _/_, _%_, _^_, _≤_, _<_}
+use Prim.Native.Nat.{ℕ, _+_, _-_, _*_, _/_, _%_, _≤_, _<_}
 use native.Mathlib.Decide.{decLt}
 use native.Mathlib.Omega.{arith}
 use borrow.Author.Tests.{eqb-true, ltb-false}
@@ -11,16 +11,14 @@ use mir.Val.{Fits}
 use lib.Dec.{eqb, ltb, lit<}
 use lib.ListN.{length, getD}
 use Rattle.trits.specs.Trit.{Trit, t0, number, tritOf, upTo}
-use Rattle.trits.specs.Planes.{tritAt, tabulate, onesOf, twosOf, wordsFor, bothSet, pastEnd, Row, Reads, Holds}
-use Rattle.trits.specs.Rows.{rowsPastEnd}
-use Rattle.trits.specs.Refusal.{planesRefusal}
+use Rattle.trits.specs.Planes.{tritAt, onesOf, twosOf, wordsFor, bothSet, pastEnd, Row, Holds}
 use Rattle.trits.proofs.Lists.{length-tabulate, getD-tabulate, tabulated}
-use Rattle.trits.proofs.Reading.{read-holds, holds-reads, length-ones, length-twos}
-use Rattle.trits.proofs.Tests.{any-none, none-any, both-apart, past-zero}
+use Rattle.trits.proofs.Reading.{read-holds}
+use Rattle.trits.proofs.Tests.{none-any, both-apart, past-zero}
 use Rattle.trits.proofs.Matrix.{one-row-past}
 use Rattle.trits.proofs.Ends.{upto-in, upto-out, upto-ended}
 use Rattle.trits.proofs.Refusals.{passed-refuse, passed-demand, planes-passed, exit-new}
-use Rattle.packing.specs.Packed.{bytesFor, byteOf, digitOf, packedAt, packedRow, packedBytes, badByte, packedRefusal}
+use Rattle.packing.specs.Packed.{bytesFor, byteOf, digitOf, packedAt, packedRow, packedBytes, badByte}
 use Rattle.packing.specs.Calls.{packRefusal, packExit, unpackRefusal, unpackOnes, unpackTwos}
 use Rattle.packing.proofs.Digits.{trit-number, digit-number, byte-lt, digit-byte, byte-digits, packed-place}
 use Rattle.packing.proofs.Keeping.{big, bytes-small}

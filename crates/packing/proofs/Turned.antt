@@ -1,5 +1,5 @@
 -- The calls' refusals: which test decides, and what is left to decide once sizes and lengths are right. Assumes nothing.
-use mathlib.Core.Path.{_≡_, refl, sym, ap, _∙_}
+use mathlib.Core.Path.{_≡_, sym, ap}
 use mathlib.Core.Bool.{Bool, true, false}
 use mathlib.Core.List.{List}
 use Prim.Native.Nat.{ℕ, _*_, _≤_, _<_}
@@ -11,7 +11,7 @@ use Rattle.trits.specs.Refusal.{refuse, planesRefusal}
 use Rattle.trits.proofs.Refusals.{passed-refuse}
 use Rattle.packing.specs.Packed.{bytesFor, badByte, packedRefusal}
 use Rattle.packing.specs.Stream.{kept, tooShort}
-use Rattle.packing.specs.Calls.{mostTrits, packRefusal, unpackRefusal, streamRefusal}
+use Rattle.packing.specs.Calls.{packRefusal, unpackRefusal, streamRefusal}
 
 module _ (m : ℕ) (ones twos bytes : List ℕ) where
   -- too many trits

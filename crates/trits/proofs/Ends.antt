@@ -2,17 +2,17 @@
 use mathlib.Core.Path.{_≡_, refl, sym, ap, ap₂, _∙_, subst, subst₂, fun-ext}
 use mathlib.Core.Bool.{Bool, false, cond}
 use mathlib.Core.List.{List}
-use Prim.Native.Nat.{ℕ, zero, suc, _+_, _-_, _*_, _/_, _%_, _^_, _≤_, _<_, zero-le}
-use native.Mathlib.Nat.{le-refl, add-zero}
+use Prim.Native.Nat.{ℕ, zero, suc, _+_, _-_, _/_, _%_, _^_, _≤_, _<_, zero-le}
+use native.Mathlib.Nat.{add-zero}
 use native.Mathlib.Decide.{decLt}
 use native.Mathlib.Omega.{arith}
 use borrow.Author.Tests.{lt-ltb, le-ltb}
 use lib.ListN.{length, getD}
 use lib.Bits.{bitAnd}
 use Rattle.trits.specs.Trit.{Trit, t0, nonZero, sumTo, weightV, upTo}
-use Rattle.trits.specs.Planes.{bit, trit, bitAt, tritAt, zeroWords, pastEnd, Row, Reads, Holds, onesOf, twosOf}
+use Rattle.trits.specs.Planes.{bit, trit, bitAt, tritAt, zeroWords, pastEnd, Row, Reads, Holds}
 use Rattle.trits.proofs.Bits.{bit-none}
-use Rattle.trits.proofs.Lists.{length-zeros, zero-at}
+use Rattle.trits.proofs.Lists.{zero-at}
 use Rattle.trits.proofs.Counts.{sum-add}
 use Rattle.trits.proofs.Reading.{read-holds, same-words}
 use Rattle.trits.proofs.Tests.{past-zero}

@@ -3,7 +3,7 @@ use mathlib.Core.Path.{_≡_, refl, sym, ap, ap₂, _∙_, subst}
 use mathlib.Core.Logic.{_⊎_, inl, inr, _≢_}
 use mathlib.Core.Bool.{Bool, true, false, _&&_, cond, and-false}
 use mathlib.Core.List.{List, []}
-use Prim.Native.Nat.{ℕ, zero, suc, _+_, _-_, _*_, _/_, _%_, _≤_, _<_}
+use Prim.Native.Nat.{ℕ, _+_, _-_, _*_, _/_, _%_, _≤_, _<_}
 use native.Mathlib.Nat.{mul-le-mul-right, suc-mul, mul-div-cancel, mul-mod-left, div-add-mod'}
 use native.Mathlib.Decide.{decLt}
 use native.Mathlib.Omega.{arith}
@@ -12,7 +12,7 @@ use borrow.Rule.Slice.PartMut.{midOf}
 use lib.Dec.{eqb, ltb}
 use lib.ListN.{length, take, drop}
 use lib.Seq.{take-all}
-use Rattle.trits.specs.Trit.{Trit, t0, anyTo}
+use Rattle.trits.specs.Trit.{t0, anyTo}
 use Rattle.trits.specs.Planes.{tritAt, wordsFor, pastEnd, Row}
 use Rattle.trits.specs.Rows.{rowPart, matrixAt, rowsPastEnd}
 use Rattle.trits.proofs.Reading.{read-past}

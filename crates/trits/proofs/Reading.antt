@@ -1,17 +1,16 @@
 -- The two planes of a vector: reading what was written gives it back; the written planes have no bit in both; planes with no bit in both are those of what they read.
 -- Assumes nothing.
 use mathlib.Core.Path.{_≡_, refl, sym, ap, ap₂, _∙_, subst, subst₂, fun-ext}
-use mathlib.Core.List.{List, [], _∷_}
-use Prim.Native.Nat.{ℕ, zero, suc, _+_, _*_, _/_, _%_, _^_, _≤_, _<_, zero-le, suc-le-suc}
-use native.Mathlib.Nat.{zero-lt-suc, not-suc-le-zero, le-of-suc-le-suc}
+use mathlib.Core.List.{List}
+use Prim.Native.Nat.{ℕ, zero, suc, _+_, _*_, _/_, _%_, _^_, _≤_, _<_}
 use native.Mathlib.Omega.{arith}
 use native.Mathlib.Decide.{decLt}
 use lib.ListN.{length, getD, List·getD-eq-default}
-use lib.Bits.{bitAnd, bitOr, bitXor, and-lt, and-comm}
+use lib.Bits.{bitAnd, and-lt, and-comm}
 use lib.Dec.{lit<}
 use Rattle.trits.specs.Trit.{Trit, t0, t1, t2, negT, negV}
-use Rattle.trits.specs.Planes.{bit, fromBits, trit, one, two, bitAt, tritAt, tabulate, onesWord, twosWord, onesOf, twosOf, Apart, Row, Holds, Reads}
-use Rattle.trits.proofs.Bits.{bit-and, bit-or, bit-xor, bit-lt, bit-none, bits-eq, from-lt, bit-from, from-bits}
+use Rattle.trits.specs.Planes.{bit, fromBits, trit, one, two, bitAt, tritAt, onesOf, twosOf, Apart, Row, Holds, Reads}
+use Rattle.trits.proofs.Bits.{bit-and, bit-lt, bit-none, bits-eq, from-lt, bit-from, from-bits}
 use Rattle.trits.proofs.Lists.{length-tabulate, getD-tabulate, tabulated}
 
 -- ---- a trit and its bits

@@ -1,14 +1,12 @@
 -- Operations on trits, sixty-four at a time: what masks make of two pairs of words is the operation at each bit. A new operation is one `WordOp`. Assumes nothing.
-use mathlib.Core.Path.{_≡_, refl, sym, ap, ap₂, _∙_, subst, fun-ext}
-use mathlib.Core.Bool.{Bool, true, false, _&&_}
-use mathlib.Core.List.{List}
-use Prim.Native.Nat.{ℕ, zero, suc, _+_, _*_, _^_, _<_, _/_, _%_}
+use mathlib.Core.Path.{_≡_, refl, sym, ap, ap₂, _∙_}
+use Prim.Native.Nat.{ℕ, zero, suc, _^_, _<_}
 use native.Mathlib.Nat.{zero-lt-suc, pow-suc}
 use native.Mathlib.Omega.{arith}
 use lib.Dec.{T, eqb, eqb→eq}
 use lib.Pow.{pow-pos}
 use lib.Bits.{bitAnd, bitOr, bitXor}
-use Rattle.trits.specs.Trit.{Trit, t0, t1, t2, addT, subT, negT, mulT}
+use Rattle.trits.specs.Trit.{Trit, addT, subT, negT, mulT}
 use Rattle.trits.specs.Planes.{bit, trit, one, two}
 use Rattle.trits.proofs.Bits.{bit-and, bit-or, bit-xor, bit-lt, bit-none, bits-eq}
 use Rattle.trits.proofs.Reading.{coded, trit-of, and-one-two}

@@ -1,6 +1,6 @@
 -- The table is the one that the base-3 rule makes: antt computes the rule's 1,215 digits and compares them with the table's, and one law says what stands at each place.
 -- Assumes nothing.
-use mathlib.Core.Path.{_≡_, _∙_}
+use mathlib.Core.Path.{_≡_}
 use Prim.Native.Nat.{ℕ, _<_, _+_, _*_, _/_, _%_}
 use native.Mathlib.Omega.{arith}
 use lib.Arith.{digits-div, digits-mod}

@@ -150,10 +150,6 @@ read-holds ones twos n r l ho hw = record {
   twos-are = tabulated n _ twos (r .same ∙ l) (λ j _. twos-word (tritAt ones twos) j (getD twos j 0) (hw j) (λ b h. coded-at ones twos (r .apart) j b h .1));
 }
 
--- planes of one vector are planes of another that agrees with it
-pub holds-ext : (ones twos : List ℕ) (n : ℕ) (u v : ℕ → Trit) → Holds ones twos n u → ((i : ℕ) → u i ≡ v i) → Holds ones twos n v
-holds-ext ones twos n u v h e = subst (λ (f : ℕ → Trit). Holds ones twos n f) (fun-ext e) h
-
 -- planes that read as v are those of v
 pub reads-holds : (ones twos : List ℕ) (n : ℕ) (v : ℕ → Trit) → Reads ones twos n v → ((j : ℕ) → getD ones j 0 < 2 ^ 64) → ((j : ℕ) → getD twos j 0 < 2 ^ 64) → Holds ones twos n v
 reads-holds ones twos n v r ho hw = subst (λ (f : ℕ → Trit). Holds ones twos n f) (r .trits) (read-holds ones twos n (r .row) (r .size) ho hw)

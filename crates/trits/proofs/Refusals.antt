@@ -6,31 +6,9 @@ use Prim.Native.Nat.{ℕ, _<_}
 use native.Mathlib.Omega.{arith}
 use borrow.Author.Tests.{eq-eqb, ne-eqb}
 use lib.Dec.{lit<}
-use Rattle.trits.specs.declared.refusal.Refusal.{Refusal}
-use Rattle.trits.specs.declared.refusal.Refusal.the-variants.{Size, Length, BothPlanes, PastEnd, PackedByte, StreamEnd, NoPermutation, ZeroTrit, RankU, RankV, Line, FirstPartV, FirstPartU, Weight, NoKey, WholeKey, OtherKey}
 use Rattle.trits.specs.Planes.{bothSet}
 use Rattle.trits.specs.Rows.{rowsPastEnd}
-use Rattle.trits.specs.Refusal.{numberOf, refuse, demand, atExit, planesRefusal}
-
--- no refusal has the number 0
-pub number-positive : (r : Refusal) → 0 < numberOf r
-number-positive Size = lit< tt
-number-positive Length = lit< tt
-number-positive BothPlanes = lit< tt
-number-positive PastEnd = lit< tt
-number-positive PackedByte = lit< tt
-number-positive StreamEnd = lit< tt
-number-positive NoPermutation = lit< tt
-number-positive ZeroTrit = lit< tt
-number-positive RankU = lit< tt
-number-positive RankV = lit< tt
-number-positive Line = lit< tt
-number-positive FirstPartV = lit< tt
-number-positive FirstPartU = lit< tt
-number-positive Weight = lit< tt
-number-positive NoKey = lit< tt
-number-positive WholeKey = lit< tt
-number-positive OtherKey = lit< tt
+use Rattle.trits.specs.Refusal.{refuse, demand, atExit, planesRefusal}
 
 -- ---- a chain of tests that ended in 0
 

@@ -31,15 +31,11 @@ uint64_t c_both_set(const uint64_t *ones, size_t n, const uint64_t *twos, size_t
     return both != 0;
 }
 
-static int past_end(const uint64_t *ones, const uint64_t *twos, size_t m) {
-    size_t used = m % 64;
-    return used != 0 && ((ones[m / 64] | twos[m / 64]) >> used) != 0;
-}
-
 uint64_t c_past_end(const uint64_t *ones, size_t n, const uint64_t *twos, size_t n2, size_t rows, size_t m) {
-    size_t w = (m + 63) / 64;
+    size_t w = (m + 63) / 64, used = m % 64, last = m / 64;
+    uint64_t past = 0;
     if (m > 16384 || rows > 16384 || n != rows * w || n2 != n) return 2;
-    for (size_t i = 0; i < rows; i++)
-        if (past_end(ones + i * w, twos + i * w, m)) return 1;
-    return 0;
+    if (used == 0) return 0;
+    for (size_t i = 0; i < rows; i++, last += w) past |= ones[last] | twos[last];
+    return past >> used != 0;
 }

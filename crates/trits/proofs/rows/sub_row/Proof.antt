@@ -3,6 +3,7 @@
 use Prim.Native.Nat.{ℕ}
 use mathlib.Core.Path.{ap, _∙_}
 use borrow.Author.Needs.{needs}
+use native.Mathlib.Omega.{arith}
 use denote.Ref.{now}
 use Rattle.trits.specs.Trit.{Trit, addT, zipV}
 use Rattle.trits.specs.Planes.{tritAt}
@@ -13,7 +14,9 @@ use Rattle.trits.proofs.rows.sub_row.Tie as tie
 add-row-requires : tie.Need-add-row-requires
 add-row-requires c κs =
     let s = c .before .before .before .before .before .before in
-    (s .pre .0, (row-exchanged (s .pre .1 .0), s .pre .1 .0 .same ∙ s .pre .1 .1))
+    let r = row-exchanged (s .pre .1 .0) in
+    let e = s .pre .1 .0 .same in
+    (search needs, (search needs, omega arith))
 
 same-length : tie.Need-same-length
 same-length c = search needs

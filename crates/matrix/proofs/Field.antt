@@ -1,0 +1,79 @@
+-- More laws of trits, each by one computed test over all values (`law1`, `law2`, `law3`). Assumes nothing.
+use mathlib.Core.Path.{_≡_, refl, sym, ap, _∙_}
+use mathlib.Core.Bool.{Bool, true, false, true≢false}
+use mathlib.Core.Logic.{_⊎_, inl, inr}
+use Rattle.trits.specs.Trit.{Trit, t0, t1, t2, addT, negT, mulT, subT, isSet}
+use Rattle.trits.proofs.Arithmetic.{law1, law2, law3, add-zero-r, add-comm, add-assoc, mul-comm, mul-assoc, mul-add}
+
+pub add-left-comm : (x y z : Trit) → addT x (addT y z) ≡ addT y (addT x z)
+add-left-comm = law3 (λ x y z. addT x (addT y z)) (λ x y z. addT y (addT x z)) tt
+
+pub neg-neg : (x : Trit) → negT (negT x) ≡ x
+neg-neg = law1 (λ x. negT (negT x)) (λ x. x) tt
+
+pub neg-add : (x y : Trit) → negT (addT x y) ≡ addT (negT x) (negT y)
+neg-add = law2 (λ x y. negT (addT x y)) (λ x y. addT (negT x) (negT y)) tt
+
+pub mul-zero : (x : Trit) → mulT x t0 ≡ t0
+mul-zero = law1 (λ x. mulT x t0) (λ x. t0) tt
+
+pub mul-one : (x : Trit) → mulT x t1 ≡ x
+mul-one = law1 (λ x. mulT x t1) (λ x. x) tt
+
+pub mul-left-comm : (x y z : Trit) → mulT x (mulT y z) ≡ mulT y (mulT x z)
+mul-left-comm = law3 (λ x y z. mulT x (mulT y z)) (λ x y z. mulT y (mulT x z)) tt
+
+pub add-mul : (x y z : Trit) → mulT (addT x y) z ≡ addT (mulT x z) (mulT y z)
+add-mul = law3 (λ x y z. mulT (addT x y) z) (λ x y z. addT (mulT x z) (mulT y z)) tt
+
+pub mul-neg : (x y : Trit) → mulT x (negT y) ≡ negT (mulT x y)
+mul-neg = law2 (λ x y. mulT x (negT y)) (λ x y. negT (mulT x y)) tt
+
+pub neg-mul : (x y : Trit) → mulT (negT x) y ≡ negT (mulT x y)
+neg-mul = law2 (λ x y. mulT (negT x) y) (λ x y. negT (mulT x y)) tt
+
+-- what is taken away and put back
+pub sub-add : (x y : Trit) → addT (subT x y) y ≡ x
+sub-add = law2 (λ x y. addT (subT x y) y) (λ x y. x) tt
+
+pub add-sub : (x y : Trit) → addT y (subT x y) ≡ x
+add-sub = law2 (λ x y. addT y (subT x y)) (λ x y. x) tt
+
+pub sub-back : (x y : Trit) → subT (addT x y) y ≡ x
+sub-back = law2 (λ x y. subT (addT x y) y) (λ x y. x) tt
+
+-- a trit is 0 or not
+pub zero-or : (x : Trit) → (x ≡ t0) ⊎ (isSet x ≡ true)
+zero-or t0 = inl refl
+zero-or t1 = inr refl
+zero-or t2 = inr refl
+
+pub unset-zero : (x : Trit) → isSet x ≡ false → x ≡ t0
+unset-zero t0 e = refl
+unset-zero t1 e = absurd (true≢false e)
+unset-zero t2 e = absurd (true≢false e)
+
+pub set-not : {x : Trit} → isSet x ≡ true → x ≡ t0 → ⊥
+set-not h e = true≢false (sym h ∙ ap isSet e)
+
+-- a trit that is not 0 is its own inverse
+pub square : (x : Trit) → isSet x ≡ true → mulT x x ≡ t1
+square t0 h = absurd (true≢false (sym h))
+square t1 h = refl
+square t2 h = refl
+
+pub sub-zero-eq : (x y : Trit) → subT x y ≡ t0 → x ≡ y
+sub-zero-eq x y h = sym (sub-add x y) ∙ ap (λ (z : Trit). addT z y) h
+
+pub sub-self : (x : Trit) → subT x x ≡ t0
+sub-self = law1 (λ x. subT x x) (λ x. t0) tt
+
+-- from y x + s = 0, where x is not 0, y
+pub solved : (s x y : Trit) → mulT x x ≡ t1 → addT (mulT y x) s ≡ t0 → mulT (negT x) s ≡ y
+solved s x y e h =
+    sym (add-zero-r (mulT (negT x) s)) ∙ ap (addT (mulT (negT x) s)) (sym (mul-zero x) ∙ ap (mulT x) (sym h))
+    ∙ law3 (λ s x y. addT (mulT (negT x) s) (mulT x (addT (mulT y x) s))) (λ s x y. mulT (mulT x x) y) tt s x y
+    ∙ ap (λ (z : Trit). mulT z y) e
+
+-- the laws that bring a sum of products to a normal form
+pub ruleset ring = (add-zero-r, add-comm, add-assoc, add-left-comm, mul-zero, mul-one, mul-comm, mul-assoc, mul-left-comm, mul-add, add-mul, mul-neg, neg-mul, neg-add, neg-neg)

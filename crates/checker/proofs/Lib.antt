@@ -1,1 +1,2 @@
 -- The laws of the verdict.
+pub mod FullWord

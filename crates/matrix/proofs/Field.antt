@@ -1,9 +1,40 @@
--- More laws of trits, each by one computed test over all values (`law1`, `law2`, `law3`). Assumes nothing.
+-- More laws of trits, each by one computed test over all values (`law1` to `law4`), and of tests. Assumes nothing.
 use mathlib.Core.Path.{_≡_, refl, sym, ap, _∙_}
-use mathlib.Core.Bool.{Bool, true, false, true≢false}
+use mathlib.Core.Bool.{Bool, true, false, not, _&&_, _||_, true≢false}
 use mathlib.Core.Logic.{_⊎_, inl, inr}
 use Rattle.trits.specs.Trit.{Trit, t0, t1, t2, addT, negT, mulT, subT, isSet}
-use Rattle.trits.proofs.Arithmetic.{law1, law2, law3, add-zero-r, add-comm, add-assoc, mul-comm, mul-assoc, mul-add}
+use lib.Dec.{T}
+use Rattle.trits.proofs.Arithmetic.{at, every, eqT, law1, law2, law3, add-zero-r, add-comm, add-assoc, mul-comm, mul-assoc, mul-add}
+
+-- an equation in four trits
+pub law4 : (f g : Trit → Trit → Trit → Trit → Trit) → T (every (λ a. every (λ x. every (λ y. every (λ z. eqT (f a x y z) (g a x y z)))))) → (a x y z : Trit) → f a x y z ≡ g a x y z
+law4 f g h a = law3 (f a) (g a) (at (λ a. every (λ x. every (λ y. every (λ z. eqT (f a x y z) (g a x y z))))) h a)
+
+-- a test of four trits
+pub test4 : (p : Trit → Trit → Trit → Trit → Bool) → T (every (λ a. every (λ x. every (λ y. every (λ z. p a x y z))))) → (a x y z : Trit) → T (p a x y z)
+test4 p h a x y z =
+    at (p a x y) (at (λ y. every (p a x y)) (at (λ x. every (λ y. every (p a x y))) (at (λ a. every (λ x. every (λ y. every (p a x y)))) h a) x) y) z
+
+-- a test that says: where a holds, b holds
+pub implied : (a b : Bool) → T (not a || b) → a ≡ true → b ≡ true
+implied true true h e = refl
+implied true false h e = absurd h
+implied false b h e = absurd (true≢false (sym e))
+
+pub and-both : (a b : Bool) → (a && b) ≡ true → (a ≡ true) × (b ≡ true)
+and-both true b e = (refl, e)
+and-both false b e = absurd (true≢false (sym e))
+
+pub both-and : (a b : Bool) → a ≡ true → b ≡ true → (a && b) ≡ true
+both-and a b e f = rw (e, f)
+
+pub not-true : (b : Bool) → not b ≡ true → b ≡ false
+not-true true e = absurd (true≢false (sym e))
+not-true false e = refl
+
+pub not-false : (b : Bool) → not b ≡ false → b ≡ true
+not-false true e = refl
+not-false false e = absurd (true≢false e)
 
 pub add-left-comm : (x y z : Trit) → addT x (addT y z) ≡ addT y (addT x z)
 add-left-comm = law3 (λ x y z. addT x (addT y z)) (λ x y z. addT y (addT x z)) tt

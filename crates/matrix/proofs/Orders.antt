@@ -1,6 +1,6 @@
 -- An order of n places: a list of n of them in which each place below n stands. Assumes nothing.
 use mathlib.Core.Path.{_≡_, refl, sym, ap, ap₂, _∙_}
-use mathlib.Core.Bool.{Bool, true, false, cond, _||_, true≢false}
+use mathlib.Core.Bool.{Bool, true, false, cond, not, _&&_, _||_, true≢false}
 use mathlib.Core.Logic.{_⊎_, inl, inr, _↔_}
 use mathlib.Core.List.{List, [], _∷_, _++_}
 use Prim.Native.Nat.{ℕ, zero, suc, pred, _+_, _≤_, _<_}
@@ -8,10 +8,12 @@ use native.Mathlib.Omega.{arith}
 use lib.Dec.{eqb}
 use lib.ListN.{length, getD}
 use borrow.Author.Tests.{eqb-true, eqb-false, eq-eqb, ne-eqb}
-use Rattle.trits.specs.Trit.{Trit, t0, dotV}
+use Rattle.trits.specs.Trit.{Trit, t0, dotV, anyTo}
 use Rattle.matrix.specs.Linear.{Vector}
 use Rattle.matrix.specs.Linear.{elem}
-use Rattle.matrix.specs.Orders.{Distinct, Order}
+use Rattle.matrix.specs.Orders.{Distinct, Order, isOrder}
+use Rattle.trits.proofs.Tests.{any-none, none-any}
+use Rattle.matrix.proofs.Field.{and-both, both-and, not-true, not-false}
 use Rattle.matrix.proofs.Places.{Below, or-false-left, or-false-right, or-true-right, or-cases, or-none, elem-here, elem-at, dot-places}
 
 abbrev pub drop-one : ℕ → List ℕ → List ℕ
@@ -90,3 +92,19 @@ elem-index q (p ∷ ps) h = go (elem-index q ps) (or-cases (eqb q p) (elem q ps)
 
 pub index-elem : (q : ℕ) (ps : List ℕ) (j : ℕ) → j < length ps → getD ps j 0 ≡ q → elem q ps ≡ true
 index-elem q ps j h e = rw e at (elem-at ps j h)
+
+-- the test for an order
+pub order-test : (n : ℕ) (ps : List ℕ) → isOrder n ps ≡ true → Order n ps
+unfolding isOrder
+order-test n ps h =
+    let t = and-both (eqb (length ps) n) (not (anyTo (λ q. not (elem q ps)) n)) h in
+    record {
+      size = eqb-true (length ps) n (t .0);
+      every = λ q l. not-false (elem q ps) (any-none n (λ q. not (elem q ps)) (not-true (anyTo (λ q. not (elem q ps)) n) (t .1)) q l);
+    }
+
+pub test-order : (n : ℕ) (ps : List ℕ) → Order n ps → isOrder n ps ≡ true
+unfolding isOrder
+test-order n ps o =
+    both-and (eqb (length ps) n) (not (anyTo (λ q. not (elem q ps)) n)) (eq-eqb (length ps) n (o .size))
+    (ap not (none-any n (λ q. not (elem q ps)) (λ q l. ap not (o .every q l))))

@@ -13,17 +13,13 @@ use Rattle.trits.specs.Trit.{Trit, t0, t1, t2, subT, isSet, putV, anyTo, dotV}
 use Rattle.matrix.specs.Linear.{Vector, zeros, agree}
 use Rattle.matrix.specs.Linear.{Matrix, column, times, elem, find, orElse, found, solve, inSpan}
 use Rattle.trits.proofs.Tests.{any-none, none-any}
-use Rattle.matrix.proofs.Field.{sub-zero-eq, unset-zero, sub-self}
+use Rattle.matrix.proofs.Field.{not-true, sub-zero-eq, unset-zero, sub-self}
 use Rattle.matrix.proofs.Dots.{put-same, put-other}
 use Rattle.matrix.proofs.Places.{Supported, or-false-left, or-false-right, or-none}
 
 pub agree-eq : (r : ℕ) (u v : Vector) → agree r u v ≡ true → (i : ℕ) → i < r → u i ≡ v i
 unfolding agree
 agree-eq r u v h i k = sub-zero-eq (u i) (v i) (unset-zero (subT (u i) (v i)) (any-none r (λ i. isSet (subT (u i) (v i))) (not-true (anyTo (λ i. isSet (subT (u i) (v i))) r) h) i k))
-  where
-    not-true : (b : Bool) → not b ≡ true → b ≡ false
-    not-true true e = absurd (true≢false (sym e))
-    not-true false e = refl
 
 pub eq-agree : (r : ℕ) (u v : Vector) → ((i : ℕ) → i < r → u i ≡ v i) → agree r u v ≡ true
 unfolding agree

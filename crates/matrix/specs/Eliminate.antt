@@ -63,4 +63,3 @@ begun A = record { cells = A; kept = [] }
 -- the matrix after elimination at the places, and the places kept
 unfoldable pub eliminated : ℕ → Matrix → List ℕ → Matrix
 eliminated r A ps = eliminate r ps (begun A) .cells
-

@@ -1,2 +1,4 @@
 -- The theorems.
 pub mod Syndrome
+pub mod Reach
+pub mod Verifier

@@ -1,18 +1,17 @@
 -- Lists of distinct places: parts, differences and lengths. Assumes nothing.
-use mathlib.Core.Path.{_≡_, refl, sym, ap, ap₂, _∙_}
-use mathlib.Core.Bool.{Bool, true, false, cond, _||_, true≢false}
-use mathlib.Core.Logic.{_⊎_, inl, inr, _↔_}
+use mathlib.Core.Path.{_≡_, refl, sym, ap, _∙_}
+use mathlib.Core.Bool.{Bool, true, false, _||_, true≢false}
+use mathlib.Core.Logic.{_⊎_, inl, inr}
 use mathlib.Core.List.{List, [], _∷_, _++_}
-use Prim.Native.Nat.{ℕ, zero, suc, pred, _+_, _≤_, _<_}
+use Prim.Native.Nat.{ℕ, zero, suc, _+_, _≤_, _<_}
 use native.Mathlib.Omega.{arith}
 use lib.Dec.{eqb}
 use lib.ListN.{length, getD, length-append}
-use borrow.Author.Tests.{eqb-true, eqb-false, eq-eqb, ne-eqb}
-use Rattle.trits.specs.Trit.{Trit, t0}
+use borrow.Author.Tests.{eqb-true, eqb-false}
 use Rattle.matrix.specs.Linear.{Vector}
 use Rattle.matrix.specs.Linear.{elem, without, range, fill}
 use Rattle.matrix.specs.Orders.{Distinct, Order}
-use Rattle.matrix.proofs.Places.{Below, or-false-left, or-false-right, or-true-right, or-cases, or-none, elem-append, elem-here, fill-at, fill-off}
+use Rattle.matrix.proofs.Places.{Below, or-false-left, or-false-right, or-true-right, or-cases, or-none, elem-append, elem-here, fill-at}
 use Rattle.matrix.proofs.Greedy.{bool-cases}
 use Rattle.matrix.proofs.Orders.{drop-one, drop-one-length, drop-one-other, elem-index}
 

@@ -2,16 +2,16 @@
 use mathlib.Core.Path.{_≡_, refl, sym, ap, ap₂, _∙_}
 use mathlib.Core.Bool.{Bool, true, false, cond}
 use mathlib.Core.Logic.{_⊎_, inl, inr}
-use Prim.Native.Nat.{ℕ, zero, suc, pred, _+_, _≤_, _<_}
+use Prim.Native.Nat.{ℕ, zero, suc, pred, _≤_, _<_}
 use native.Mathlib.Omega.{arith}
 use lib.Dec.{eqb, leb}
-use borrow.Author.Tests.{leb-true, leb-false, eqb-true, eqb-false, eq-eqb, ne-eqb}
-use Rattle.trits.specs.Trit.{Trit, t0, t1, t2, addT, negT, subT, mulT, putV, isSet, dotV}
+use borrow.Author.Tests.{leb-true, leb-false, eqb-true, eqb-false, eq-eqb}
+use Rattle.trits.specs.Trit.{Trit, t0, t1, addT, negT, subT, mulT, putV, isSet, dotV}
 use Rattle.matrix.specs.Linear.{Vector, zeros}
 use Rattle.matrix.specs.Linear.{Matrix, column, times}
-use Rattle.trits.proofs.Arithmetic.{add-zero-r, add-comm, add-assoc, mul-comm, mul-assoc, mul-add, add-neg}
-use Rattle.matrix.proofs.Field.{solved, add-left-comm, mul-zero, mul-one, mul-neg, neg-mul, neg-add, neg-neg, add-mul, mul-left-comm, ring, square, zero-or, set-not}
-use Rattle.matrix.proofs.Dots.{put-same, put-other, dot-left, dot-right, dot-zero, dot-zeros, dot-add, dot-mul, dot-swap, dot-unit, dot-less}
+use Rattle.trits.proofs.Arithmetic.{add-zero-r, add-comm, mul-assoc, add-neg}
+use Rattle.matrix.proofs.Field.{solved, mul-zero, mul-neg, square, zero-or, set-not}
+use Rattle.matrix.proofs.Dots.{put-same, put-other, dot-left, dot-right, dot-zero, dot-zeros, dot-mul, dot-swap, dot-unit, dot-less}
 
 -- a word that is not 0 everywhere below m, and that the first r rows of A take to 0
 pub record Dependence (r m : ℕ) (A : Matrix) : Type 0 where

@@ -1,12 +1,12 @@
 -- Laws of the product of two vectors (`dotV`) over the places below n. Assumes nothing.
 use mathlib.Core.Path.{_≡_, refl, sym, ap, ap₂, _∙_}
-use mathlib.Core.Bool.{Bool, true, false, cond}
+use mathlib.Core.Bool.{Bool, true, false}
 use Prim.Native.Nat.{ℕ, zero, suc, _+_, _-_, _≤_, _<_}
 use native.Mathlib.Nat.{add-zero, add-suc}
 use native.Mathlib.Omega.{arith}
 use lib.Dec.{eqb}
 use borrow.Author.Tests.{eqb-true, eqb-false, eq-eqb, ne-eqb}
-use Rattle.trits.specs.Trit.{Trit, t0, t1, addT, negT, subT, mulT, putV, dotV}
+use Rattle.trits.specs.Trit.{Trit, t0, t1, addT, subT, mulT, putV, dotV}
 use Rattle.trits.proofs.Arithmetic.{add-zero-r, add-comm, add-assoc, mul-comm, mul-add}
 use Rattle.matrix.specs.Linear.{Vector, Matrix, zeros}
 use Rattle.matrix.proofs.Field.{add-left-comm, mul-zero, mul-left-comm, ring}

@@ -1,24 +1,24 @@
 -- Elimination: rows that are changed without changing which words are taken alike, until the kept columns are unit columns, show what is in the span and what the solutions are. Assumes nothing.
 use mathlib.Core.Path.{_≡_, refl, sym, ap, ap₂, _∙_, subst}
-use mathlib.Core.Bool.{Bool, true, false, cond, true≢false}
+use mathlib.Core.Bool.{Bool, true, false, cond}
 use mathlib.Core.Logic.{_⊎_, inl, inr, _↔_}
 use mathlib.Core.List.{List, [], _∷_, _++_}
-use mathlib.Core.Option.{Option, none, some}
-use Prim.Native.Nat.{ℕ, zero, suc, _+_, _≤_, _<_}
+use mathlib.Core.Option.{some}
+use Prim.Native.Nat.{ℕ, _+_, _≤_, _<_}
 use native.Mathlib.Omega.{arith}
 use lib.Dec.{eqb, ltb}
-use lib.ListN.{length, getD, take, length-append, List·getD-append}
-use lib.Seq.{getD-append-seam, length-take-le, getD-take}
-use borrow.Author.Tests.{eqb-true, eqb-false, eq-eqb, ne-eqb, ltb-true, ltb-false}
-use Rattle.trits.specs.Trit.{Trit, t0, t1, t2, addT, negT, subT, mulT, putV, isSet}
+use lib.ListN.{length, getD, length-append, List·getD-append}
+use lib.Seq.{getD-append-seam}
+use borrow.Author.Tests.{eqb-true, eqb-false, eq-eqb, ltb-true, ltb-false}
+use Rattle.trits.specs.Trit.{Trit, t0, t1, addT, subT, mulT, putV, isSet}
 use Rattle.matrix.specs.Linear.{Vector, zeros}
-use Rattle.matrix.specs.Linear.{Matrix, column, times, elem, fill, solve, inSpan, orZeros}
+use Rattle.matrix.specs.Linear.{Matrix, column, times, elem, fill, solve, inSpan}
 use Rattle.matrix.specs.Eliminate.{swapRows, clearRows}
-use Rattle.trits.proofs.Arithmetic.{add-zero-r, add-comm, add-assoc, mul-assoc, mul-comm, add-neg}
-use Rattle.matrix.proofs.Field.{mul-zero, mul-one, square, neg-neg, set-not}
-use Rattle.matrix.proofs.Dots.{put-same, put-other, dot-cong, dot-left, dot-right, dot-zero, dot-mul, dot-add, dot-less, dot-unit}
-use Rattle.matrix.proofs.Places.{Below, Supported, picked, times-places, times-fill, fill-at, fill-off, elem-at}
-use Rattle.matrix.proofs.Search.{Spans, Off, inSpan-iff}
+use Rattle.trits.proofs.Arithmetic.{add-zero-r, mul-assoc, add-neg}
+use Rattle.matrix.proofs.Field.{mul-zero, mul-one, square, set-not}
+use Rattle.matrix.proofs.Dots.{put-other, dot-cong, dot-left, dot-right, dot-zero, dot-mul, dot-add, dot-less, dot-unit}
+use Rattle.matrix.proofs.Places.{Below, picked, times-places, times-fill, fill-at, fill-off, elem-at}
+use Rattle.matrix.proofs.Search.{Spans, inSpan-iff}
 use Rattle.matrix.proofs.Greedy.{Kept, bool-cases, times-unit}
 use Rattle.matrix.proofs.Solutions.{solve-is}
 use Rattle.matrix.proofs.Orders.{elem-index}

@@ -1,22 +1,22 @@
 -- The columns kept are independent and reach what all those tried reach; so the rank is full exactly when everything is reached, in whatever order. Assumes nothing.
 use mathlib.Core.Path.{_≡_, refl, sym, ap, ap₂, _∙_}
-use mathlib.Core.Bool.{Bool, true, false, cond, _||_, true≢false}
+use mathlib.Core.Bool.{Bool, true, false, _||_, true≢false}
 use mathlib.Core.Logic.{_⊎_, inl, inr, _↔_}
 use mathlib.Core.List.{List, [], _∷_, _++_, append-assoc, append-nil}
-use Prim.Native.Nat.{ℕ, zero, suc, pred, _+_, _≤_, _<_}
+use Prim.Native.Nat.{ℕ, _+_, _≤_, _<_}
 use native.Mathlib.Omega.{arith}
 use lib.Dec.{eqb}
 use lib.ListN.{length, getD}
-use borrow.Author.Tests.{eqb-true, eqb-false, eq-eqb, ne-eqb}
-use Rattle.trits.specs.Trit.{Trit, t0, t1, t2, addT, negT, subT, mulT, putV, isSet}
+use borrow.Author.Tests.{eqb-true, eqb-false, ne-eqb}
+use Rattle.trits.specs.Trit.{t0, t1, addT, negT, mulT, putV, isSet}
 use Rattle.matrix.specs.Linear.{Vector, zeros}
 use Rattle.matrix.specs.Linear.{Matrix, column, times, elem, fill, inSpan, keep, pivots, rank}
 use Rattle.matrix.specs.Orders.{Distinct}
-use Rattle.trits.proofs.Arithmetic.{add-zero-r, add-comm, add-assoc, add-neg, mul-comm}
-use Rattle.matrix.proofs.Field.{mul-zero, mul-one, mul-neg, neg-mul, square, solved, zero-or, set-not, sub-zero-eq}
+use Rattle.trits.proofs.Arithmetic.{add-zero-r, mul-comm}
+use Rattle.matrix.proofs.Field.{mul-zero, mul-one, square, solved, zero-or}
 use Rattle.matrix.proofs.Dots.{put-same, put-other, dot-zero, dot-put, dot-add, dot-mul}
-use Rattle.matrix.proofs.Dimension.{Apart, Reaches, apart-few, apart-reaches, reaches-many}
-use Rattle.matrix.proofs.Places.{Below, Supported, or-false-left, or-false-right, or-true-right, or-cases, or-none, elem-append, elem-here, elem-at, picked, times-places, times-fill, fill-at, fill-off}
+use Rattle.matrix.proofs.Dimension.{Apart, apart-few, apart-reaches, reaches-many}
+use Rattle.matrix.proofs.Places.{Below, Supported, or-false-left, or-false-right, or-true-right, or-cases, or-none, elem-append, elem-here, picked, times-places, times-fill, fill-at, fill-off}
 use Rattle.matrix.proofs.Search.{Spans, inSpan-iff}
 
 pub bool-cases : (b : Bool) → (b ≡ true) ⊎ (b ≡ false)

@@ -2,11 +2,11 @@
 use mathlib.Core.Path.{_≡_, refl, sym, ap, _∙_, subst}
 use mathlib.Core.Bool.{Bool, true, false, cond}
 use mathlib.Core.List.{List, [], _∷_, _++_}
-use Prim.Native.Nat.{ℕ, zero, suc, _≤_, _<_}
+use Prim.Native.Nat.{ℕ, suc, _≤_, _<_}
 use native.Mathlib.Numerals.{add-one}
 use native.Mathlib.Omega.{arith}
 use lib.ListN.{length, getD, length-append}
-use Rattle.trits.specs.Trit.{Trit, t0, isSet}
+use Rattle.trits.specs.Trit.{t0, isSet}
 use Rattle.matrix.specs.Linear.{Matrix, keep, pivots, rank}
 use Rattle.matrix.specs.Eliminate.{swapRows, clearRows, pivotRow, hasPivot, stepOf, Stage, tried, eliminate, eliminated, begun}
 use Rattle.matrix.proofs.Greedy.{Kept, empty-kept, grow, keep-in, keep-out}

@@ -1,20 +1,20 @@
 -- An order of n places: a list of n of them in which each place below n stands. Assumes nothing.
-use mathlib.Core.Path.{_≡_, refl, sym, ap, ap₂, _∙_}
-use mathlib.Core.Bool.{Bool, true, false, cond, not, _&&_, _||_, true≢false}
-use mathlib.Core.Logic.{_⊎_, inl, inr, _↔_}
-use mathlib.Core.List.{List, [], _∷_, _++_}
-use Prim.Native.Nat.{ℕ, zero, suc, pred, _+_, _≤_, _<_}
+use mathlib.Core.Path.{_≡_, refl, sym, ap, _∙_}
+use mathlib.Core.Bool.{Bool, true, false, cond, not, true≢false}
+use mathlib.Core.Logic.{_⊎_, inl, inr}
+use mathlib.Core.List.{List, [], _∷_}
+use Prim.Native.Nat.{ℕ, zero, suc, _<_}
 use native.Mathlib.Omega.{arith}
 use lib.Dec.{eqb}
 use lib.ListN.{length, getD}
-use borrow.Author.Tests.{eqb-true, eqb-false, eq-eqb, ne-eqb}
-use Rattle.trits.specs.Trit.{Trit, t0, dotV, anyTo}
+use borrow.Author.Tests.{eqb-true, eqb-false, eq-eqb}
+use Rattle.trits.specs.Trit.{dotV, anyTo}
 use Rattle.matrix.specs.Linear.{Vector}
 use Rattle.matrix.specs.Linear.{elem}
 use Rattle.matrix.specs.Orders.{Distinct, Order, isOrder}
 use Rattle.trits.proofs.Tests.{any-none, none-any}
 use Rattle.matrix.proofs.Field.{and-both, both-and, not-true, not-false}
-use Rattle.matrix.proofs.Places.{Below, or-false-left, or-false-right, or-true-right, or-cases, or-none, elem-here, elem-at, dot-places}
+use Rattle.matrix.proofs.Places.{Below, or-false-right, or-true-right, or-cases, elem-at, dot-places}
 
 abbrev pub drop-one : ℕ → List ℕ → List ℕ
 drop-one q [] = []

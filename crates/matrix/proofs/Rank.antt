@@ -1,21 +1,20 @@
 -- Rank and span: the kept columns reach what all those tried reach, they are the rows' number or fewer, and their number depends on no order. Assumes nothing.
 use mathlib.Core.Path.{_≡_, refl, sym, ap, _∙_}
-use mathlib.Core.Bool.{Bool, true, false, cond, true≢false}
+use mathlib.Core.Bool.{Bool, true, false, true≢false}
 use mathlib.Core.Logic.{_↔_}
 use mathlib.Core.List.{List, []}
-use mathlib.Core.Option.{Option, some}
+use mathlib.Core.Option.{Option}
 use Prim.Native.Nat.{ℕ, _≤_, _<_}
 use native.Mathlib.Omega.{arith}
 use native.Mathlib.Decide.{decLt}
-use lib.Dec.{leb, ltb}
+use lib.Dec.{leb}
 use lib.ListN.{length, getD}
 use borrow.Author.Tests.{leb-true, leb-false, lt-ltb, le-ltb}
-use Rattle.trits.specs.Trit.{Trit, t0, mulT, dotV, upTo}
-use Rattle.matrix.specs.Linear.{Vector, Matrix, zeros, column, times, elem, solve, orZeros, pivots, keep, rank, range}
-use Rattle.matrix.specs.Orders.{Distinct}
+use Rattle.trits.specs.Trit.{t0, mulT, dotV, upTo}
+use Rattle.matrix.specs.Linear.{Vector, Matrix, zeros, column, times, elem, solve, orZeros, pivots, rank, range}
 use Rattle.matrix.proofs.Field.{mul-zero, set-not}
 use Rattle.matrix.proofs.Dots.{dot-left, dot-right, dot-zero, dot-swap}
-use Rattle.matrix.proofs.Dimension.{Reaches, Dependence, dependent}
+use Rattle.matrix.proofs.Dimension.{Reaches, dependent}
 use Rattle.matrix.proofs.Places.{Below, picked, times-places, elem-at}
 use Rattle.matrix.proofs.Search.{Spans, solve-sound, solve-complete}
 use Rattle.matrix.proofs.Greedy.{Kept, pivots-kept, pivots-elem, unit-spans, keep-reach, kept-apart, kept-few, rank-iff}

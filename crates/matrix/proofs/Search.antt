@@ -1,17 +1,15 @@
 -- The search finds a word if there is one. Assumes nothing.
-use mathlib.Core.Path.{_≡_, refl, sym, ap, ap₂, _∙_, fun-ext}
-use mathlib.Core.Bool.{Bool, true, false, cond, not, _||_, true≢false}
-use mathlib.Core.Logic.{_⊎_, inl, inr, _↔_}
-use mathlib.Core.List.{List, [], _∷_, _++_}
+use mathlib.Core.Path.{_≡_, refl, sym, ap, _∙_, fun-ext}
+use mathlib.Core.Bool.{Bool, true, false, cond, not, true≢false}
+use mathlib.Core.Logic.{_↔_}
+use mathlib.Core.List.{List, [], _∷_}
 use mathlib.Core.Option.{Option, none, some}
-use Prim.Native.Nat.{ℕ, zero, suc, pred, _+_, _≤_, _<_}
-use native.Mathlib.Omega.{arith}
+use Prim.Native.Nat.{ℕ, _<_}
 use lib.Dec.{eqb}
-use lib.ListN.{length, getD}
-use borrow.Author.Tests.{eqb-true, eqb-false, eq-eqb, ne-eqb}
-use Rattle.trits.specs.Trit.{Trit, t0, t1, t2, subT, isSet, putV, anyTo, dotV}
+use borrow.Author.Tests.{eqb-true, eqb-false}
+use Rattle.trits.specs.Trit.{Trit, t0, t1, t2, subT, isSet, putV, anyTo}
 use Rattle.matrix.specs.Linear.{Vector, zeros, agree}
-use Rattle.matrix.specs.Linear.{Matrix, column, times, elem, find, orElse, found, solve, inSpan}
+use Rattle.matrix.specs.Linear.{Matrix, times, elem, find, orElse, found, solve, inSpan}
 use Rattle.trits.proofs.Tests.{any-none, none-any}
 use Rattle.matrix.proofs.Field.{not-true, sub-zero-eq, unset-zero, sub-self}
 use Rattle.matrix.proofs.Dots.{put-same, put-other}

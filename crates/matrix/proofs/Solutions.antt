@@ -1,13 +1,12 @@
 -- As many independent columns as rows: one solution for each right-hand side, whatever stands at the other places. Assumes nothing.
-use mathlib.Core.Path.{_≡_, refl, sym, ap, ap₂, _∙_, fun-ext}
-use mathlib.Core.Bool.{Bool, true, false}
+use mathlib.Core.Path.{_≡_, sym, ap, ap₂, _∙_, fun-ext}
 use mathlib.Core.List.{List}
-use mathlib.Core.Option.{Option, none, some}
+use mathlib.Core.Option.{Option, some}
 use Prim.Native.Nat.{ℕ, _<_}
 use lib.ListN.{length}
-use Rattle.trits.specs.Trit.{Trit, t0, t1, t2, addT, negT, subT, mulT}
+use Rattle.trits.specs.Trit.{t2, addT, subT, mulT}
 use Rattle.matrix.specs.Linear.{Vector}
-use Rattle.matrix.specs.Linear.{Matrix, times, elem, solve}
+use Rattle.matrix.specs.Linear.{Matrix, times, solve}
 use Rattle.trits.proofs.Arithmetic.{add-zero-r, add-neg}
 use Rattle.matrix.proofs.Field.{sub-zero-eq}
 use Rattle.matrix.proofs.Dots.{dot-add, dot-mul}

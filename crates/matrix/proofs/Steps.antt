@@ -6,8 +6,7 @@ use native.Mathlib.Numerals.{add-one}
 use native.Mathlib.Decide.{ℕ-discrete}
 use native.Mathlib.Omega.{arith}
 use borrow.Author.Tests.{eq-eqb, ne-eqb, lt-ltb, le-ltb, ltb-true, ltb-false}
-use lib.Dec.{eqb, ltb}
-use Rattle.trits.specs.Trit.{Trit, t0, subT, mulT, isSet}
+use Rattle.trits.specs.Trit.{t0, mulT, isSet}
 use Rattle.trits.proofs.Arithmetic.{mul-assoc}
 use Rattle.matrix.specs.Linear.{Matrix}
 use Rattle.matrix.specs.Eliminate.{swapRows, clearRows, scaleRow, takeOut, firstRow, pivotRow, hasPivot, stepOf}

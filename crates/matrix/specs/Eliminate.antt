@@ -1,10 +1,10 @@
 -- Elimination by row operations, as it is run: the matrix after it, and the places whose columns were kept. No rule of the paper: code is tied to it, and its laws to `pivots` and `solve`. Assumes nothing.
-use mathlib.Core.Bool.{Bool, true, false, cond}
+use mathlib.Core.Bool.{Bool, cond}
 use mathlib.Core.List.{List, [], _∷_, _++_}
-use Prim.Native.Nat.{ℕ, zero, suc, _+_, _-_, _*_}
+use Prim.Native.Nat.{ℕ, zero, suc, _+_, _-_}
 use lib.Dec.{eqb, ltb}
 use lib.ListN.{length}
-use Rattle.trits.specs.Trit.{Trit, t0, t1, t2, addT, negT, subT, mulT, isSet}
+use Rattle.trits.specs.Trit.{Trit, subT, mulT, isSet}
 use Rattle.matrix.specs.Linear.{Matrix}
 
 -- rows a and b change places

@@ -1,17 +1,17 @@
 -- The build of a key ends with as many columns kept as there are rows; its loop by elimination, and the rows of R. Assumes nothing.
 use mathlib.Core.Path.{_≡_, refl, sym, ap, ap₂, _∙_, subst}
-use mathlib.Core.Bool.{Bool, true, false, true≢false}
+use mathlib.Core.Bool.{Bool, true, false}
 use mathlib.Core.List.{List, [], _∷_, _++_}
-use mathlib.Core.Option.{Option, some}
+use mathlib.Core.Option.{Option}
 use Prim.Native.Nat.{ℕ, zero, suc, _+_, _≤_, _<_}
 use native.Mathlib.Omega.{arith}
 use lib.Dec.{eqb, ltb}
 use lib.ListN.{length, getD, take, set, length-set}
 use lib.Seq.{getD-set-same, getD-set-other, getD-take, take-suc, take-set-le, length-take-le}
 use borrow.Author.Tests.{eqb-true, eqb-false, eq-eqb, ne-eqb, ltb-true, ltb-false}
-use Rattle.trits.specs.Trit.{Trit, t0, addT, mulT, isSet, dotV}
+use Rattle.trits.specs.Trit.{t0, addT, mulT, isSet, dotV}
 use Rattle.trits.proofs.Arithmetic.{mul-comm}
-use Rattle.matrix.specs.Linear.{Vector, Matrix, zeros, column, times, elem, fill, inSpan, solve, orZeros}
+use Rattle.matrix.specs.Linear.{Vector, Matrix, zeros, column, times, elem, fill, inSpan, orZeros}
 use Rattle.matrix.specs.Orders.{Order}
 use Rattle.matrix.specs.Eliminate.{swapRows, clearRows}
 use Rattle.matrix.proofs.Field.{mul-zero}

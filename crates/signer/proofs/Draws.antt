@@ -1,17 +1,15 @@
 -- What a draw solves: the pivots' values, the pairs of its last part, and what it has passed when it releases. Assumes nothing.
-use mathlib.Core.Path.{_≡_, refl, sym, ap, _∙_, subst}
-use mathlib.Core.Bool.{Bool, true, false, _&&_, _||_, cond, true≢false}
+use mathlib.Core.Path.{_≡_, sym, ap, _∙_, subst}
+use mathlib.Core.Bool.{true, false, true≢false}
 use mathlib.Core.Logic.{_⊎_, inl, inr}
-use mathlib.Core.List.{List, [], _∷_, _++_}
-use mathlib.Core.Option.{Option, some}
-use Prim.Native.Nat.{ℕ, zero, suc, _+_, _-_, _≤_, _<_}
+use mathlib.Core.List.{List}
+use Prim.Native.Nat.{ℕ, _+_, _-_, _<_}
 use native.Mathlib.Omega.{arith}
 use lib.Dec.{eqb}
 use lib.ListN.{length, getD, take, drop, length-drop, take-append-drop}
 use borrow.Author.Tests.{eqb-true, eq-eqb}
-use Rattle.trits.specs.Trit.{Trit, t0, isSet, weightV}
-use Rattle.trits.specs.Refusal.{demand}
-use Rattle.matrix.specs.Linear.{Vector, Matrix, zeros, times, elem, solve, orZeros, fill, pivots, without}
+use Rattle.trits.specs.Trit.{Trit, isSet, weightV}
+use Rattle.matrix.specs.Linear.{Vector, Matrix, zeros, times, elem, orZeros, fill, rank, without}
 use Rattle.matrix.specs.Orders.{Distinct, Order, isOrder}
 use Rattle.matrix.proofs.Field.{and-both, both-and}
 use Rattle.matrix.proofs.Places.{Below, elem-append, fill-at, fill-off, or-cases, or-true-right}
@@ -23,7 +21,7 @@ use Rattle.matrix.proofs.Solutions.{solve-exists}
 use Rattle.matrix.proofs.Elimination.{Reduced}
 use Rattle.matrix.proofs.Values.{solve-by-rows}
 use Rattle.signer.specs.Sizes.{Sizes, half, places, ru, rv, gapV, gapU}
-use Rattle.signer.specs.Secret.{Secret, noZero, leftOf, rightOf, uPart, vPart, whole}
+use Rattle.signer.specs.Secret.{Secret, leftOf, rightOf}
 use Rattle.signer.specs.Draw.{Choices, choicesFit, firstV, pivotsV, suppliedV, drawV, firstU, pivotsU, lastU, forced, suppliedU, drawU, drawn, drawRefusal}
 use Rattle.signer.proofs.Pairs.{no-zero, zero-no, forced-pair}
 use Rattle.signer.proofs.Ranges.{Ranges, passed}
@@ -80,18 +78,18 @@ pub record Passes (z : Sizes) (s : Secret) (p : List ℕ) (y : Vector) (ch : Cho
 
 module _ (z : Sizes) (s : Secret) (p : List ℕ) (y : Vector) (ch : Choices) where
   pub passes-released : Passes z s p y ch → drawRefusal z s p y ch ≡ 0
-  unfolding drawRefusal
+  unfolding drawRefusal rank pivotsV pivotsU
   passes-released a = rw (eq-eqb (length (pivotsV z s ch)) (rv z) (a .fullV), eq-eqb (length (pivotsU z s ch)) (ru z) (a .fullU), eq-eqb (weightV (drawn z s p y ch) (places z)) (z .w) (a .weighs))
 
   pub released-passes : drawRefusal z s p y ch ≡ 0 → Passes z s p y ch
-  unfolding drawRefusal
+  unfolding drawRefusal rank pivotsV pivotsU
   released-passes h =
-      let a = passed (eqb (length (pivotsV z s ch)) (rv z)) 12 _ (omega arith) h in
-      let b = passed (eqb (length (pivotsU z s ch)) (ru z)) 13 _ (omega arith) (a .1) in
+      let a = passed (eqb (rank (rv z) (half z) (s .hv) (firstV z ch)) (rv z)) 12 _ (omega arith) h in
+      let b = passed (eqb (rank (ru z) (half z) (s .hu) (firstU z ch)) (ru z)) 13 _ (omega arith) (a .1) in
       let c = passed (eqb (weightV (drawn z s p y ch) (places z)) (z .w)) 14 _ (omega arith) (b .1) in
       record {
-        fullV = eqb-true (length (pivotsV z s ch)) (rv z) (a .0);
-        fullU = eqb-true (length (pivotsU z s ch)) (ru z) (b .0);
+        fullV = eqb-true (rank (rv z) (half z) (s .hv) (firstV z ch)) (rv z) (a .0);
+        fullU = eqb-true (rank (ru z) (half z) (s .hu) (firstU z ch)) (ru z) (b .0);
         weighs = eqb-true (weightV (drawn z s p y ch) (places z)) (z .w) (c .0);
       }
 

@@ -1,16 +1,15 @@
 -- The pair map and its inverse, the pairs of the last part, and what the secret matrix does to a word. Assumes nothing.
 use mathlib.Core.Path.{_≡_, refl, sym, ap, ap₂, _∙_, subst}
 use mathlib.Core.Bool.{Bool, true, false, cond, not, _&&_, _||_}
-use mathlib.Core.Logic.{_⊎_, inl, inr}
-use Prim.Native.Nat.{ℕ, _+_, _-_, _≤_, _<_}
+use Prim.Native.Nat.{ℕ, _+_, _-_, _<_}
 use native.Mathlib.Omega.{arith}
 use lib.Dec.{ltb}
 use borrow.Author.Tests.{lt-ltb, le-ltb, ltb-true, ltb-false}
 use Rattle.trits.specs.Trit.{Trit, t0, t1, addT, negT, subT, mulT, isSet, dotV, anyTo}
 use Rattle.trits.proofs.Tests.{any-none, none-any}
 use Rattle.trits.proofs.Arithmetic.{law3}
-use Rattle.matrix.specs.Linear.{Vector, Matrix, times}
-use Rattle.matrix.proofs.Field.{law4, test4, implied, and-both, both-and, not-true, not-false, sub-back, sub-zero-eq, unset-zero, set-not, zero-or}
+use Rattle.matrix.specs.Linear.{Vector, times}
+use Rattle.matrix.proofs.Field.{law4, test4, implied, and-both, both-and, not-true, not-false, sub-zero-eq, unset-zero}
 use Rattle.matrix.proofs.Dots.{dot-cong, dot-left, dot-right, dot-split, dot-add}
 use Rattle.matrix.proofs.Dimension.{Reaches}
 use Rattle.signer.specs.Sizes.{Sizes, half, places, ru, rv, checks}

@@ -1,15 +1,15 @@
 -- What sizes in their ranges say, and what a build and its supplied buffers have passed. Assumes nothing.
-use mathlib.Core.Path.{_≡_, refl, sym, ap, _∙_}
-use mathlib.Core.Bool.{Bool, true, false, _&&_}
+use mathlib.Core.Path.{_≡_, refl}
+use mathlib.Core.Bool.{Bool, true, false}
 use mathlib.Core.List.{List}
-use Prim.Native.Nat.{ℕ, _+_, _-_, _/_, _%_, _≤_, _<_}
+use Prim.Native.Nat.{ℕ, _+_, _-_, _%_, _≤_, _<_}
 use native.Mathlib.Omega.{arith}
 use lib.Dec.{eqb, leb}
-use borrow.Author.Tests.{eqb-true, eq-eqb, leb-true}
+use borrow.Author.Tests.{eqb-true, leb-true}
 use Rattle.trits.specs.Trit.{isSet}
 use Rattle.trits.specs.Refusal.{demand}
-use Rattle.matrix.specs.Linear.{Vector, rank, range}
-use Rattle.matrix.specs.Orders.{Order, isOrder}
+use Rattle.matrix.specs.Linear.{rank, range}
+use Rattle.matrix.specs.Orders.{Order}
 use Rattle.matrix.proofs.Field.{and-both}
 use Rattle.matrix.proofs.Orders.{order-test}
 use Rattle.matrix.proofs.Rank.{full-reaches}

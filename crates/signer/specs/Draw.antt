@@ -3,10 +3,10 @@ use mathlib.Core.Bool.{Bool, _&&_, cond}
 use mathlib.Core.List.{List}
 use Prim.Native.Nat.{ℕ, _+_, _-_}
 use lib.Dec.{eqb}
-use lib.ListN.{length, getD, take, drop}
+use lib.ListN.{getD, take, drop}
 use Rattle.trits.specs.Trit.{Trit, subT, mulT, isSet, weightV}
 use Rattle.trits.specs.Refusal.{demand}
-use Rattle.matrix.specs.Linear.{Vector, zeros, times, solve, orZeros, pivots, without, fill}
+use Rattle.matrix.specs.Linear.{Vector, zeros, times, solve, orZeros, pivots, rank, without, fill}
 use Rattle.matrix.specs.Orders.{isOrder}
 use Rattle.signer.specs.Sizes.{Sizes, half, places, ru, rv, checks, gapV, gapU}
 use Rattle.signer.specs.Secret.{Secret, noZero, join, uPart, vPart, whole}
@@ -30,9 +30,7 @@ placed p e = fill p e zeros
 abbrev pub start : Sizes → List ℕ → Vector → Vector
 start z p y = placed p (join (checks z) y zeros)
 
--- ---- V
-
--- the first r_V + g places of the order, and its pivots
+-- V: the first r_V + g places of the order, and its pivots
 abbrev pub firstV : Sizes → Choices → List ℕ
 firstV z ch = take (rv z + gapV z) (ch .orderV)
 
@@ -47,9 +45,7 @@ suppliedV z s ch = fill (without (pivotsV z s ch) (ch .orderV)) (ch .tritsV) zer
 unfoldable pub drawV : Sizes → Secret → Vector → Choices → Vector
 drawV z s x ch = orZeros (solve (rv z) (half z) (s .hv) (times (half z) (s .hv) x) (pivotsV z s ch) (suppliedV z s ch))
 
--- ---- U
-
--- the first r_U + g places of the order, its pivots, and the last k_U - g places
+-- U: the first r_U + g places of the order, its pivots, and the last k_U - g places
 abbrev pub firstU : Sizes → Choices → List ℕ
 firstU z ch = take (ru z + gapU z) (ch .orderU)
 
@@ -73,23 +69,18 @@ suppliedU z s eV ch =
 unfoldable pub drawU : Sizes → Secret → Vector → Vector → Choices → Vector
 drawU z s x eV ch = orZeros (solve (ru z) (half z) (s .hu) (times (half z) (s .hu) x) (pivotsU z s ch) (suppliedU z s eV ch))
 
--- ---- the whole word
-
--- in secret places, x being (y, 0...0) there
-unfoldable pub drawnSecret : Sizes → Secret → Vector → Choices → Vector
-drawnSecret z s x ch =
-    let eV = drawV z s (vPart z s x) ch in
-    whole z s (drawU z s (uPart z s x) eV ch) eV
-
--- and in public places
+-- the whole word that they make, in public places: place i has the trit of secret place p(i)
 unfoldable pub drawn : Sizes → Secret → List ℕ → Vector → Choices → Vector
-drawn z s p y ch i = drawnSecret z s (start z p y) ch (getD p i 0)
+drawn z s p y ch i =
+    let x = start z p y in
+    let eV = drawV z s (vPart z s x) ch in
+    whole z s (drawU z s (uPart z s x) eV ch) eV (getD p i 0)
 
 -- refused 12 where the first part lacks rank in V, 13 where it does in U, 14 where the weight is not w; 0 where the word is released
 unfoldable pub drawRefusal : Sizes → Secret → List ℕ → Vector → Choices → ℕ
 drawRefusal z s p y ch =
-    demand (eqb (length (pivotsV z s ch)) (rv z)) 12
-    (demand (eqb (length (pivotsU z s ch)) (ru z)) 13
+    demand (eqb (rank (rv z) (half z) (s .hv) (firstV z ch)) (rv z)) 12
+    (demand (eqb (rank (ru z) (half z) (s .hu) (firstU z ch)) (ru z)) 13
     (demand (eqb (weightV (drawn z s p y ch) (places z)) (z .w)) 14
     0))
 

@@ -2,7 +2,7 @@
 use mathlib.Core.Bool.{Bool, not, cond}
 use Prim.Native.Nat.{ℕ, _+_, _-_}
 use lib.Dec.{ltb}
-use Rattle.trits.specs.Trit.{Trit, t1, addT, negT, subT, mulT, isSet, anyTo}
+use Rattle.trits.specs.Trit.{t1, addT, negT, subT, mulT, isSet, anyTo}
 use Rattle.matrix.specs.Linear.{Vector, Matrix}
 use Rattle.signer.specs.Sizes.{Sizes, half, ru}
 

@@ -11,10 +11,6 @@ pub record Sizes : Type 0 where
   pub g : ℕ
   pub w : ℕ
 
--- the same with another gap and weight
-abbrev pub sized : Sizes → ℕ → ℕ → Sizes
-sized z g w = record { n = z .n; ku = z .ku; kv = z .kv; g = g; w = w }
-
 -- N, the number of pairs
 abbrev pub half : Sizes → ℕ
 half z = z .n / 2
@@ -48,7 +44,5 @@ gapU z = z .g
 -- whether n is even and from 4 to 16,384, k_U and k_V are from 1 to N-1, no gap is above its k, and w is from 1 to n
 unfoldable pub sizesFit : Sizes → Bool
 sizesFit z =
-    leb 4 (z .n) && (leb (z .n) 16384 && (eqb (z .n % 2) 0
-    && (leb 1 (z .ku) && (leb (z .ku) (half z - 1) && (leb 1 (z .kv) && (leb (z .kv) (half z - 1)
-    && (leb (gapU z) (z .ku) && (leb (gapV z) (z .kv)
-    && (leb 1 (z .w) && leb (z .w) (z .n))))))))))
+    leb 4 (z .n) && (leb (z .n) 16384 && (eqb (z .n % 2) 0 && (leb 1 (z .ku) && (leb (z .ku) (half z - 1) && (leb 1 (z .kv) && (leb (z .kv) (half z - 1)
+    && (leb (gapU z) (z .ku) && (leb (gapV z) (z .kv) && (leb 1 (z .w) && leb (z .w) (z .n))))))))))

@@ -2,16 +2,16 @@
 use mathlib.Core.Path.{_≡_, refl, sym, ap, _∙_, subst}
 use mathlib.Core.Bool.{Bool, true, false, cond, _||_, true≢false}
 use mathlib.Core.Logic.{_⊎_, inl, inr, _↔_}
-use mathlib.Core.List.{List, [], _∷_, _++_}
-use Prim.Native.Nat.{ℕ, zero, suc, _+_, _-_, _≤_, _<_}
+use mathlib.Core.List.{List, _++_}
+use Prim.Native.Nat.{ℕ, _+_, _-_, _<_}
 use native.Mathlib.Omega.{arith}
-use lib.Dec.{eqb, ltb}
+use lib.Dec.{ltb}
 use lib.ListN.{length, getD, take, drop, length-drop, length-append}
 use lib.Seq.{take-at, drop-at, take-append-add}
 use borrow.Author.Tests.{ltb-true, ltb-false, lt-ltb, le-ltb}
-use Rattle.trits.specs.Trit.{Trit, t0, t1, subT, mulT, isSet, nonZero, weightV}
+use Rattle.trits.specs.Trit.{Trit, t0, t1, isSet, nonZero, weightV}
 use Rattle.trits.proofs.Counts.{sum-cong}
-use Rattle.matrix.specs.Linear.{Vector, zeros, times, elem, solve, orZeros, fill, pivots, rank, without, range}
+use Rattle.matrix.specs.Linear.{Vector, zeros, times, elem, orZeros, fill, pivots, rank, without, range}
 use Rattle.matrix.specs.Orders.{Distinct, Order}
 use Rattle.matrix.proofs.Field.{zero-or}
 use Rattle.matrix.proofs.Dots.{dot-right}
@@ -22,14 +22,14 @@ use Rattle.matrix.proofs.Counts.{Apart, without-in, without-out, without-distin
 use Rattle.matrix.proofs.Solutions.{solve-is}
 use Rattle.checker.specs.Verdict.{Key, HasSyndrome}
 use Rattle.checker.proofs.FullWord.{syndrome-cong}
-use Rattle.signer.specs.Sizes.{Sizes, sized, half, places, signed, ru, rv, checks, gapV, gapU, sizesFit}
+use Rattle.signer.specs.Sizes.{Sizes, half, places, signed, ru, rv, checks, gapV, gapU, sizesFit}
 use Rattle.signer.specs.Secret.{Secret, leftOf, rightOf, rightHalf, uPart, vPart, whole, secretMatrix}
-use Rattle.signer.specs.Build.{keyOrder, keyRow, rowOfR}
-use Rattle.signer.specs.Draw.{Choices, placed, start, pivotsV, suppliedV, drawV, firstU, pivotsU, lastU, forced, suppliedU, drawU, drawnSecret, drawn}
+use Rattle.signer.specs.Build.{keyOrder, keyRow}
+use Rattle.signer.specs.Draw.{Choices, placed, start, pivotsV, suppliedV, drawV, firstU, pivotsU, lastU, forced, suppliedU, drawU, drawn}
 use Rattle.signer.proofs.Pairs.{pair-left, pair-right, pair-forced, join-low, join-high, secret-u, secret-v, whole-u, whole-v, by-rows}
-use Rattle.signer.proofs.Ranges.{Ranges, sizes-fit, checks-signed, Builds, build-passed, build-ends}
+use Rattle.signer.proofs.Ranges.{sizes-fit, checks-signed, Builds, build-passed, build-ends}
 use Rattle.signer.proofs.Draws.{Valid, choices-valid, valid-choices, Passes, passes-released, released-passes, parts, first-below, either-part, keptV, keptU, drawV-good, drawU-good, last-below, last-pair}
-use Rattle.wave.specs.Demand.{Released, Releases, PairSet, Terms}
+use Rattle.wave.specs.Demand.{sized, Released, Releases, Terms}
 use Rattle.wave.proofs.Syndrome.{syndrome-iff}
 
 weight-cong : (n : ℕ) (u v : Vector) → ((i : ℕ) → i < n → u i ≡ v i) → weightV u n ≡ weightV v n
@@ -90,7 +90,7 @@ module _ (z : Sizes) (s : Secret) (order : List ℕ) (y e : Vector) (bu : Builds
   passes = released-passes z s (keyOrder z s order) y ch (re .passed)
 
   secret-word : (q : ℕ) → q < places z → placed (keyOrder z s order) e q ≡ whole z s eU eV q
-  unfolding drawn drawnSecret
+  unfolding drawn
   secret-word q h = placed-back z s order bu (whole z s eU eV) e (λ i l. sym (re .word i l)) q h
 
   secret-parts : (q : ℕ) → q < half z → (uPart z s (placed (keyOrder z s order) e) q ≡ eU q) × (vPart z s (placed (keyOrder z s order) e) q ≡ eV q)
@@ -370,7 +370,7 @@ module _ (z : Sizes) (s : Secret) (order : List ℕ) (y e : Vector) (bu : Builds
           past false t = rw t
 
   drawn-is : (i : ℕ) → i < places z → drawn z s (keyOrder z s order) y chF i ≡ e i
-  unfolding drawn drawnSecret
+  unfolding drawn
   drawn-is i h =
       let o = build-ends z s order bu .order in
       let g = order-good (places z) (keyOrder z s order) o in

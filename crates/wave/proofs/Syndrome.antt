@@ -1,14 +1,14 @@
 -- The syndrome under a built key says what the secret matrix says. Assumes nothing.
-use mathlib.Core.Path.{_≡_, refl, sym, ap, ap₂, _∙_}
+use mathlib.Core.Path.{_≡_, sym, ap, ap₂, _∙_}
 use mathlib.Core.Logic.{_↔_}
 use mathlib.Core.List.{List}
-use Prim.Native.Nat.{ℕ, _+_, _≤_, _<_}
+use Prim.Native.Nat.{ℕ, _+_, _<_}
 use native.Mathlib.Omega.{arith}
 use lib.ListN.{length, getD, take}
 use lib.Seq.{getD-take, length-take-le}
-use Rattle.trits.specs.Trit.{Trit, t0, t2, addT, subT, mulT, dotV}
+use Rattle.trits.specs.Trit.{Trit, t2, addT, mulT, dotV}
 use Rattle.trits.proofs.Arithmetic.{add-zero-r, add-neg}
-use Rattle.matrix.specs.Linear.{Vector, Matrix, zeros, times, fill}
+use Rattle.matrix.specs.Linear.{Vector, Matrix, zeros, times}
 use Rattle.matrix.proofs.Field.{sub-zero-eq}
 use Rattle.matrix.proofs.Dots.{dot-left, dot-right, dot-zero, dot-comm, dot-add, dot-mul, dot-swap, dot-split}
 use Rattle.matrix.proofs.Dimension.{Apart}

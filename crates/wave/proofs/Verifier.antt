@@ -3,24 +3,23 @@ use mathlib.Core.Path.{_≡_, refl, sym, ap, _∙_, subst}
 use mathlib.Core.Logic.{_↔_}
 use mathlib.Core.Bool.{true}
 use mathlib.Core.List.{List}
-use Prim.Native.Nat.{ℕ, _+_, _≤_, _<_}
+use Prim.Native.Nat.{ℕ, _+_, _<_}
 use native.Mathlib.Omega.{arith}
 use lib.ListN.{length, take}
 use lib.Seq.{length-take-le}
-use Rattle.trits.specs.Trit.{Trit, weightV}
+use Rattle.trits.specs.Trit.{weightV}
 use Rattle.matrix.specs.Linear.{Vector}
 use Rattle.matrix.specs.Orders.{Order}
 use Rattle.matrix.proofs.Greedy.{Kept}
 use Rattle.checker.specs.Verdict.{Key, fullWord, fullWeight, saysYes, HasSyndrome, Extends}
 use Rattle.checker.proofs.FullWord.{full-syndrome, full-extends, full-unique, weight-of, yes-weight}
-use Rattle.signer.specs.Sizes.{Sizes, sized, half, places, signed, checks, sizesFit}
+use Rattle.signer.specs.Sizes.{Sizes, places, signed, checks, sizesFit}
 use Rattle.signer.specs.Secret.{Secret, secretMatrix}
 use Rattle.signer.specs.Build.{keyOrder}
 use Rattle.signer.specs.Draw.{signature}
-use Rattle.signer.proofs.Build.{Arranged}
 use Rattle.signer.proofs.Ranges.{checks-signed, build-passed, build-ends}
-use Rattle.wave.specs.Demand.{Released, Releases}
-use Rattle.wave.proofs.Reach.{reach, released-builds}
+use Rattle.wave.specs.Demand.{sized, Released, Releases}
+use Rattle.wave.proofs.Reach.{reach}
 
 -- ---- for any key at all
 

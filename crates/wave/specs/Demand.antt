@@ -13,6 +13,10 @@ use Rattle.signer.specs.Secret.{Secret}
 use Rattle.signer.specs.Build.{buildFits, buildRefusal, keyOrder, keyRow}
 use Rattle.signer.specs.Draw.{Choices, choicesFit, placed, drawn, drawRefusal}
 
+-- sizes with another gap and weight
+abbrev pub sized : Sizes → ℕ → ℕ → Sizes
+sized z g w = record { n = z .n; ku = z .ku; kv = z .kv; g = g; w = w }
+
 -- p and R are what a build released: what it was given is in order, nothing was refused, and they are its order and its k rows of n-k trits
 pub record Released (z : Sizes) (s : Secret) (start p : List ℕ) (R : Key) : Type 0 where
   pub given : buildFits z s start ≡ true

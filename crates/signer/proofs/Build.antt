@@ -23,7 +23,7 @@ use Rattle.matrix.proofs.Greedy.{Kept, empty-kept, grow, unit-spans, kept-few, 
 use Rattle.matrix.proofs.Orders.{order-good, elem-index, index-elem}
 use Rattle.matrix.proofs.Solutions.{solve-exists}
 use Rattle.matrix.proofs.Elimination.{Reduced, start-reduced, stepped-reduced, test-in, test-out, reduced-column}
-use Rattle.signer.specs.Build.{swap, arrange, arranged, rowOfR}
+use Rattle.signer.specs.Build.{swap, Arrangement, arrange, arranged, rowOfR}
 
 -- ---- an exchange
 
@@ -71,9 +71,11 @@ module _ (r n : ℕ) (H : Matrix) where
             λ i k. dot-add n (H i) (t .0) (λ q. mulT (w m) (c .0 q)) ∙ ap₂ addT (t .2 i k) (dot-mul n (w m) (H i) (c .0) ∙ ap (mulT (w m)) (c .2 i k) ∙ mul-comm (w m) (H i m)),
           )
 
-  pub record Arranged (ps : List ℕ) : Type 0 where
-    pub order : Order n ps
-    pub kept : Kept r n H (take r ps)
+  -- r columns are kept, and stand first in the order
+  pub record Arranged (a : Arrangement) : Type 0 where
+    pub count : a .kept ≡ r
+    pub order : Order n (a .order)
+    pub kept : Kept r n H (take r (a .order))
     pub fits : r ≤ n
 
   abbrev pub Rest : ℕ → ℕ → List ℕ → Type 0
@@ -141,12 +143,12 @@ module _ (r n : ℕ) (H : Matrix) where
   unfolding arrange
   arrange-good zero j ps a o k h s =
       let full = ended j ps a o k (omega arith) s in
-      record { order = o; kept = subst (λ x. Kept r n H (take x ps)) full k; fits = omega (arith, full) }
+      record { count = full; order = o; kept = subst (λ x. Kept r n H (take x ps)) full k; fits = omega (arith, full) }
   arrange-good (suc f) j ps a o k h s = go (arrange-good f) (eqb j r) refl (inSpan r n H (take j ps) (column H (getD ps j 0))) refl
     where
       go : ((j : ℕ) (ps : List ℕ) → Reaches r n H → Order n ps → Kept r n H (take j ps) → j + f ≤ n → Rest f j ps → Arranged (arrange r n H f j ps))
           → (t : Bool) → eqb j r ≡ t → (u : Bool) → inSpan r n H (take j ps) (column H (getD ps j 0)) ≡ u → Arranged (arrange r n H (suc f) j ps)
-      go ih true e u d = rw (e, arrange) (record { order = o; kept = subst (λ x. Kept r n H (take x ps)) (eqb-true j r e) k; fits = omega (arith, eqb-true j r e) })
+      go ih true e u d = rw (e, arrange) (record { count = eqb-true j r e; order = o; kept = subst (λ x. Kept r n H (take x ps)) (eqb-true j r e) k; fits = omega (arith, eqb-true j r e) })
       go ih false e true d = let b = back f j ps o k h s d in rw (e, d, arrange) (ih j (swap j (j + f) ps) a (b .0) (b .1) (omega arith) (b .2))
       go ih false e false d = let b = next f j ps o k h s d in rw (e, d, arrange) (ih (suc j) ps a o (b .0) (omega arith) (b .1))
 
@@ -183,11 +185,11 @@ row-column m n H p k f i x h =
 -- ---- the loop of the build, by elimination
 
 module _ (r n : ℕ) (H : Matrix) (f j : ℕ) (order : List ℕ) where
-  arrange-stop : j ≡ r → arrange r n H f j order ≡ order
+  arrange-stop : j ≡ r → arrange r n H f j order ≡ record { kept = j; order = order }
   unfolding arrange
   arrange-stop e = go f
     where
-      go : (f : ℕ) → arrange r n H f j order ≡ order
+      go : (f : ℕ) → arrange r n H f j order ≡ record { kept = j; order = order }
       go zero = refl
       go (suc f) = rw (eq-eqb j r e, arrange)
 
@@ -261,7 +263,7 @@ module _ (r n : ℕ) (H : Matrix) (start : List ℕ) where
 
   -- the end: the order is the one that the definition gives, and the key stands in A
   pub finished : (f : ℕ) (order : List ℕ) (A : Matrix) → State f r order A
-      → (arranged r n H start ≡ order) × ((i c : ℕ) → c < r → r + i < n → rowOfR r n H order i c ≡ A c (getD order (r + i) 0))
+      → (arranged r n H start ≡ record { kept = r; order = order }) × ((i c : ℕ) → c < r → r + i < n → rowOfR r n H order i c ≡ A c (getD order (r + i) 0))
   finished f order A t = (
     t .todo ∙ arrange-stop r n H f r order refl,
     λ i c h l. reduced-key r n H A order (t .kept) (t .reduced) (omega (arith, t .order-ok .size)) i c h

@@ -131,6 +131,12 @@ small u v = record { hu = matrix (u ∷ []); hv = matrix (v ∷ []); b = vector 
 abbrev sizes4 : ℕ → Sizes
 sizes4 n = record { n = n; ku = 1; kv = 1; g = 0; w = 4 }
 
+-- the last column is tried, at j = l = 1: H_U = (2 0), H_V = (2 2), b = (1,2), c = (2,2)
+pub last-tried : arranged 2 4 (secretMatrix (sizes4 4) (record { hu = matrix ((2 ∷ 0 ∷ []) ∷ []); hv = matrix ((2 ∷ 2 ∷ []) ∷ []); b = vector (1 ∷ 2 ∷ []); c = vector (2 ∷ 2 ∷ []) })) (0 ∷ 3 ∷ 2 ∷ 1 ∷ [])
+    ≡ record { kept = 2; order = 0 ∷ 2 ∷ 1 ∷ 3 ∷ [] }
+unfolding dotV anyTo agree find solve inSpan arranged arrange secretMatrix
+last-tried = refl
+
 pub record Refused : Type 0 where
   pub lacks-u : buildRefusal (sizes4 4) (small (0 ∷ 0 ∷ []) (1 ∷ 2 ∷ [])) ≡ 9
   pub lacks-v : buildRefusal (sizes4 4) (small (1 ∷ 1 ∷ []) (0 ∷ 0 ∷ [])) ≡ 10

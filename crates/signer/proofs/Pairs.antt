@@ -13,7 +13,7 @@ use Rattle.matrix.proofs.Field.{law4, test4, implied, and-both, both-and, not-t
 use Rattle.matrix.proofs.Dots.{dot-cong, dot-left, dot-right, dot-split, dot-add}
 use Rattle.matrix.proofs.Dimension.{Reaches}
 use Rattle.signer.specs.Sizes.{Sizes, half, places, ru, rv, checks}
-use Rattle.signer.specs.Secret.{Secret, noZero, dOf, uOf, vOf, leftOf, rightOf, rightHalf, join, uPart, vPart, whole, secretMatrix}
+use Rattle.signer.specs.Secret.{Secret, noZero, dOf, uOf, vOf, leftOf, rightOf, join, whole, secretMatrix}
 use Rattle.signer.specs.Draw.{forced}
 
 -- the test for zeros
@@ -27,25 +27,39 @@ zero-no m v h = ap not (none-any m (λ i. not (isSet (v i))) (λ i l. ap not (h 
 
 -- ---- the pair map
 
-module _ (s : Secret) where
-  pub pair-u : (u v : Vector) (i : ℕ) → uOf s (leftOf s u v) (rightOf s u v) i ≡ u i
-  pair-u u v i =
-      law4 (λ b c u v. subT (mulT (addT t1 (mulT b c)) (addT u (mulT b v))) (mulT b (addT (mulT c (addT u (mulT b v))) v))) (λ b c u v. u) tt
-      (s .b i) (s .c i) (u i) (v i)
+pub join-low : (N : ℕ) (l r : Vector) (q : ℕ) → q < N → join N l r q ≡ l q
+join-low N l r q h = rw (lt-ltb q N h)
 
-  pub pair-v : (u v : Vector) (i : ℕ) → vOf s (leftOf s u v) (rightOf s u v) i ≡ v i
-  pair-v u v i = law3 (λ c l v. subT (addT (mulT c l) v) (mulT c l)) (λ c l v. v) tt (s .c i) (leftOf s u v i) (v i)
+pub join-high : (N : ℕ) (l r : Vector) (q : ℕ) → join N l r (N + q) ≡ r q
+join-high N l r q =
+    let e : (N + q) - N ≡ q = omega arith in
+    rw (le-ltb (N + q) N (omega arith), e)
 
-  pub pair-left : (l r : Vector) (i : ℕ) → leftOf s (uOf s l r) (vOf s l r) i ≡ l i
-  pair-left l r i =
+module _ (z : Sizes) (s : Secret) where
+  pub whole-u : (u v : Vector) (q : ℕ) → q < half z → uOf z s (whole z s u v) q ≡ u q
+  whole-u u v q h =
+      rw (join-low (half z) (leftOf s u v) (rightOf s u v) q h, join-high (half z) (leftOf s u v) (rightOf s u v) q)
+      (law4 (λ b c u v. subT (mulT (addT t1 (mulT b c)) (addT u (mulT b v))) (mulT b (addT (mulT c (addT u (mulT b v))) v))) (λ b c u v. u) tt
+      (s .b q) (s .c q) (u q) (v q))
+
+  pub whole-v : (u v : Vector) (q : ℕ) → q < half z → vOf z s (whole z s u v) q ≡ v q
+  whole-v u v q h =
+      rw (join-low (half z) (leftOf s u v) (rightOf s u v) q h, join-high (half z) (leftOf s u v) (rightOf s u v) q)
+      (law3 (λ c l v. subT (addT (mulT c l) v) (mulT c l)) (λ c l v. v) tt (s .c q) (leftOf s u v q) (v q))
+
+  pub pair-left : (e : Vector) (i : ℕ) → leftOf s (uOf z s e) (vOf z s e) i ≡ e i
+  pair-left e i =
       law4 (λ b c l r. addT (subT (mulT (addT t1 (mulT b c)) l) (mulT b r)) (mulT b (subT r (mulT c l)))) (λ b c l r. l) tt
-      (s .b i) (s .c i) (l i) (r i)
+      (s .b i) (s .c i) (e i) (e (half z + i))
 
-  pub pair-right : (l r : Vector) (i : ℕ) → rightOf s (uOf s l r) (vOf s l r) i ≡ r i
-  pair-right l r i =
-      ap (λ (x : Trit). addT (mulT (s .c i) x) (vOf s l r i)) (pair-left l r i)
-      ∙ law3 (λ c l r. addT (mulT c l) (subT r (mulT c l))) (λ c l r. r) tt (s .c i) (l i) (r i)
+  pub pair-right : (e : Vector) (i : ℕ) → rightOf s (uOf z s e) (vOf z s e) i ≡ e (half z + i)
+  pair-right e i =
+      ap (λ (x : Trit). addT (mulT (s .c i) x) (vOf z s e i)) (pair-left e i)
+      ∙ law3 (λ c l r. addT (mulT c l) (subT r (mulT c l))) (λ c l r. r) tt (s .c i) (e i) (e (half z + i))
 
+-- ---- the pairs of the last part
+
+module _ (s : Secret) where
   -- where e_U is what a place of the last part takes, both trits of the pair are not 0
   pub forced-pair : (u v : Vector) (q : ℕ) (x : Trit) → isSet (s .c q) ≡ true → isSet x ≡ true → u q ≡ forced s v q x
       → (isSet (leftOf s u v q) ≡ true) × (isSet (rightOf s u v q) ≡ true)
@@ -74,18 +88,10 @@ module _ (s : Secret) where
 
 -- ---- the secret matrix
 
-pub join-low : (N : ℕ) (l r : Vector) (q : ℕ) → q < N → join N l r q ≡ l q
-join-low N l r q h = rw (lt-ltb q N h)
-
-pub join-high : (N : ℕ) (l r : Vector) (q : ℕ) → join N l r (N + q) ≡ r q
-join-high N l r q =
-    let e : (N + q) - N ≡ q = omega arith in
-    rw (le-ltb (N + q) N (omega arith), e)
-
-join-dot : (N : ℕ) (f g e : Vector) → dotV (join N f g) e (N + N) ≡ addT (dotV f e N) (dotV g (rightHalf N e) N)
+join-dot : (N : ℕ) (f g e : Vector) → dotV (join N f g) e (N + N) ≡ addT (dotV f e N) (dotV g (λ q. e (N + q)) N)
 join-dot N f g e =
     dot-split N N (join N f g) e
-    ∙ ap₂ addT (dot-left N (join N f g) f e (λ q h. join-low N f g q h)) (dot-left N (λ q. join N f g (N + q)) g (rightHalf N e) (λ q h. join-high N f g q))
+    ∙ ap₂ addT (dot-left N (join N f g) f e (λ q h. join-low N f g q h)) (dot-left N (λ q. join N f g (N + q)) g (λ q. e (N + q)) (λ q h. join-high N f g q))
 
 module _ (z : Sizes) (s : Secret) where
   row-u : (i : ℕ) → i < ru z → secretMatrix z s i ≡ join (half z) (λ q. mulT (dOf s q) (s .hu i q)) (λ q. negT (mulT (s .b q) (s .hu i q)))
@@ -99,31 +105,25 @@ module _ (z : Sizes) (s : Secret) where
       rw (le-ltb (ru z + i) (ru z) (omega arith), e)
 
   -- the U rows do to a word what H_U does to its e_U, and the V rows what H_V does to its e_V
-  pub secret-u : (e : Vector) (i : ℕ) → i < ru z → times (places z) (secretMatrix z s) e i ≡ times (half z) (s .hu) (uPart z s e) i
+  pub secret-u : (e : Vector) (i : ℕ) → i < ru z → times (places z) (secretMatrix z s) e i ≡ times (half z) (s .hu) (uOf z s e) i
   secret-u e i h =
       ap (λ (f : Vector). dotV f e (places z)) (row-u i h)
       ∙ join-dot (half z) (λ q. mulT (dOf s q) (s .hu i q)) (λ q. negT (mulT (s .b q) (s .hu i q))) e
       ∙ ap₂ addT (dot-cong (half z) (λ q. mulT (dOf s q) (s .hu i q)) e (s .hu i) (λ q. mulT (dOf s q) (e q))
       (λ q k. law3 (λ d h l. mulT (mulT d h) l) (λ d h l. mulT h (mulT d l)) tt (dOf s q) (s .hu i q) (e q)))
-      (dot-cong (half z) (λ q. negT (mulT (s .b q) (s .hu i q))) (rightHalf (half z) e) (s .hu i) (λ q. negT (mulT (s .b q) (e (half z + q))))
+      (dot-cong (half z) (λ q. negT (mulT (s .b q) (s .hu i q))) (λ q. e (half z + q)) (s .hu i) (λ q. negT (mulT (s .b q) (e (half z + q))))
       (λ q k. law3 (λ b h r. mulT (negT (mulT b h)) r) (λ b h r. mulT h (negT (mulT b r))) tt (s .b q) (s .hu i q) (e (half z + q))))
       ∙ sym (dot-add (half z) (s .hu i) (λ q. mulT (dOf s q) (e q)) (λ q. negT (mulT (s .b q) (e (half z + q)))))
 
-  pub secret-v : (e : Vector) (i : ℕ) → times (places z) (secretMatrix z s) e (ru z + i) ≡ times (half z) (s .hv) (vPart z s e) i
+  pub secret-v : (e : Vector) (i : ℕ) → times (places z) (secretMatrix z s) e (ru z + i) ≡ times (half z) (s .hv) (vOf z s e) i
   secret-v e i =
       ap (λ (f : Vector). dotV f e (places z)) (row-v i)
       ∙ join-dot (half z) (λ q. negT (mulT (s .c q) (s .hv i q))) (s .hv i) e
-      ∙ Rattle.trits.proofs.Arithmetic.add-comm (dotV (λ q. negT (mulT (s .c q) (s .hv i q))) e (half z)) (dotV (s .hv i) (rightHalf (half z) e) (half z))
-      ∙ ap (addT (dotV (s .hv i) (rightHalf (half z) e) (half z)))
+      ∙ Rattle.trits.proofs.Arithmetic.add-comm (dotV (λ q. negT (mulT (s .c q) (s .hv i q))) e (half z)) (dotV (s .hv i) (λ q. e (half z + q)) (half z))
+      ∙ ap (addT (dotV (s .hv i) (λ q. e (half z + q)) (half z)))
       (dot-cong (half z) (λ q. negT (mulT (s .c q) (s .hv i q))) e (s .hv i) (λ q. negT (mulT (s .c q) (e q)))
       (λ q k. law3 (λ c h l. mulT (negT (mulT c h)) l) (λ c h l. mulT h (negT (mulT c l))) tt (s .c q) (s .hv i q) (e q)))
-      ∙ sym (dot-add (half z) (s .hv i) (rightHalf (half z) e) (λ q. negT (mulT (s .c q) (e q))))
-
-  pub whole-u : (u v : Vector) (q : ℕ) → q < half z → uPart z s (whole z s u v) q ≡ u q
-  whole-u u v q h = rw (join-low (half z) (leftOf s u v) (rightOf s u v) q h, join-high (half z) (leftOf s u v) (rightOf s u v) q) (pair-u s u v q)
-
-  pub whole-v : (u v : Vector) (q : ℕ) → q < half z → vPart z s (whole z s u v) q ≡ v q
-  whole-v u v q h = rw (join-low (half z) (leftOf s u v) (rightOf s u v) q h, join-high (half z) (leftOf s u v) (rightOf s u v) q) (pair-v s u v q)
+      ∙ sym (dot-add (half z) (s .hv i) (λ q. e (half z + q)) (λ q. negT (mulT (s .c q) (e q))))
 
   -- a row of the secret matrix is a row of U or of V
   pub by-rows : (P : ℕ → Type 0) → ((i : ℕ) → i < ru z → P i) → ((i : ℕ) → i < rv z → P (ru z + i)) → (i : ℕ) → i < checks z → P i
@@ -142,6 +142,6 @@ module _ (z : Sizes) (s : Secret) where
       let w = b (λ i. v (ru z + i)) in (
         whole z s (u .0) (w .0),
         by-rows (λ i. times (places z) (secretMatrix z s) (whole z s (u .0) (w .0)) i ≡ v i)
-            (λ i h. secret-u (whole z s (u .0) (w .0)) i h ∙ dot-right (half z) (s .hu i) (uPart z s (whole z s (u .0) (w .0))) (u .0) (whole-u (u .0) (w .0)) ∙ u .1 i h)
-            (λ i h. secret-v (whole z s (u .0) (w .0)) i ∙ dot-right (half z) (s .hv i) (vPart z s (whole z s (u .0) (w .0))) (w .0) (whole-v (u .0) (w .0)) ∙ w .1 i h),
+            (λ i h. secret-u (whole z s (u .0) (w .0)) i h ∙ dot-right (half z) (s .hu i) (uOf z s (whole z s (u .0) (w .0))) (u .0) (whole-u z s (u .0) (w .0)) ∙ u .1 i h)
+            (λ i h. secret-v (whole z s (u .0) (w .0)) i ∙ dot-right (half z) (s .hv i) (vOf z s (whole z s (u .0) (w .0))) (w .0) (whole-v z s (u .0) (w .0)) ∙ w .1 i h),
       )

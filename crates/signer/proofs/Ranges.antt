@@ -15,7 +15,7 @@ use Rattle.matrix.proofs.Orders.{order-test}
 use Rattle.matrix.proofs.Rank.{full-reaches}
 use Rattle.signer.specs.Sizes.{Sizes, half, places, signed, ru, rv, checks, gapV, gapU, sizesFit}
 use Rattle.signer.specs.Secret.{Secret, noZero, secretMatrix}
-use Rattle.signer.specs.Build.{buildFits, buildRefusal, keyOrder}
+use Rattle.signer.specs.Build.{arranged, buildFits, buildRefusal}
 use Rattle.signer.proofs.Pairs.{no-zero, secret-reaches}
 use Rattle.signer.proofs.Build.{Arranged, arranged-good}
 
@@ -79,7 +79,7 @@ build-passed z s start h e =
     }
 
 -- once both ranks are full, the build ends with n-k columns kept
-pub build-ends : (z : Sizes) (s : Secret) (start : List ℕ) → Builds z s start → Arranged (checks z) (places z) (secretMatrix z s) (keyOrder z s start)
+pub build-ends : (z : Sizes) (s : Secret) (start : List ℕ) → Builds z s start → Arranged (checks z) (places z) (secretMatrix z s) (arranged (checks z) (places z) (secretMatrix z s) start)
 build-ends z s start b =
     arranged-good (checks z) (places z) (secretMatrix z s) start
     (secret-reaches z s (full-reaches (ru z) (half z) (s .hu) .0 (b .full-u)) (full-reaches (rv z) (half z) (s .hv) .0 (b .full-v))) (b .order)

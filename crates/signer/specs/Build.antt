@@ -14,13 +14,18 @@ use Rattle.signer.specs.Secret.{Secret, noZero, secretMatrix}
 abbrev pub swap : ℕ → ℕ → List ℕ → List ℕ
 swap j l order = set (set order j (getD order l 0)) l (getD order j 0)
 
+-- how many columns are kept, and the order
+pub record Arrangement : Type 0 where
+  pub kept : ℕ
+  pub order : List ℕ
+
 -- the column rule, for r rows: the first j columns are kept and suc f are untried, at j up to l = j + f (so the last, where j is l, is tried too)
 -- the column at j is kept if it is independent of those; otherwise j and l are exchanged, and l falls; it ends when r are kept
-unfoldable pub arrange : ℕ → ℕ → Matrix → ℕ → ℕ → List ℕ → List ℕ
-arrange r n H zero j order = order
+unfoldable pub arrange : ℕ → ℕ → Matrix → ℕ → ℕ → List ℕ → Arrangement
+arrange r n H zero j order = record { kept = j; order = order }
 arrange r n H (suc f) j order =
     elim (eqb j r) [
-      | true ↦ order
+      | true ↦ record { kept = j; order = order }
       | false ↦
           elim (inSpan r n H (take j order) (column H (getD order j 0))) [
             | true ↦ arrange r n H f j (swap j (j + f) order)
@@ -29,7 +34,7 @@ arrange r n H (suc f) j order =
     ]
 
 -- from the start: no column is kept, and all n are untried
-unfoldable pub arranged : ℕ → ℕ → Matrix → List ℕ → List ℕ
+unfoldable pub arranged : ℕ → ℕ → Matrix → List ℕ → Arrangement
 arranged r n H order = arrange r n H n 0 order
 
 -- row i of R as it is kept, which is its column i: what each kept column counts in the column at place r + i
@@ -49,7 +54,7 @@ buildRefusal z s =
 
 -- released: the final order p, and k rows of n-k trits
 abbrev pub keyOrder : Sizes → Secret → List ℕ → List ℕ
-keyOrder z s start = arranged (checks z) (places z) (secretMatrix z s) start
+keyOrder z s start = arranged (checks z) (places z) (secretMatrix z s) start .order
 
 abbrev pub keyRow : Sizes → Secret → List ℕ → ℕ → Vector
 keyRow z s start = rowOfR (checks z) (places z) (secretMatrix z s) (keyOrder z s start)

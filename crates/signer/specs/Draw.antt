@@ -9,7 +9,7 @@ use Rattle.trits.specs.Refusal.{demand}
 use Rattle.matrix.specs.Linear.{Vector, zeros, times, solve, orZeros, pivots, rank, without, fill}
 use Rattle.matrix.specs.Orders.{isOrder}
 use Rattle.signer.specs.Sizes.{Sizes, half, places, ru, rv, checks, gapV, gapU}
-use Rattle.signer.specs.Secret.{Secret, noZero, join, uPart, vPart, whole}
+use Rattle.signer.specs.Secret.{Secret, noZero, join, uOf, vOf, whole}
 
 -- what is supplied: a V order, V trits, a U order, U values
 pub record Choices : Type 0 where
@@ -73,8 +73,8 @@ drawU z s x eV ch = orZeros (solve (ru z) (half z) (s .hu) (times (half z) (s .h
 unfoldable pub drawn : Sizes → Secret → List ℕ → Vector → Choices → Vector
 drawn z s p y ch i =
     let x = start z p y in
-    let eV = drawV z s (vPart z s x) ch in
-    whole z s (drawU z s (uPart z s x) eV ch) eV (getD p i 0)
+    let eV = drawV z s (vOf z s x) ch in
+    whole z s (drawU z s (uOf z s x) eV ch) eV (getD p i 0)
 
 -- refused 12 where the first part lacks rank in V, 13 where it does in U, 14 where the weight is not w; 0 where the word is released
 unfoldable pub drawRefusal : Sizes → Secret → List ℕ → Vector → Choices → ℕ

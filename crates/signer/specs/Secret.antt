@@ -21,12 +21,12 @@ noZero m v = not (anyTo (λ i. not (isSet (v i))) m)
 abbrev pub dOf : Secret → Vector
 dOf s i = addT t1 (mulT (s .b i) (s .c i))
 
--- the pair map, of the halves: e_U is d·e_L - b·e_R, and e_V is e_R - c·e_L
-abbrev pub uOf : Secret → Vector → Vector → Vector
-uOf s l r i = subT (mulT (dOf s i) (l i)) (mulT (s .b i) (r i))
+-- the pair map, of a word in secret places, where place i is paired with N + i: e_U is d·e_L - b·e_R, and e_V is e_R - c·e_L
+abbrev pub uOf : Sizes → Secret → Vector → Vector
+uOf z s e i = subT (mulT (dOf s i) (e i)) (mulT (s .b i) (e (half z + i)))
 
-abbrev pub vOf : Secret → Vector → Vector → Vector
-vOf s l r i = subT (r i) (mulT (s .c i) (l i))
+abbrev pub vOf : Sizes → Secret → Vector → Vector
+vOf z s e i = subT (e (half z + i)) (mulT (s .c i) (e i))
 
 -- and back: e_L is e_U + b·e_V, and e_R is c·e_L + e_V
 abbrev pub leftOf : Secret → Vector → Vector → Vector
@@ -35,20 +35,9 @@ leftOf s u v i = addT (u i) (mulT (s .b i) (v i))
 abbrev pub rightOf : Secret → Vector → Vector → Vector
 rightOf s u v i = addT (mulT (s .c i) (leftOf s u v i)) (v i)
 
--- secret place i is paired with N + i: the right half begins at N
-abbrev pub rightHalf : ℕ → Vector → Vector
-rightHalf N e i = e (N + i)
-
--- two stretches in one vector, the second from place N on
+-- two stretches in one vector, the second from place N on; so the word that e_U and e_V make
 abbrev pub join : ℕ → Vector → Vector → Vector
 join N l r q = cond (ltb q N) (l q) (r (q - N))
-
--- e_U and e_V of a word in secret places, and the word that they make
-abbrev pub uPart : Sizes → Secret → Vector → Vector
-uPart z s e = uOf s e (rightHalf (half z) e)
-
-abbrev pub vPart : Sizes → Secret → Vector → Vector
-vPart z s e = vOf s e (rightHalf (half z) e)
 
 abbrev pub whole : Sizes → Secret → Vector → Vector → Vector
 whole z s u v = join (half z) (leftOf s u v) (rightOf s u v)

@@ -57,7 +57,7 @@ pub record Starred : Type 0 where
   pub rows-1203 : digitRows 2 2 (keyRow (sizes4 0 4) secret4 (1 ∷ 2 ∷ 0 ∷ 3 ∷ [])) ≡ (2 ∷ 2 ∷ []) ∷ (2 ∷ 0 ∷ []) ∷ []
   pub not-refused : buildRefusal (sizes4 0 4) secret4 ≡ 0
   -- columns 10, 10, 01, 10 end in order (0,2,3,1), the last column being tried at j = l = 1
-  pub last-column : arranged 2 4 (matrix ((1 ∷ 1 ∷ 0 ∷ 1 ∷ []) ∷ (0 ∷ 0 ∷ 1 ∷ 0 ∷ []) ∷ [])) (0 ∷ 1 ∷ 2 ∷ 3 ∷ []) ≡ 0 ∷ 2 ∷ 3 ∷ 1 ∷ []
+  pub last-column : arranged 2 4 (matrix ((1 ∷ 1 ∷ 0 ∷ 1 ∷ []) ∷ (0 ∷ 0 ∷ 1 ∷ 0 ∷ []) ∷ [])) (0 ∷ 1 ∷ 2 ∷ 3 ∷ []) ≡ record { kept = 2; order = 0 ∷ 2 ∷ 3 ∷ 1 ∷ [] }
   -- V trit 2 releases 2111 at w = 4, whichever the U value
   pub word-2111 : word4 0 4 2 1 ≡ 2 ∷ 1 ∷ 1 ∷ 1 ∷ []
   pub released-2111 : refusal4 0 4 2 1 ≡ 0

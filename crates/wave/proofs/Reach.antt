@@ -23,8 +23,8 @@ use Rattle.matrix.proofs.Solutions.{solve-is}
 use Rattle.checker.specs.Verdict.{Key, HasSyndrome}
 use Rattle.checker.proofs.FullWord.{syndrome-cong}
 use Rattle.signer.specs.Sizes.{Sizes, half, places, signed, ru, rv, checks, gapV, gapU, sizesFit}
-use Rattle.signer.specs.Secret.{Secret, leftOf, rightOf, rightHalf, uPart, vPart, whole, secretMatrix}
-use Rattle.signer.specs.Build.{keyOrder, keyRow}
+use Rattle.signer.specs.Secret.{Secret, leftOf, rightOf, uOf, vOf, whole, secretMatrix}
+use Rattle.signer.specs.Build.{arranged, keyOrder, keyRow}
 use Rattle.signer.specs.Draw.{Choices, placed, start, pivotsV, suppliedV, drawV, firstU, pivotsU, lastU, forced, suppliedU, drawU, drawn}
 use Rattle.signer.proofs.Pairs.{pair-left, pair-right, pair-forced, join-low, join-high, secret-u, secret-v, whole-u, whole-v, by-rows}
 use Rattle.signer.proofs.Ranges.{sizes-fit, checks-signed, Builds, build-passed, build-ends}
@@ -49,8 +49,8 @@ module _ (z : Sizes) (s : Secret) (order : List ℕ) (bu : Builds z s order) whe
 
   -- the syndrome, by the U and the V part
   pub record Parts (y e : Vector) : Type 0 where
-    pub partU : (i : ℕ) → i < ru z → times (half z) (s .hu) (uPart z s e) i ≡ times (half z) (s .hu) (uPart z s (start z p y)) i
-    pub partV : (i : ℕ) → i < rv z → times (half z) (s .hv) (vPart z s e) i ≡ times (half z) (s .hv) (vPart z s (start z p y)) i
+    pub partU : (i : ℕ) → i < ru z → times (half z) (s .hu) (uOf z s e) i ≡ times (half z) (s .hu) (uOf z s (start z p y)) i
+    pub partV : (i : ℕ) → i < rv z → times (half z) (s .hv) (vOf z s e) i ≡ times (half z) (s .hv) (vOf z s (start z p y)) i
 
   syndrome-parts : (y e : Vector) → HasSyndrome (checks z) (signed z) (keyRow z s order) e y ↔ Parts y (placed p e)
   syndrome-parts y e = (
@@ -66,7 +66,7 @@ module _ (z : Sizes) (s : Secret) (order : List ℕ) (bu : Builds z s order) whe
     where
       iff : HasSyndrome (checks z) (signed z) (keyRow z s order) e y
           ↔ ((x : ℕ) → x < checks z → times (places z) (secretMatrix z s) (placed p e) x ≡ times (places z) (secretMatrix z s) (start z p y) x)
-      iff = syndrome-iff (checks z) (signed z) (places z) (secretMatrix z s) p (checks-signed z (bu .ranges)) (build-ends z s order bu) y e
+      iff = syndrome-iff (checks z) (signed z) (places z) (secretMatrix z s) (arranged (checks z) (places z) (secretMatrix z s) order) (checks-signed z (bu .ranges)) (build-ends z s order bu) y e
 
 -- ---- from a draw to the terms
 
@@ -78,10 +78,10 @@ module _ (z : Sizes) (s : Secret) (order : List ℕ) (y e : Vector) (bu : Builds
   x = start z (keyOrder z s order) y
 
   abbrev eV : Vector
-  eV = drawV z s (vPart z s x) ch
+  eV = drawV z s (vOf z s x) ch
 
   abbrev eU : Vector
-  eU = drawU z s (uPart z s x) eV ch
+  eU = drawU z s (uOf z s x) eV ch
 
   valid : Valid z ch
   valid = choices-valid z ch (re .given)
@@ -93,11 +93,11 @@ module _ (z : Sizes) (s : Secret) (order : List ℕ) (y e : Vector) (bu : Builds
   unfolding drawn
   secret-word q h = placed-back z s order bu (whole z s eU eV) e (λ i l. sym (re .word i l)) q h
 
-  secret-parts : (q : ℕ) → q < half z → (uPart z s (placed (keyOrder z s order) e) q ≡ eU q) × (vPart z s (placed (keyOrder z s order) e) q ≡ eV q)
+  secret-parts : (q : ℕ) → q < half z → (uOf z s (placed (keyOrder z s order) e) q ≡ eU q) × (vOf z s (placed (keyOrder z s order) e) q ≡ eV q)
   secret-parts q h = rw (secret-word q (omega arith), secret-word (half z + q) (omega arith)) (whole-u z s eU eV q h, whole-v z s eU eV q h)
 
   last-both : (q : ℕ) → elem q (lastU z ch) ≡ true → (isSet (leftOf s eU eV q) ≡ true) × (isSet (rightOf s eU eV q) ≡ true)
-  last-both q m = last-pair z s ch valid (bu .ranges) (passes .fullU) (uPart z s x) eV (bu .unit) q m
+  last-both q m = last-pair z s ch valid (bu .ranges) (passes .fullU) (uOf z s x) eV (bu .unit) q m
 
   last-keeps : rank (ru z) (half z) (s .hu) (without (lastU z ch) (range (half z))) ≡ ru z
   unfolding pivotsU rank
@@ -117,10 +117,10 @@ module _ (z : Sizes) (s : Secret) (order : List ℕ) (y e : Vector) (bu : Builds
         weighs = weight-cong (places z) e (drawn z s (keyOrder z s order) y ch) (λ i h. sym (re .word i h)) ∙ passes .weighs;
         has-syndrome = syndrome-parts z s order bu y e .1
             (record {
-              partU = λ i l. dot-right (half z) (s .hu i) (uPart z s (placed (keyOrder z s order) e)) eU (λ q h. secret-parts q h .0)
-                  ∙ drawU-good z s ch valid (passes .fullU) (uPart z s x) eV .1 i l;
-              partV = λ i l. dot-right (half z) (s .hv i) (vPart z s (placed (keyOrder z s order) e)) eV (λ q h. secret-parts q h .1)
-                  ∙ drawV-good z s ch valid (passes .fullV) (vPart z s x) .1 i l;
+              partU = λ i l. dot-right (half z) (s .hu i) (uOf z s (placed (keyOrder z s order) e)) eU (λ q h. secret-parts q h .0)
+                  ∙ drawU-good z s ch valid (passes .fullU) (uOf z s x) eV .1 i l;
+              partV = λ i l. dot-right (half z) (s .hv i) (vOf z s (placed (keyOrder z s order) e)) eV (λ q h. secret-parts q h .1)
+                  ∙ drawV-good z s ch valid (passes .fullV) (vOf z s x) .1 i l;
             });
         chosen = record {
           pairs = lastU z ch;
@@ -175,22 +175,22 @@ module _ (z : Sizes) (s : Secret) (order : List ℕ) (y e : Vector) (bu : Builds
   eF = placed (keyOrder z s order) e
 
   abbrev eUF : Vector
-  eUF q = cond (ltb q (half z)) (uPart z s eF q) t0
+  eUF q = cond (ltb q (half z)) (uOf z s eF q) t0
 
   abbrev eVF : Vector
-  eVF q = cond (ltb q (half z)) (vPart z s eF q) t0
+  eVF q = cond (ltb q (half z)) (vOf z s eF q) t0
 
-  eU-low : (q : ℕ) → q < half z → eUF q ≡ uPart z s eF q
+  eU-low : (q : ℕ) → q < half z → eUF q ≡ uOf z s eF q
   eU-low q h = rw (lt-ltb q (half z) h)
 
-  eV-low : (q : ℕ) → q < half z → eVF q ≡ vPart z s eF q
+  eV-low : (q : ℕ) → q < half z → eVF q ≡ vOf z s eF q
   eV-low q h = rw (lt-ltb q (half z) h)
 
   left-low : (q : ℕ) → q < half z → leftOf s eUF eVF q ≡ eF q
-  left-low q h = rw (eU-low q h, eV-low q h) (pair-left s eF (rightHalf (half z) eF) q)
+  left-low q h = rw (eU-low q h, eV-low q h) (pair-left z s eF q)
 
   right-low : (q : ℕ) → q < half z → rightOf s eUF eVF q ≡ eF (half z + q)
-  right-low q h = rw (eU-low q h, eV-low q h) (pair-right s eF (rightHalf (half z) eF) q)
+  right-low q h = rw (eU-low q h, eV-low q h) (pair-right z s eF q)
 
   whole-back : (q : ℕ) → q < places z → whole z s eUF eVF q ≡ eF q
   whole-back q h = go (ltb q (half z)) refl
@@ -308,13 +308,13 @@ module _ (z : Sizes) (s : Secret) (order : List ℕ) (y e : Vector) (bu : Builds
   partsF : Parts z s order bu y eF
   partsF = syndrome-parts z s order bu y e .0 (f .has-syndrome)
 
-  drawnV : drawV z s (vPart z s xF) chF ≡ eVF
+  drawnV : drawV z s (vOf z s xF) chF ≡ eVF
   unfolding drawV suppliedV pivotsV
   drawnV =
       ap orZeros
-      (solve-is (rv z) (half z) (s .hv) (pivotsV z s chF) (keptV z s chF validF) (times (half z) (s .hv) (vPart z s xF)) eVF (suppliedV z s chF)
+      (solve-is (rv z) (half z) (s .hv) (pivotsV z s chF) (keptV z s chF validF) (times (half z) (s .hv) (vOf z s xF)) eVF (suppliedV z s chF)
       (λ q m. off q m (ltb q (half z)) refl)
-      (λ i h. dot-right (half z) (s .hv i) eVF (vPart z s eF) eV-low ∙ partsF .partV i h))
+      (λ i h. dot-right (half z) (s .hv i) eVF (vOf z s eF) eV-low ∙ partsF .partV i h))
     where
       others-V : List ℕ
       others-V = without (pivotsV z s chF) orderVF
@@ -329,13 +329,13 @@ module _ (z : Sizes) (s : Secret) (order : List ℕ) (y e : Vector) (bu : Builds
           none (inl k) = absurd (omega (arith, ltb-false q (half z) t, order-good (half z) orderVF orderVF-good .1 q (without-out (pivotsV z s chF) orderVF q k .0)))
           none (inr k) = k
 
-  drawnU : drawU z s (uPart z s xF) eVF chF ≡ eUF
+  drawnU : drawU z s (uOf z s xF) eVF chF ≡ eUF
   unfolding drawU suppliedU pivotsU
   drawnU =
       ap orZeros
-      (solve-is (ru z) (half z) (s .hu) (pivotsU z s chF) (keptU z s chF validF) (times (half z) (s .hu) (uPart z s xF)) eUF (suppliedU z s eVF chF)
+      (solve-is (ru z) (half z) (s .hu) (pivotsU z s chF) (keptU z s chF validF) (times (half z) (s .hu) (uOf z s xF)) eUF (suppliedU z s eVF chF)
       (λ q m. off q m (bool-cases (elem q (lastU z chF))) (bool-cases (elem q free)))
-      (λ i h. dot-right (half z) (s .hu i) eUF (uPart z s eF) eU-low ∙ partsF .partU i h))
+      (λ i h. dot-right (half z) (s .hu i) eUF (uOf z s eF) eU-low ∙ partsF .partU i h))
     where
       free : List ℕ
       free = without (pivotsU z s chF) firstF

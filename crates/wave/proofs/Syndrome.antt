@@ -17,12 +17,15 @@ use Rattle.matrix.proofs.Greedy.{kept-apart}
 use Rattle.matrix.proofs.Orders.{order-good, dot-order}
 use Rattle.checker.specs.Verdict.{Key, timesKey, syndrome, HasSyndrome}
 use Rattle.signer.specs.Secret.{join}
-use Rattle.signer.specs.Build.{rowOfR}
+use Rattle.signer.specs.Build.{Arrangement, rowOfR}
 use Rattle.signer.specs.Draw.{placed}
 use Rattle.signer.proofs.Pairs.{join-low, join-high}
 use Rattle.signer.proofs.Build.{Arranged, row-column}
 
-module _ (m k n : ℕ) (H : Matrix) (p : List ℕ) (size : m + k ≡ n) (g : Arranged m n H p) where
+module _ (m k n : ℕ) (H : Matrix) (a : Arrangement) (size : m + k ≡ n) (g : Arranged m n H a) where
+  abbrev p : List ℕ
+  p = a .order
+
   placed-times : (e : Vector) (x : ℕ) → times n H (placed p e) x ≡ dotV (picked H p x) e n
   placed-times e x =
       dot-order n p (H x) (placed p e) (g .order)
@@ -33,19 +36,19 @@ module _ (m k n : ℕ) (H : Matrix) (p : List ℕ) (size : m + k ≡ n) (g : Arr
   unfolding syndrome timesKey
   syndrome-times e x h =
       placed-times e x
-      ∙ ap (dotV a e) (sym size)
-      ∙ dot-split m k a e
-      ∙ ap (addT (dotV a e m))
-      (dot-left k (λ i. a (m + i)) (λ i. dotV a (R i) m) t (λ i l. sym (row-column m n H p (g .kept) (omega (arith, g .order .size, g .fits)) i x h))
-      ∙ sym (dot-swap m k a t (λ j i. R i j))
-      ∙ dot-right m a (λ j. dotV (λ i. R i j) t k) (λ j. dotV t (λ i. R i j) k) (λ j l. dot-comm k (λ i. R i j) t))
-      ∙ sym (dot-add m a e (λ j. dotV t (λ i. R i j) k))
+      ∙ ap (dotV c e) (sym size)
+      ∙ dot-split m k c e
+      ∙ ap (addT (dotV c e m))
+      (dot-left k (λ i. c (m + i)) (λ i. dotV c (R i) m) t (λ i l. sym (row-column m n H p (g .kept) (omega (arith, g .order .size, g .fits)) i x h))
+      ∙ sym (dot-swap m k c t (λ j i. R i j))
+      ∙ dot-right m c (λ j. dotV (λ i. R i j) t k) (λ j. dotV t (λ i. R i j) k) (λ j l. dot-comm k (λ i. R i j) t))
+      ∙ sym (dot-add m c e (λ j. dotV t (λ i. R i j) k))
     where
       R : Key
       R = rowOfR m n H p
 
-      a : Vector
-      a = picked H p x
+      c : Vector
+      c = picked H p x
 
       t : Vector
       t i = e (m + i)

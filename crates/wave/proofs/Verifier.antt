@@ -1,12 +1,10 @@
 -- The verdict: yes exactly when some word of weight w that has the syndrome extends s, and it is one word; what a draw releases is accepted; a build ends. Assumes nothing.
-use mathlib.Core.Path.{_≡_, refl, sym, ap, _∙_, subst}
+use mathlib.Core.Path.{_≡_, refl, sym, ap, _∙_}
 use mathlib.Core.Logic.{_↔_}
 use mathlib.Core.Bool.{true}
 use mathlib.Core.List.{List}
 use Prim.Native.Nat.{ℕ, _+_, _<_}
-use native.Mathlib.Omega.{arith}
-use lib.ListN.{length, take}
-use lib.Seq.{length-take-le}
+use lib.ListN.{take}
 use Rattle.trits.specs.Trit.{weightV}
 use Rattle.matrix.specs.Linear.{Vector}
 use Rattle.matrix.specs.Orders.{Order}
@@ -15,7 +13,7 @@ use Rattle.checker.specs.Verdict.{Key, fullWord, fullWeight, saysYes, HasSyndro
 use Rattle.checker.proofs.FullWord.{full-syndrome, full-extends, full-unique, weight-of, yes-weight}
 use Rattle.signer.specs.Sizes.{Sizes, places, signed, checks, sizesFit}
 use Rattle.signer.specs.Secret.{Secret, secretMatrix}
-use Rattle.signer.specs.Build.{keyOrder}
+use Rattle.signer.specs.Build.{arranged}
 use Rattle.signer.specs.Draw.{signature}
 use Rattle.signer.proofs.Ranges.{checks-signed, build-passed, build-ends}
 use Rattle.wave.specs.Demand.{sized, Released, Releases}
@@ -48,9 +46,8 @@ module _ (z : Sizes) (s : Secret) (start p : List ℕ) (R : Key) (re : Released 
       ∙ ap (weightV e) (checks-signed z (build-passed z s start (re .given) (re .passed) .ranges)) ∙ t .weighs in
       (c, yes-weight (checks z) (signed z) R y (signature z e) w .1 c)
 
-  -- the build ended: p is an order of the n places, and the columns at its first n-k places are independent
-  pub build-ended : Order (places z) p × Kept (checks z) (places z) (secretMatrix z s) (take (checks z) p) × (length (take (checks z) p) ≡ checks z)
+  -- the build ended with n-k columns kept: p is an order of the n places, and the columns at its first n-k places are independent
+  pub build-ended : (arranged (checks z) (places z) (secretMatrix z s) start .kept ≡ checks z) × Order (places z) p × Kept (checks z) (places z) (secretMatrix z s) (take (checks z) p)
   build-ended =
       let a = build-ends z s start (build-passed z s start (re .given) (re .passed)) in
-      subst (λ (p : List ℕ). Order (places z) p × Kept (checks z) (places z) (secretMatrix z s) (take (checks z) p) × (length (take (checks z) p) ≡ checks z)) (sym (re .order))
-      (a .order, a .kept, length-take-le (checks z) (keyOrder z s start) (omega (arith, a .fits, a .order .size)))
+      (a .count, (rw (re .order) (a .order)), rw (re .order) (a .kept))

@@ -18,8 +18,8 @@ use Rattle.matrix.proofs.Orders.{drop-one, drop-one-length, drop-one-ot
 abbrev pub Within : List ℕ → List ℕ → Type 0
 Within ps qs = (q : ℕ) → elem q ps ≡ true → elem q qs ≡ true
 
-abbrev pub Apart : List ℕ → List ℕ → Type 0
-Apart ps qs = (q : ℕ) → elem q ps ≡ true → elem q qs ≡ false
+abbrev pub Disjoint : List ℕ → List ℕ → Type 0
+Disjoint ps qs = (q : ℕ) → elem q ps ≡ true → elem q qs ≡ false
 
 pub length-within : (ps qs : List ℕ) → Distinct ps → Within ps qs → length ps ≤ length qs
 length-within [] qs d w = omega arith
@@ -36,18 +36,18 @@ length-within (p ∷ ps) qs d w =
 pub length-same : (ps qs : List ℕ) → Distinct ps → Distinct qs → Within ps qs → Within qs ps → length ps ≡ length qs
 length-same ps qs d e v w = omega (arith, length-within ps qs d v, length-within qs ps e w)
 
-pub distinct-append : (ps qs : List ℕ) → Distinct ps → Distinct qs → Apart ps qs → Distinct (ps ++ qs)
+pub distinct-append : (ps qs : List ℕ) → Distinct ps → Distinct qs → Disjoint ps qs → Distinct (ps ++ qs)
 distinct-append [] qs d e a = e
 distinct-append (p ∷ ps) qs d e a = (
   elem-append p ps qs ∙ or-none (elem p ps) (elem p qs) (d .0) (a p (elem-here p ps)),
   distinct-append ps qs (d .1) e (λ q m. a q (or-true-right (eqb q p) (elem q ps) m)),
 )
 
-pub distinct-parts : (ps qs : List ℕ) → Distinct (ps ++ qs) → Distinct ps × Distinct qs × Apart ps qs
+pub distinct-parts : (ps qs : List ℕ) → Distinct (ps ++ qs) → Distinct ps × Distinct qs × Disjoint ps qs
 distinct-parts [] qs d = (tt, d, λ q m. absurd (true≢false (sym m)))
 distinct-parts (p ∷ ps) qs d = go (distinct-parts ps qs (d .1)) (sym (elem-append p ps qs) ∙ d .0)
   where
-    go : Distinct ps × Distinct qs × Apart ps qs → (elem p ps || elem p qs) ≡ false → Distinct (p ∷ ps) × Distinct qs × Apart (p ∷ ps) qs
+    go : Distinct ps × Distinct qs × Disjoint ps qs → (elem p ps || elem p qs) ≡ false → Distinct (p ∷ ps) × Distinct qs × Disjoint (p ∷ ps) qs
     go (a, b, c) e = ((or-false-left (elem p ps) (elem p qs) e, a), b, λ q m. at q (or-cases (eqb q p) (elem q ps) m))
       where
         at : (q : ℕ) → (eqb q p ≡ true) ⊎ (elem q ps ≡ true) → elem q qs ≡ false

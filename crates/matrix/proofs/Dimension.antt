@@ -18,7 +18,7 @@ pub record Dependence (r m : ℕ) (A : Matrix) : Type 0 where
   pub w : Vector
   pub place : ℕ
   pub below : place < m
-  pub apart : isSet (w place) ≡ true
+  pub nonzero : isSet (w place) ≡ true
   pub vanishes : (i : ℕ) → i < r → times m A w i ≡ t0
 
 pub set-below : (r : ℕ) (f : Vector) → ((i : ℕ) × (i < r) × (isSet (f i) ≡ true)) ⊎ ((i : ℕ) → i < r → f i ≡ t0)
@@ -81,7 +81,7 @@ dependent (suc m) r A h = go (dependent m) (set-below r (column A m))
           w = putV zeros m t1;
           place = m;
           below = omega arith;
-          apart = ap isSet (put-same zeros m t1);
+          nonzero = ap isSet (put-same zeros m t1);
           vanishes = λ i k. times-put m A zeros t1 i ∙ rw (dot-zeros m (A i), z i k);
         }
     go ih (inl (q, k, a)) =
@@ -92,7 +92,7 @@ dependent (suc m) r A h = go (dependent m) (set-below r (column A m))
           w = lifted m r′ q A (d .w);
           place = d .place;
           below = omega arith;
-          apart = rw (ne (d .place) (d .below)) (d .apart);
+          nonzero = rw (ne (d .place) (d .below)) (d .nonzero);
           vanishes = λ i l. cases d i l (eqb i q) refl (eqb i r′) refl;
         }
       where
@@ -114,23 +114,23 @@ times-column m A v w i =
     ap₂ addT (dot-left m (putV (A i) m (v i)) (A i) w (λ p h. put-other (A i) m (v i) p (λ z. omega arith))) (ap (λ (x : Trit). mulT x (w m)) (put-same (A i) m (v i)))
 
 -- only the word of zeros is taken to 0 by the first r rows
-abbrev pub Apart : ℕ → ℕ → Matrix → Type 0
-Apart r m A = (w : Vector) → ((i : ℕ) → i < r → times m A w i ≡ t0) → (j : ℕ) → j < m → w j ≡ t0
+abbrev pub Injective : ℕ → ℕ → Matrix → Type 0
+Injective r m A = (w : Vector) → ((i : ℕ) → i < r → times m A w i ≡ t0) → (j : ℕ) → j < m → w j ≡ t0
 
 abbrev pub Reaches : ℕ → ℕ → Matrix → Type 0
 Reaches r m A = (v : Vector) → (w : Vector) × ((i : ℕ) → i < r → times m A w i ≡ v i)
 
-pub apart-few : (r m : ℕ) (A : Matrix) → Apart r m A → m ≤ r
-apart-few r m A a = go (leb m r) refl
+pub injective-few : (r m : ℕ) (A : Matrix) → Injective r m A → m ≤ r
+injective-few r m A a = go (leb m r) refl
   where
     go : (t : Bool) → leb m r ≡ t → m ≤ r
     go true e = leb-true m r e
     go false e =
         let d = dependent m r A (leb-false m r e) in
-        absurd (set-not (d .apart) (a (d .w) (d .vanishes) (d .place) (d .below)))
+        absurd (set-not (d .nonzero) (a (d .w) (d .vanishes) (d .place) (d .below)))
 
-pub apart-reaches : (r : ℕ) (A : Matrix) → Apart r r A → Reaches r r A
-apart-reaches r A a v = go (zero-or (d .w r))
+pub injective-reaches : (r : ℕ) (A : Matrix) → Injective r r A → Reaches r r A
+injective-reaches r A a v = go (zero-or (d .w r))
   where
     d : Dependence r (suc r) (λ i. putV (A i) r (v i))
     d = dependent (suc r) r (λ i. putV (A i) r (v i)) (omega arith)
@@ -148,7 +148,7 @@ apart-reaches r A a v = go (zero-or (d .w r))
     go : (d .w r ≡ t0) ⊎ (isSet (d .w r) ≡ true) → (w : Vector) × ((i : ℕ) → i < r → times r A w i ≡ v i)
     go (inl e) =
         let low : (j : ℕ) → j < r → d .w j ≡ t0 = a (d .w) (λ i h. short (times r A (d .w) i) (v i) (sums i h) e) in
-        absurd (set-not (d .apart) (last low (d .place) (d .below) e (eqb (d .place) r) refl))
+        absurd (set-not (d .nonzero) (last low (d .place) (d .below) e (eqb (d .place) r) refl))
     go (inr e) = ((λ j. mulT (negT (d .w r)) (d .w j)), λ i h. dot-mul r (negT (d .w r)) (A i) (d .w) ∙ solved (times r A (d .w) i) (d .w r) (v i) (square (d .w r) e) (add-comm (mulT (v i) (d .w r)) (times r A (d .w) i) ∙ sums i h))
 
 pub reaches-many : (r m : ℕ) (A : Matrix) → Reaches r m A → r ≤ m
@@ -165,5 +165,5 @@ reaches-many r m A s = go (leb r m) refl
     go true e = leb-true r m e
     go false e =
         let d = dependent r m B (leb-false r m e) in
-        absurd (set-not (d .apart) (sym (back (d .w) (d .place) (d .below))
+        absurd (set-not (d .nonzero) (sym (back (d .w) (d .place) (d .below))
         ∙ dot-zero m (A (d .place)) (times r B (d .w)) (λ j h. ap (mulT (A (d .place) j)) (d .vanishes j h) ∙ mul-zero (A (d .place) j))))

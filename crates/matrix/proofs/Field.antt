@@ -1,6 +1,6 @@
 -- More laws of trits, each by one computed test over all values (`law1` to `law4`), and of tests. Assumes nothing.
 use mathlib.Core.Path.{_≡_, refl, sym, ap, _∙_}
-use mathlib.Core.Bool.{Bool, true, false, not, _&&_, _||_, true≢false}
+use mathlib.Core.Bool.{Bool, true, false, not, _||_, true≢false}
 use mathlib.Core.Logic.{_⊎_, inl, inr}
 use Rattle.trits.specs.Trit.{Trit, t0, t1, t2, addT, negT, mulT, subT, isSet}
 use lib.Dec.{T}
@@ -20,13 +20,6 @@ pub implied : (a b : Bool) → T (not a || b) → a ≡ true → b ≡ true
 implied true true h e = refl
 implied true false h e = absurd h
 implied false b h e = absurd (true≢false (sym e))
-
-pub and-both : (a b : Bool) → (a && b) ≡ true → (a ≡ true) × (b ≡ true)
-and-both true b e = (refl, e)
-and-both false b e = absurd (true≢false (sym e))
-
-pub both-and : (a b : Bool) → a ≡ true → b ≡ true → (a && b) ≡ true
-both-and a b e f = rw (e, f)
 
 pub not-true : (b : Bool) → not b ≡ true → b ≡ false
 not-true true e = absurd (true≢false (sym e))

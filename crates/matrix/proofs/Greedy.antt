@@ -15,7 +15,7 @@ use Rattle.matrix.specs.Orders.{Distinct}
 use Rattle.trits.proofs.Arithmetic.{add-zero-r, mul-comm}
 use Rattle.matrix.proofs.Field.{mul-zero, mul-one, square, solved, zero-or}
 use Rattle.matrix.proofs.Dots.{put-same, put-other, dot-zero, dot-put, dot-add, dot-mul}
-use Rattle.matrix.proofs.Dimension.{Apart, apart-few, apart-reaches, reaches-many}
+use Rattle.matrix.proofs.Dimension.{Injective, injective-few, injective-reaches, reaches-many}
 use Rattle.matrix.proofs.Places.{Below, Supported, or-false-left, or-false-right, or-true-right, or-cases, or-none, elem-append, elem-here, picked, times-places, times-fill, fill-at, fill-off}
 use Rattle.matrix.proofs.Search.{Spans, inSpan-iff}
 
@@ -191,18 +191,18 @@ module _ (r n : ℕ) (H : Matrix) where
   pivots-elem ps q m = keep-elem ps [] q m
 
   -- independent columns are the rows' number or fewer; if as many, they reach everything
-  pub kept-apart : (ps : List ℕ) → Kept r n H ps → Apart r (length ps) (picked H ps)
-  kept-apart ps k w v j h =
+  pub kept-injective : (ps : List ℕ) → Kept r n H ps → Injective r (length ps) (picked H ps)
+  kept-injective ps k w v j h =
       sym (fill-at ps w zeros j (k .distinct) h)
       ∙ k .independent (fill ps w zeros) (λ q e. fill-off ps w zeros q e) (λ i l. times-fill n H ps (k .distinct) (k .below) w i ∙ v i l) (getD ps j 0)
 
   pub kept-few : (ps : List ℕ) → Kept r n H ps → length ps ≤ r
-  kept-few ps k = apart-few r (length ps) (picked H ps) (kept-apart ps k)
+  kept-few ps k = injective-few r (length ps) (picked H ps) (kept-injective ps k)
 
   pub kept-spans : (ps : List ℕ) → Kept r n H ps → length ps ≡ r → (v : Vector) → Spans r n H ps v
   kept-spans ps k e v =
-      let a : Apart r r (picked H ps) = rw e at (kept-apart ps k) in
-      let s = apart-reaches r (picked H ps) a v in (
+      let a : Injective r r (picked H ps) = rw e at (kept-injective ps k) in
+      let s = injective-reaches r (picked H ps) a v in (
         fill ps (s .0) zeros,
         (λ q m. fill-off ps (s .0) zeros q m),
         λ i h. times-fill n H ps (k .distinct) (k .below) (s .0) i ∙ rw e (s .1 i h),

@@ -4,11 +4,12 @@ use mathlib.Core.Bool.{Bool, true, false, cond}
 use mathlib.Core.List.{List, [], _∷_, _++_}
 use Prim.Native.Nat.{ℕ, suc, _≤_, _<_}
 use native.Mathlib.Numerals.{add-one}
-use native.Mathlib.Omega.{arith}
-use lib.ListN.{length, getD, length-append}
+use lib.Dec.{eqb}
+use lib.ListN.{length, length-append}
 use Rattle.trits.specs.Trit.{t0, isSet}
-use Rattle.matrix.specs.Linear.{Matrix, keep, pivots, rank}
+use Rattle.matrix.specs.Linear.{Matrix, elem, keep, pivots, rank}
 use Rattle.matrix.specs.Eliminate.{swapRows, clearRows, pivotRow, hasPivot, stepOf, Stage, tried, eliminate, eliminated, begun}
+use Rattle.matrix.proofs.Places.{Below, elem-here, or-true-right}
 use Rattle.matrix.proofs.Greedy.{Kept, empty-kept, grow, keep-in, keep-out}
 use Rattle.matrix.proofs.Elimination.{Reduced, start-reduced, stepped-reduced, test-in, test-out}
 use Rattle.matrix.proofs.Steps.{has-row, has-none, step-has, step-none}
@@ -53,9 +54,6 @@ eliminate-more r (p ∷ ps) q s = eliminate-more r ps q (tried r p s)
 
 -- ---- the kept places are the pivots, and the matrix is reduced
 
-abbrev pub AllBelow : ℕ → List ℕ → Type 0
-AllBelow n ps = (i : ℕ) → i < length ps → getD ps i 0 < n
-
 module _ (r n : ℕ) (H : Matrix) (all : List ℕ) where
   pivoting-try : (q : ℕ) (todo : List ℕ) (s : Stage) → q < n → Pivoting r n H (q ∷ todo) (s .kept) (s .cells) all
       → Pivoting r n H todo (tried r q s .kept) (tried r q s .cells) all
@@ -75,13 +73,13 @@ module _ (r n : ℕ) (H : Matrix) (all : List ℕ) where
           rw (step-none r (length (s .kept)) q (s .cells) e, e)
           (passed-over r n H q todo (s .kept) all (s .cells) h t (has-none r (length (s .kept)) q (s .cells) e))
 
-  pivoting-all : (todo : List ℕ) (s : Stage) → AllBelow n todo → Pivoting r n H todo (s .kept) (s .cells) all
+  pivoting-all : (todo : List ℕ) (s : Stage) → Below n todo → Pivoting r n H todo (s .kept) (s .cells) all
       → Pivoting r n H [] (eliminate r todo s .kept) (eliminate r todo s .cells) all
   unfolding eliminate
   pivoting-all [] s b t = t
-  pivoting-all (q ∷ qs) s b t = pivoting-all qs (tried r q s) (λ i h. b (suc i) (omega arith)) (pivoting-try q qs s (b 0 (omega arith)) t)
+  pivoting-all (q ∷ qs) s b t = pivoting-all qs (tried r q s) (λ x m. b x (or-true-right (eqb x q) (elem x qs) m)) (pivoting-try q qs s (b q (elem-here q qs)) t)
 
-module _ (r n : ℕ) (H : Matrix) (ps : List ℕ) (b : AllBelow n ps) where
+module _ (r n : ℕ) (H : Matrix) (ps : List ℕ) (b : Below n ps) where
   ended : Pivoting r n H [] (eliminate r ps (begun H) .kept) (eliminate r ps (begun H) .cells) ps
   ended = pivoting-all r n H ps ps (begun H) b (record { result = refl; good = empty-kept r n H; reduced = start-reduced r n H })
 

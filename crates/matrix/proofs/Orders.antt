@@ -1,6 +1,6 @@
 -- An order of n places: a list of n of them in which each place below n stands. Assumes nothing.
 use mathlib.Core.Path.{_≡_, refl, sym, ap, _∙_}
-use mathlib.Core.Bool.{Bool, true, false, cond, not, true≢false}
+use mathlib.Core.Bool.{Bool, true, false, cond, not, true≢false, and-eq-true-iff}
 use mathlib.Core.Logic.{_⊎_, inl, inr}
 use mathlib.Core.List.{List, [], _∷_}
 use Prim.Native.Nat.{ℕ, zero, suc, _<_}
@@ -13,7 +13,7 @@ use Rattle.matrix.specs.Linear.{Vector}
 use Rattle.matrix.specs.Linear.{elem}
 use Rattle.matrix.specs.Orders.{Distinct, Order, isOrder}
 use Rattle.trits.proofs.Tests.{any-none, none-any}
-use Rattle.matrix.proofs.Field.{and-both, both-and, not-true, not-false}
+use Rattle.matrix.proofs.Field.{not-true, not-false}
 use Rattle.matrix.proofs.Places.{Below, or-false-right, or-true-right, or-cases, elem-at, dot-places}
 
 abbrev pub drop-one : ℕ → List ℕ → List ℕ
@@ -97,7 +97,7 @@ index-elem q ps j h e = rw e at (elem-at ps j h)
 pub order-test : (n : ℕ) (ps : List ℕ) → isOrder n ps ≡ true → Order n ps
 unfolding isOrder
 order-test n ps h =
-    let t = and-both (eqb (length ps) n) (not (anyTo (λ q. not (elem q ps)) n)) h in
+    let t = and-eq-true-iff (eqb (length ps) n) (not (anyTo (λ q. not (elem q ps)) n)) .0 h in
     record {
       size = eqb-true (length ps) n (t .0);
       every = λ q l. not-false (elem q ps) (any-none n (λ q. not (elem q ps)) (not-true (anyTo (λ q. not (elem q ps)) n) (t .1)) q l);
@@ -106,5 +106,4 @@ order-test n ps h =
 pub test-order : (n : ℕ) (ps : List ℕ) → Order n ps → isOrder n ps ≡ true
 unfolding isOrder
 test-order n ps o =
-    both-and (eqb (length ps) n) (not (anyTo (λ q. not (elem q ps)) n)) (eq-eqb (length ps) n (o .size))
-    (ap not (none-any n (λ q. not (elem q ps)) (λ q l. ap not (o .every q l))))
+    and-eq-true-iff (eqb (length ps) n) (not (anyTo (λ q. not (elem q ps)) n)) .1 (eq-eqb (length ps) n (o .size), ap not (none-any n (λ q. not (elem q ps)) (λ q l. ap not (o .every q l))))

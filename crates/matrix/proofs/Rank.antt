@@ -17,7 +17,7 @@ use Rattle.matrix.proofs.Dots.{dot-left, dot-right, dot-zero, dot-swap}
 use Rattle.matrix.proofs.Dimension.{Reaches, dependent}
 use Rattle.matrix.proofs.Places.{Below, picked, times-places, elem-at}
 use Rattle.matrix.proofs.Search.{Spans, solve-sound, solve-complete}
-use Rattle.matrix.proofs.Greedy.{Kept, pivots-kept, pivots-elem, unit-spans, keep-reach, kept-apart, kept-few, rank-iff}
+use Rattle.matrix.proofs.Greedy.{Kept, pivots-kept, pivots-elem, unit-spans, keep-reach, kept-injective, kept-few, rank-iff}
 use Rattle.matrix.proofs.Orders.{order-good}
 use Rattle.matrix.proofs.Counts.{Within, range-order}
 
@@ -51,7 +51,7 @@ module _ (r n : ℕ) (H : Matrix) where
       go true e = leb-true (length ps) (length qs) e
       go false e =
           let d = dependent (length ps) (length qs) X (leb-false (length ps) (length qs) e) in
-          absurd (set-not (d .apart) (kept-apart r n H ps k (d .w) (λ x h.
+          absurd (set-not (d .nonzero) (kept-injective r n H ps k (d .w) (λ x h.
           dot-left (length ps) (picked H ps x) (λ i. dotV (picked H qs x) (λ j. X j i) (length qs)) (d .w) (λ i b. sym (reached x i h b))
           ∙ sym (dot-swap (length qs) (length ps) (picked H qs x) (d .w) X)
           ∙ dot-zero (length qs) (picked H qs x) (times (length ps) X (d .w)) (λ j b. ap (mulT (picked H qs x j)) (d .vanishes j b) ∙ mul-zero (picked H qs x j)))

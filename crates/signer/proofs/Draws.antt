@@ -1,6 +1,6 @@
 -- What a draw solves: the pivots' values, the pairs of its last part, and what it has passed when it releases. Assumes nothing.
 use mathlib.Core.Path.{_≡_, sym, ap, _∙_, subst}
-use mathlib.Core.Bool.{true, false, true≢false}
+use mathlib.Core.Bool.{true, false, true≢false, and-eq-true-iff}
 use mathlib.Core.Logic.{_⊎_, inl, inr}
 use mathlib.Core.List.{List}
 use Prim.Native.Nat.{ℕ, _+_, _-_, _<_}
@@ -11,12 +11,11 @@ use borrow.Author.Tests.{eqb-true, eq-eqb}
 use Rattle.trits.specs.Trit.{Trit, isSet, weightV}
 use Rattle.matrix.specs.Linear.{Vector, Matrix, zeros, times, elem, orZeros, fill, rank, without}
 use Rattle.matrix.specs.Orders.{Distinct, Order, isOrder}
-use Rattle.matrix.proofs.Field.{and-both, both-and}
 use Rattle.matrix.proofs.Places.{Below, elem-append, fill-at, fill-off, or-cases, or-true-right}
 use Rattle.matrix.proofs.Search.{Off}
 use Rattle.matrix.proofs.Greedy.{Kept, bool-cases, pivots-kept, pivots-elem}
 use Rattle.matrix.proofs.Orders.{order-good, elem-index, order-test, test-order}
-use Rattle.matrix.proofs.Counts.{Within, Apart, distinct-parts, without-out}
+use Rattle.matrix.proofs.Counts.{Within, Disjoint, distinct-parts, without-out}
 use Rattle.matrix.proofs.Solutions.{solve-exists}
 use Rattle.matrix.proofs.Elimination.{Reduced}
 use Rattle.matrix.proofs.Values.{solve-by-rows}
@@ -29,7 +28,7 @@ use Rattle.signer.proofs.Ranges.{Ranges, passed}
 -- ---- parts of an order
 
 module _ (n a : ℕ) (ps : List ℕ) (o : Order n ps) where
-  pub parts : Distinct (take a ps) × Distinct (drop a ps) × Apart (take a ps) (drop a ps)
+  pub parts : Distinct (take a ps) × Distinct (drop a ps) × Disjoint (take a ps) (drop a ps)
   parts = distinct-parts (take a ps) (drop a ps) (rw (take-append-drop a ps) (order-good n ps o .0))
 
   pub first-in : Within (take a ps) ps
@@ -55,8 +54,8 @@ pub record Valid (z : Sizes) (ch : Choices) : Type 0 where
 pub choices-valid : (z : Sizes) (ch : Choices) → choicesFit z ch ≡ true → Valid z ch
 unfolding choicesFit
 choices-valid z ch h =
-    let a = and-both (isOrder (half z) (ch .orderV)) _ h in
-    let b = and-both (isOrder (half z) (ch .orderU)) _ (a .1) in
+    let a = and-eq-true-iff (isOrder (half z) (ch .orderV)) _ .0 h in
+    let b = and-eq-true-iff (isOrder (half z) (ch .orderU)) _ .0 (a .1) in
     record {
       orderV = order-test (half z) (ch .orderV) (a .0);
       orderU = order-test (half z) (ch .orderU) (b .0);
@@ -66,8 +65,7 @@ choices-valid z ch h =
 pub valid-choices : (z : Sizes) (ch : Choices) → Valid z ch → choicesFit z ch ≡ true
 unfolding choicesFit
 valid-choices z ch v =
-    both-and (isOrder (half z) (ch .orderV)) _ (test-order (half z) (ch .orderV) (v .orderV))
-    (both-and (isOrder (half z) (ch .orderU)) _ (test-order (half z) (ch .orderU) (v .orderU)) (zero-no (z .ku - gapU z) (λ j. ch .valuesU (gapU z + j)) (v .values)))
+    and-eq-true-iff (isOrder (half z) (ch .orderV)) _ .1 (test-order (half z) (ch .orderV) (v .orderV), and-eq-true-iff (isOrder (half z) (ch .orderU)) _ .1 (test-order (half z) (ch .orderU) (v .orderU), zero-no (z .ku - gapU z) (λ j. ch .valuesU (gapU z + j)) (v .values)))
 
 -- ---- a draw that releases has passed three tests
 

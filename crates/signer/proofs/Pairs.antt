@@ -1,6 +1,6 @@
 -- The pair map and its inverse, the pairs of the last part, and what the secret matrix does to a word. Assumes nothing.
 use mathlib.Core.Path.{_≡_, refl, sym, ap, ap₂, _∙_, subst}
-use mathlib.Core.Bool.{Bool, true, false, cond, not, _&&_, _||_}
+use mathlib.Core.Bool.{Bool, true, false, cond, not, _&&_, _||_, and-eq-true-iff}
 use Prim.Native.Nat.{ℕ, _+_, _-_, _<_}
 use native.Mathlib.Omega.{arith}
 use lib.Dec.{ltb}
@@ -9,10 +9,10 @@ use Rattle.trits.specs.Trit.{Trit, t0, t1, addT, negT, subT, mulT, isSet, dotV,
 use Rattle.trits.proofs.Tests.{any-none, none-any}
 use Rattle.trits.proofs.Arithmetic.{law3}
 use Rattle.matrix.specs.Linear.{Vector, times}
-use Rattle.matrix.proofs.Field.{law4, test4, implied, and-both, both-and, not-true, not-false, sub-zero-eq, unset-zero}
+use Rattle.matrix.proofs.Field.{law4, test4, implied, not-true, not-false, sub-zero-eq, unset-zero}
 use Rattle.matrix.proofs.Dots.{dot-cong, dot-left, dot-right, dot-split, dot-add}
 use Rattle.matrix.proofs.Dimension.{Reaches}
-use Rattle.signer.specs.Sizes.{Sizes, half, places, ru, rv, checks}
+use Rattle.signer.specs.Sizes.{Sizes, half, places, ru, rv, codim}
 use Rattle.signer.specs.Secret.{Secret, noZero, dOf, uOf, vOf, leftOf, rightOf, join, whole, secretMatrix}
 use Rattle.signer.specs.Draw.{forced}
 
@@ -64,24 +64,23 @@ module _ (s : Secret) where
   pub forced-pair : (u v : Vector) (q : ℕ) (x : Trit) → isSet (s .c q) ≡ true → isSet x ≡ true → u q ≡ forced s v q x
       → (isSet (leftOf s u v q) ≡ true) × (isSet (rightOf s u v q) ≡ true)
   forced-pair u v q x h k e =
-      and-both _ _ (ap (λ (u : Trit). isSet (addT u (mulT (s .b q) (v q))) && isSet (addT (mulT (s .c q) (addT u (mulT (s .b q) (v q)))) (v q))) e
+      and-eq-true-iff _ _ .0 (ap (λ (u : Trit). isSet (addT u (mulT (s .b q) (v q))) && isSet (addT (mulT (s .c q) (addT u (mulT (s .b q) (v q)))) (v q))) e
       ∙ implied (isSet (s .c q) && isSet x)
       (isSet (addT (forced s v q x) (mulT (s .b q) (v q))) && isSet (addT (mulT (s .c q) (addT (forced s v q x) (mulT (s .b q) (v q)))) (v q)))
       (test4 (λ b c v x. not (isSet c && isSet x)
       || (isSet (addT (cond (isSet v) (mulT (subT c b) v) x) (mulT b v)) && isSet (addT (mulT c (addT (cond (isSet v) (mulT (subT c b) v) x) (mulT b v))) v)))
       tt (s .b q) (s .c q) (v q) x)
-      (both-and (isSet (s .c q)) (isSet x) h k))
+      (and-eq-true-iff (isSet (s .c q)) (isSet x) .1 (h, k)))
 
   -- and where both trits of a pair are not 0, e_U is that
   pub pair-forced : (u v : Vector) (q : ℕ) → isSet (s .c q) ≡ true → isSet (leftOf s u v q) ≡ true → isSet (rightOf s u v q) ≡ true
       → (forced s v q (u q) ≡ u q) × (v q ≡ t0 → isSet (u q) ≡ true)
   pair-forced u v q h k l =
-      let t = and-both (not (isSet (subT (forced s v q (u q)) (u q)))) (isSet (v q) || isSet (u q))
-      (implied (isSet (s .c q) && (isSet (leftOf s u v q) && isSet (rightOf s u v q))) _
+      let t = and-eq-true-iff (not (isSet (subT (forced s v q (u q)) (u q)))) (isSet (v q) || isSet (u q)) .0 (implied (isSet (s .c q) && (isSet (leftOf s u v q) && isSet (rightOf s u v q))) _
       (test4 (λ b c v u. not (isSet c && (isSet (addT u (mulT b v)) && isSet (addT (mulT c (addT u (mulT b v))) v)))
       || (not (isSet (subT (cond (isSet v) (mulT (subT c b) v) u) u)) && (isSet v || isSet u)))
       tt (s .b q) (s .c q) (v q) (u q))
-      (both-and (isSet (s .c q)) _ h (both-and (isSet (leftOf s u v q)) _ k l))) in (
+      (and-eq-true-iff (isSet (s .c q)) _ .1 (h, and-eq-true-iff (isSet (leftOf s u v q)) _ .1 (k, l)))) in (
         sub-zero-eq (forced s v q (u q)) (u q) (unset-zero _ (not-true (isSet (subT (forced s v q (u q)) (u q))) (t .0))),
         λ e. ap (λ (x : Trit). isSet x || isSet (u q)) (sym e) ∙ t .1,
       )
@@ -126,7 +125,7 @@ module _ (z : Sizes) (s : Secret) where
       ∙ sym (dot-add (half z) (s .hv i) (λ q. e (half z + q)) (λ q. negT (mulT (s .c q) (e q))))
 
   -- a row of the secret matrix is a row of U or of V
-  pub by-rows : (P : ℕ → Type 0) → ((i : ℕ) → i < ru z → P i) → ((i : ℕ) → i < rv z → P (ru z + i)) → (i : ℕ) → i < checks z → P i
+  pub by-rows : (P : ℕ → Type 0) → ((i : ℕ) → i < ru z → P i) → ((i : ℕ) → i < rv z → P (ru z + i)) → (i : ℕ) → i < codim z → P i
   by-rows P f g i h = go (ltb i (ru z)) refl
     where
       go : (t : Bool) → ltb i (ru z) ≡ t → P i
@@ -136,7 +135,7 @@ module _ (z : Sizes) (s : Secret) where
           subst P back (g (i - ru z) (omega (arith, ltb-false i (ru z) e)))
 
   -- the secret matrix reaches everything where H_U and H_V do
-  pub secret-reaches : Reaches (ru z) (half z) (s .hu) → Reaches (rv z) (half z) (s .hv) → Reaches (checks z) (places z) (secretMatrix z s)
+  pub secret-reaches : Reaches (ru z) (half z) (s .hu) → Reaches (rv z) (half z) (s .hv) → Reaches (codim z) (places z) (secretMatrix z s)
   secret-reaches a b v =
       let u = a v in
       let w = b (λ i. v (ru z + i)) in (

@@ -7,7 +7,7 @@ use lib.ListN.{getD, take, set}
 use Rattle.trits.specs.Refusal.{demand}
 use Rattle.matrix.specs.Linear.{Vector, Matrix, column, solve, orZeros, inSpan, rank, range, zeros}
 use Rattle.matrix.specs.Orders.{isOrder}
-use Rattle.signer.specs.Sizes.{Sizes, half, places, ru, rv, checks, sizesFit}
+use Rattle.signer.specs.Sizes.{Sizes, half, places, ru, rv, codim, sizesFit}
 use Rattle.signer.specs.Secret.{Secret, noZero, secretMatrix}
 
 -- places j and l of an order are exchanged
@@ -54,7 +54,7 @@ buildRefusal z s =
 
 -- released: the final order p, and k rows of n-k trits
 abbrev pub keyOrder : Sizes → Secret → List ℕ → List ℕ
-keyOrder z s start = arranged (checks z) (places z) (secretMatrix z s) start .order
+keyOrder z s start = arranged (codim z) (places z) (secretMatrix z s) start .order
 
 abbrev pub keyRow : Sizes → Secret → List ℕ → ℕ → Vector
-keyRow z s start = rowOfR (checks z) (places z) (secretMatrix z s) (keyOrder z s start)
+keyRow z s start = rowOfR (codim z) (places z) (secretMatrix z s) (keyOrder z s start)

@@ -8,7 +8,7 @@ use Rattle.trits.specs.Trit.{Trit, subT, mulT, isSet, weightV}
 use Rattle.trits.specs.Refusal.{demand}
 use Rattle.matrix.specs.Linear.{Vector, zeros, times, solve, orZeros, pivots, rank, without, fill}
 use Rattle.matrix.specs.Orders.{isOrder}
-use Rattle.signer.specs.Sizes.{Sizes, half, places, ru, rv, checks, gapV, gapU}
+use Rattle.signer.specs.Sizes.{Sizes, half, places, ru, rv, codim, gapV, gapU}
 use Rattle.signer.specs.Secret.{Secret, noZero, join, uOf, vOf, whole}
 
 -- what is supplied: a V order, V trits, a U order, U values
@@ -28,7 +28,7 @@ placed p e = fill p e zeros
 
 -- (y, 0...0), in secret places
 abbrev pub start : Sizes → List ℕ → Vector → Vector
-start z p y = placed p (join (checks z) y zeros)
+start z p y = placed p (join (codim z) y zeros)
 
 -- V: the first r_V + g places of the order, and its pivots
 abbrev pub firstV : Sizes → Choices → List ℕ
@@ -86,4 +86,4 @@ drawRefusal z s p y ch =
 
 -- the signature: the last k trits of the word
 abbrev pub signature : Sizes → Vector → Vector
-signature z e i = e (checks z + i)
+signature z e i = e (codim z + i)

@@ -20,8 +20,8 @@ abbrev pub places : Sizes → ℕ
 places z = half z + half z
 
 -- k, the trits of a signature
-abbrev pub signed : Sizes → ℕ
-signed z = z .ku + z .kv
+abbrev pub dim : Sizes → ℕ
+dim z = z .ku + z .kv
 
 -- r_U and r_V, the rows of H_U and of H_V
 abbrev pub ru : Sizes → ℕ
@@ -31,8 +31,8 @@ abbrev pub rv : Sizes → ℕ
 rv z = half z - z .kv
 
 -- n-k, the rows of both: the trits of a syndrome and of a row of the key
-abbrev pub checks : Sizes → ℕ
-checks z = ru z + rv z
+abbrev pub codim : Sizes → ℕ
+codim z = ru z + rv z
 
 -- the gap of V and the gap of U, each read here alone
 abbrev pub gapV : Sizes → ℕ

@@ -18,16 +18,16 @@ use Rattle.matrix.proofs.Dots.{dot-right}
 use Rattle.matrix.proofs.Places.{Below, elem-at, elem-append, fill-at, fill-off, or-true-right}
 use Rattle.matrix.proofs.Greedy.{Kept, bool-cases, pivots-kept, pivots-elem, rank-iff, spans-mono, kept-spans}
 use Rattle.matrix.proofs.Orders.{order-good}
-use Rattle.matrix.proofs.Counts.{Apart, without-in, without-out, without-distinct, without-length, range-order, fill-own}
+use Rattle.matrix.proofs.Counts.{Disjoint, without-in, without-out, without-distinct, without-length, range-order, fill-own}
 use Rattle.matrix.proofs.Solutions.{solve-is}
 use Rattle.checker.specs.Verdict.{Key, HasSyndrome}
 use Rattle.checker.proofs.FullWord.{syndrome-cong}
-use Rattle.signer.specs.Sizes.{Sizes, half, places, signed, ru, rv, checks, gapV, gapU, sizesFit}
+use Rattle.signer.specs.Sizes.{Sizes, half, places, dim, ru, rv, codim, gapV, gapU, sizesFit}
 use Rattle.signer.specs.Secret.{Secret, leftOf, rightOf, uOf, vOf, whole, secretMatrix}
 use Rattle.signer.specs.Build.{arranged, keyOrder, keyRow}
 use Rattle.signer.specs.Draw.{Choices, placed, start, pivotsV, suppliedV, drawV, firstU, pivotsU, lastU, forced, suppliedU, drawU, drawn}
 use Rattle.signer.proofs.Pairs.{pair-left, pair-right, pair-forced, join-low, join-high, secret-u, secret-v, whole-u, whole-v, by-rows}
-use Rattle.signer.proofs.Ranges.{sizes-fit, checks-signed, Builds, build-passed, build-ends}
+use Rattle.signer.proofs.Ranges.{sizes-fit, codim-dim, Builds, build-passed, build-ends}
 use Rattle.signer.proofs.Draws.{Valid, choices-valid, valid-choices, Passes, passes-released, released-passes, parts, first-below, either-part, keptV, keptU, drawV-good, drawU-good, last-below, last-pair}
 use Rattle.wave.specs.Demand.{sized, Released, Releases, Terms}
 use Rattle.wave.proofs.Syndrome.{syndrome-iff}
@@ -52,7 +52,7 @@ module _ (z : Sizes) (s : Secret) (order : List ℕ) (bu : Builds z s order) whe
     pub partU : (i : ℕ) → i < ru z → times (half z) (s .hu) (uOf z s e) i ≡ times (half z) (s .hu) (uOf z s (start z p y)) i
     pub partV : (i : ℕ) → i < rv z → times (half z) (s .hv) (vOf z s e) i ≡ times (half z) (s .hv) (vOf z s (start z p y)) i
 
-  syndrome-parts : (y e : Vector) → HasSyndrome (checks z) (signed z) (keyRow z s order) e y ↔ Parts y (placed p e)
+  syndrome-parts : (y e : Vector) → HasSyndrome (codim z) (dim z) (keyRow z s order) e y ↔ Parts y (placed p e)
   syndrome-parts y e = (
     (λ h. let t = iff .0 h in
         record {
@@ -64,9 +64,9 @@ module _ (z : Sizes) (s : Secret) (order : List ℕ) (bu : Builds z s order) whe
         (λ i l. secret-v z s (placed p e) i ∙ h .partV i l ∙ sym (secret-v z s (start z p y) i))),
   )
     where
-      iff : HasSyndrome (checks z) (signed z) (keyRow z s order) e y
-          ↔ ((x : ℕ) → x < checks z → times (places z) (secretMatrix z s) (placed p e) x ≡ times (places z) (secretMatrix z s) (start z p y) x)
-      iff = syndrome-iff (checks z) (signed z) (places z) (secretMatrix z s) (arranged (checks z) (places z) (secretMatrix z s) order) (checks-signed z (bu .ranges)) (build-ends z s order bu) y e
+      iff : HasSyndrome (codim z) (dim z) (keyRow z s order) e y
+          ↔ ((x : ℕ) → x < codim z → times (places z) (secretMatrix z s) (placed p e) x ≡ times (places z) (secretMatrix z s) (start z p y) x)
+      iff = syndrome-iff (codim z) (dim z) (places z) (secretMatrix z s) (arranged (codim z) (places z) (secretMatrix z s) order) (codim-dim z (bu .ranges)) (build-ends z s order bu) y e
 
 -- ---- from a draw to the terms
 
@@ -340,7 +340,7 @@ module _ (z : Sizes) (s : Secret) (order : List ℕ) (y e : Vector) (bu : Builds
       free : List ℕ
       free = without (pivotsU z s chF) firstF
 
-      pa : Distinct firstF × Distinct (lastU z chF) × Apart firstF (lastU z chF)
+      pa : Distinct firstF × Distinct (lastU z chF) × Disjoint firstF (lastU z chF)
       pa = parts (half z) (ru z + gapU z) orderUF orderUF-good
 
       free-size : length free ≡ gapU z
@@ -396,11 +396,11 @@ released-builds z s start p R re g w h =
     let b = build-passed z s start (re .given) (re .passed) in
     record { ranges = sizes-fit (sized z g w) h; unit = b .unit; order = b .order; full-u = b .full-u; full-v = b .full-v }
 
-terms-key : (z : Sizes) (s : Secret) (p : List ℕ) (R Q : Key) (y e : Vector) → ((i j : ℕ) → i < signed z → j < checks z → R i j ≡ Q i j) → Terms z s p R y e → Terms z s p Q y e
+terms-key : (z : Sizes) (s : Secret) (p : List ℕ) (R Q : Key) (y e : Vector) → ((i j : ℕ) → i < dim z → j < codim z → R i j ≡ Q i j) → Terms z s p R y e → Terms z s p Q y e
 terms-key z s p R Q y e h f =
     record {
       weighs = f .weighs;
-      has-syndrome = λ j l. syndrome-cong (checks z) (signed z) Q R e e (λ q b. refl) (λ i j a b. sym (h i j a b)) j l ∙ f .has-syndrome j l;
+      has-syndrome = λ j l. syndrome-cong (codim z) (dim z) Q R e e (λ q b. refl) (λ i j a b. sym (h i j a b)) j l ∙ f .has-syndrome j l;
       chosen = f .chosen;
       both-nonzero = f .both-nonzero;
       keeps-rank = f .keeps-rank;

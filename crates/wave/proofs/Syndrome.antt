@@ -11,9 +11,9 @@ use Rattle.trits.proofs.Arithmetic.{add-zero-r, add-neg}
 use Rattle.matrix.specs.Linear.{Vector, Matrix, zeros, times}
 use Rattle.matrix.proofs.Field.{sub-zero-eq}
 use Rattle.matrix.proofs.Dots.{dot-left, dot-right, dot-zero, dot-comm, dot-add, dot-mul, dot-swap, dot-split}
-use Rattle.matrix.proofs.Dimension.{Apart}
+use Rattle.matrix.proofs.Dimension.{Injective}
 use Rattle.matrix.proofs.Places.{picked, fill-at}
-use Rattle.matrix.proofs.Greedy.{kept-apart}
+use Rattle.matrix.proofs.Greedy.{kept-injective}
 use Rattle.matrix.proofs.Orders.{order-good, dot-order}
 use Rattle.checker.specs.Verdict.{Key, timesKey, syndrome, HasSyndrome}
 use Rattle.signer.specs.Secret.{join}
@@ -53,9 +53,9 @@ module _ (m k n : ℕ) (H : Matrix) (a : Arrangement) (size : m + k ≡ n) (g : 
       t : Vector
       t i = e (m + i)
 
-  kept-first : Apart m m (picked H p)
+  kept-first : Injective m m (picked H p)
   kept-first w v j h =
-      kept-apart m n H (take m p) (g .kept) w (λ x l. ap (dotV (picked H (take m p) x) w) first
+      kept-injective m n H (take m p) (g .kept) w (λ x l. ap (dotV (picked H (take m p) x) w) first
       ∙ dot-left m (picked H (take m p) x) (picked H p x) w (λ j o. ap (H x) (getD-take m p j 0 o)) ∙ v x l) j (rw first h)
     where
       first : length (take m p) ≡ m

@@ -11,11 +11,11 @@ use Rattle.matrix.specs.Orders.{Order}
 use Rattle.matrix.proofs.Greedy.{Kept}
 use Rattle.checker.specs.Verdict.{Key, fullWord, fullWeight, saysYes, HasSyndrome, Extends}
 use Rattle.checker.proofs.FullWord.{full-syndrome, full-extends, full-unique, weight-of, yes-weight}
-use Rattle.signer.specs.Sizes.{Sizes, places, signed, checks, sizesFit}
+use Rattle.signer.specs.Sizes.{Sizes, places, dim, codim, sizesFit}
 use Rattle.signer.specs.Secret.{Secret, secretMatrix}
 use Rattle.signer.specs.Build.{arranged}
 use Rattle.signer.specs.Draw.{signature}
-use Rattle.signer.proofs.Ranges.{checks-signed, build-passed, build-ends}
+use Rattle.signer.proofs.Ranges.{codim-dim, build-passed, build-ends}
 use Rattle.wave.specs.Demand.{sized, Released, Releases}
 use Rattle.wave.proofs.Reach.{reach}
 
@@ -38,16 +38,16 @@ module _ (m k : ℕ) (R : Key) (y s : Vector) where
 module _ (z : Sizes) (s : Secret) (start p : List ℕ) (R : Key) (re : Released z s start p R) where
   -- the signature of a word that a draw releases is accepted, with weight w
   pub released-accepted : (g w : ℕ) → sizesFit (sized z g w) ≡ true → (y e : Vector) → Releases (sized z g w) s p y e
-      → (fullWeight (checks z) (signed z) R y (signature z e) ≡ w) × (saysYes (checks z) (signed z) w R y (signature z e) ≡ true)
+      → (fullWeight (codim z) (dim z) R y (signature z e) ≡ w) × (saysYes (codim z) (dim z) w R y (signature z e) ≡ true)
   released-accepted g w h y e r =
       let t = reach z s start p R re g w h y e .0 r in
-      let c : fullWeight (checks z) (signed z) R y (signature z e) ≡ w =
-      weight-of (checks z) (signed z) R y (signature z e) e (t .has-syndrome) (λ i l. refl)
-      ∙ ap (weightV e) (checks-signed z (build-passed z s start (re .given) (re .passed) .ranges)) ∙ t .weighs in
-      (c, yes-weight (checks z) (signed z) R y (signature z e) w .1 c)
+      let c : fullWeight (codim z) (dim z) R y (signature z e) ≡ w =
+      weight-of (codim z) (dim z) R y (signature z e) e (t .has-syndrome) (λ i l. refl)
+      ∙ ap (weightV e) (codim-dim z (build-passed z s start (re .given) (re .passed) .ranges)) ∙ t .weighs in
+      (c, yes-weight (codim z) (dim z) R y (signature z e) w .1 c)
 
   -- the build ended with n-k columns kept: p is an order of the n places, and the columns at its first n-k places are independent
-  pub build-ended : (arranged (checks z) (places z) (secretMatrix z s) start .kept ≡ checks z) × Order (places z) p × Kept (checks z) (places z) (secretMatrix z s) (take (checks z) p)
+  pub build-ended : (arranged (codim z) (places z) (secretMatrix z s) start .kept ≡ codim z) × Order (places z) p × Kept (codim z) (places z) (secretMatrix z s) (take (codim z) p)
   build-ended =
       let a = build-ends z s start (build-passed z s start (re .given) (re .passed)) in
       (a .count, (rw (re .order) (a .order)), rw (re .order) (a .kept))

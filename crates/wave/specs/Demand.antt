@@ -8,7 +8,7 @@ use Rattle.trits.specs.Trit.{isSet, weightV}
 use Rattle.matrix.specs.Linear.{Vector, elem, without, range, rank}
 use Rattle.matrix.specs.Orders.{Distinct}
 use Rattle.checker.specs.Verdict.{Key, HasSyndrome}
-use Rattle.signer.specs.Sizes.{Sizes, half, places, signed, ru, checks, gapU}
+use Rattle.signer.specs.Sizes.{Sizes, half, places, dim, ru, codim, gapU}
 use Rattle.signer.specs.Secret.{Secret}
 use Rattle.signer.specs.Build.{buildFits, buildRefusal, keyOrder, keyRow}
 use Rattle.signer.specs.Draw.{Choices, choicesFit, placed, drawn, drawRefusal}
@@ -22,7 +22,7 @@ pub record Released (z : Sizes) (s : Secret) (start p : List ℕ) (R : Key) : Ty
   pub given : buildFits z s start ≡ true
   pub passed : buildRefusal z s ≡ 0
   pub order : p ≡ keyOrder z s start
-  pub rows : (i j : ℕ) → i < signed z → j < checks z → R i j ≡ keyRow z s start i j
+  pub rows : (i j : ℕ) → i < dim z → j < codim z → R i j ≡ keyRow z s start i j
 
 -- some draw for y releases the word e: choices in order, nothing refused, and the word handed out is e in its n places
 pub record Releases (z : Sizes) (s : Secret) (p : List ℕ) (y e : Vector) : Type 0 where
@@ -41,7 +41,7 @@ pub record PairSet (N count : ℕ) : Type 0 where
 -- the five terms: weight w; the syndrome y; k_U - g distinct secret pairs; both trits of each not 0; H_U keeps rank r_U on the other pairs
 pub record Terms (z : Sizes) (s : Secret) (p : List ℕ) (R : Key) (y e : Vector) : Type 0 where
   pub weighs : weightV e (places z) ≡ z .w
-  pub has-syndrome : HasSyndrome (checks z) (signed z) R e y
+  pub has-syndrome : HasSyndrome (codim z) (dim z) R e y
   pub chosen : PairSet (half z) (z .ku - gapU z)
   pub both-nonzero : (q : ℕ) → elem q (chosen .pairs) ≡ true → (isSet (placed p e q) ≡ true) × (isSet (placed p e (half z + q)) ≡ true)
   pub keeps-rank : rank (ru z) (half z) (s .hu) (without (chosen .pairs) (range (half z))) ≡ ru z

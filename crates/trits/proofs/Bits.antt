@@ -1,9 +1,8 @@
 -- The bits of a number: the operators work at each bit apart, a number is its bits, and the number that `fromBits` makes of given bits has them.
 -- Assumes nothing.
-use mathlib.Core.Path.{_≡_, refl, sym, ap, ap₂, _∙_, subst}
-use mathlib.Core.Logic.{_⊎_, inl, inr}
-use Prim.Native.Nat.{ℕ, zero, suc, _+_, _-_, _*_, _/_, _%_, _^_, _≤_, _<_, zero-le, suc-le-suc}
-use native.Mathlib.Nat.{zero-lt-suc, not-suc-le-zero, le-of-suc-le-suc, mod-lt, div-one, div-add-mod', zero-div, pow-suc, div-eq-of-lt}
+use mathlib.Core.Path.{_≡_, sym, ap, _∙_}
+use Prim.Native.Nat.{ℕ, zero, suc, _+_, _-_, _*_, _/_, _%_, _^_, _≤_, _<_, suc-le-suc}
+use native.Mathlib.Nat.{zero-lt-suc, not-suc-le-zero, le-of-suc-le-suc, mod-lt, div-one, zero-div, pow-suc, div-eq-of-lt}
 use native.Mathlib.Numerals.{one-add}
 use native.Mathlib.Omega.{arith}
 use lib.Bits.{bitAnd, bitOr, bitXor, and-shr, or-shr, xor-shr, and-mod, or-mod, xor-mod}
@@ -78,11 +77,3 @@ bit-from (suc k) f d (suc i) l =
 -- a number is the one that has its bits
 pub from-bits : (k n : ℕ) (f : ℕ → ℕ) → n < 2 ^ k → ((i : ℕ) → f i < 2) → ((i : ℕ) → i < k → bit i n ≡ f i) → n ≡ fromBits f k
 from-bits k n f h d e = bits-eq k n (fromBits f k) h (from-lt k f d) (λ i l. e i l ∙ sym (bit-from k f d i l))
-
--- `!x` of a word of k bits, which is (2 ^ k - 1) - x
-pub bit-not : (k x i : ℕ) → x < 2 ^ k → i < k → bit i (2 ^ k - 1 - x) ≡ 1 - bit i x
-bit-not zero x i h l = absurd (not-suc-le-zero l)
-bit-not (suc k) x zero h l = bit-first (2 ^ suc k - 1 - x) ∙ omega (arith, pow-suc 2 k, bit-first x)
-bit-not (suc k) x (suc i) h l =
-    let half : (2 ^ suc k - 1 - x) / 2 ≡ 2 ^ k - 1 - x / 2 = omega (arith, pow-suc 2 k) in
-    bit-next i (2 ^ suc k - 1 - x) ∙ ap (bit i) half ∙ bit-not k (x / 2) i (half-lt k x h) (le-of-suc-le-suc l) ∙ ap (λ (b : ℕ). 1 - b) (sym (bit-next i x))

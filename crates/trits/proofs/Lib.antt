@@ -11,3 +11,5 @@ pub mod Products
 pub mod Tests
 pub mod Put
 pub mod Matrix
+pub mod Ends
+pub mod Refusals

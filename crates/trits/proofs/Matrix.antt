@@ -1,22 +1,27 @@
 -- Rows of a matrix: the part that a row is, its trits, and the test of every row. Assumes nothing.
 use mathlib.Core.Path.{_≡_, refl, sym, ap, ap₂, _∙_, subst}
 use mathlib.Core.Logic.{_⊎_, inl, inr, _≢_}
-use mathlib.Core.Bool.{Bool, true, false, _&&_, cond, and-false}
+use mathlib.Core.Bool.{Bool, true, false, not, _&&_, _||_, cond, and-false}
 use mathlib.Core.List.{List, []}
-use Prim.Native.Nat.{ℕ, zero, suc, _+_, _-_, _*_, _/_, _%_, _≤_, _<_}
+use Prim.Native.Nat.{ℕ, _+_, _-_, _*_, _/_, _%_, _^_, _≤_, _<_}
 use native.Mathlib.Nat.{mul-le-mul-right, suc-mul, mul-div-cancel, mul-mod-left, div-add-mod'}
 use native.Mathlib.Decide.{decLt}
+use native.Mathlib.Numerals.{add-one}
+use mir.Syntax.{w64}
+use mir.Val.{Fits}
+use lib.Bits.{bitOr, or-shr}
 use native.Mathlib.Omega.{arith}
 use borrow.Author.Tests.{eq-eqb, ne-eqb, lt-ltb, le-ltb}
 use borrow.Rule.Slice.PartMut.{midOf}
 use lib.Dec.{eqb, ltb}
-use lib.ListN.{length, take, drop}
-use Rattle.trits.specs.Trit.{Trit, t0, anyTo}
+use lib.ListN.{length, getD, take, drop}
+use lib.Seq.{take-all}
+use Rattle.trits.specs.Trit.{t0, anyTo}
 use Rattle.trits.specs.Planes.{tritAt, wordsFor, pastEnd, Row}
 use Rattle.trits.specs.Rows.{rowPart, matrixAt, rowsPastEnd}
 use Rattle.trits.proofs.Reading.{read-past}
-use Rattle.trits.proofs.Parts.{length-mid, part-row, part-trit}
-use Rattle.trits.proofs.Tests.{any-found}
+use Rattle.trits.proofs.Parts.{length-mid, getD-mid, part-row, part-trit}
+use Rattle.trits.proofs.Tests.{none-any, nonzero-or, past-none, past-last}
 
 -- ---- where rows begin and end
 
@@ -110,15 +115,57 @@ module _ {ones twos : List ℕ} (rows w i : ℕ) (r : Row ones twos) (e : length
 abbrev pub rowPast : List ℕ → List ℕ → ℕ → ℕ → ℕ → Bool
 rowPast ones twos rows m i = pastEnd (rowPart ones rows (wordsFor m) i) (rowPart twos rows (wordsFor m) i) m
 
--- what the test of the parts a and b told
-pub past-told : {a b : List ℕ} {t x : Bool} (ones twos : List ℕ) (rows m i : ℕ) → a ≡ rowPart ones rows (wordsFor m) i → b ≡ rowPart twos rows (wordsFor m) i
-    → t ≡ pastEnd a b m → t ≡ x → rowPast ones twos rows m i ≡ x
-past-told ones twos rows m i p q e f = ap₂ (λ (c d : List ℕ). pastEnd c d m) (sym p) (sym q) ∙ sym e ∙ f
-
-pub rows-found : (ones twos : List ℕ) (rows m i : ℕ) → i < rows → rowPast ones twos rows m i ≡ true → true ≡ rowsPastEnd ones twos rows m
+-- no row has places past a length that fills its words
+pub rows-full : (ones twos : List ℕ) (rows m : ℕ) → length ones ≡ rows * wordsFor m → m % 64 ≡ 0 → false ≡ rowsPastEnd ones twos rows m
 unfolding rowsPastEnd
-rows-found ones twos rows m i l e = sym (any-found (rowPast ones twos rows m) i rows l e)
+rows-full ones twos rows m e z =
+    sym (none-any rows (rowPast ones twos rows m) (λ i l. sym (past-none _ _ m (part-length ones rows (wordsFor m) i e l) z)))
 
-pub rows-all : (ones twos : List ℕ) (rows m i : ℕ) → i ≡ rows → anyTo (rowPast ones twos rows m) i ≡ false → false ≡ rowsPastEnd ones twos rows m
+-- a turn that gathers the last words of row i, at q of the planes
+module _ (ones twos : List ℕ) (rows m i : ℕ) (eo : length ones ≡ rows * wordsFor m) (et : length twos ≡ rows * wordsFor m) (h : i < rows) (u : m % 64 ≡ 0 → ⊥) where
+  last-word : (plane : List ℕ) → length plane ≡ rows * wordsFor m → getD (rowPart plane rows (wordsFor m) i) (m / 64) 0 ≡ getD plane (i * wordsFor m + m / 64) 0
+  last-word plane e =
+      let n : m % 64 ≢ 0 = u in
+      ap (λ (l : List ℕ). getD l (m / 64) 0) (sym (part-there plane rows (wordsFor m) i e h))
+      ∙ getD-mid (i * wordsFor m) (wordsFor m) plane (omega (arith, row-le (wordsFor m) h)) (m / 64) (omega arith)
+
+  -- it stands within the planes
+  pub last-within : {q : ℕ} → q ≡ i * wordsFor m + m / 64 → q < rows * wordsFor m
+  last-within e = let n : m % 64 ≢ 0 = u in omega (arith, e, row-le (wordsFor m) h)
+
+  pub gather-turn : {q : ℕ} (x : ℕ) → q ≡ i * wordsFor m + m / 64 → Fits w64 (getD ones q 0) → Fits w64 (getD twos q 0)
+      → not (eqb (x / 2 ^ (m % 64)) 0) ≡ anyTo (rowPast ones twos rows m) i
+      → not (eqb (bitOr x (bitOr (getD ones q 0) (getD twos q 0)) / 2 ^ (m % 64)) 0) ≡ anyTo (rowPast ones twos rows m) (i + 1)
+  unfolding anyTo
+  gather-turn {q} x e ho ht p =
+      let w = wordsFor m in
+      let fo = last-word ones eo ∙ ap (λ (k : ℕ). getD ones k 0) (sym e) in
+      let ft = last-word twos et ∙ ap (λ (k : ℕ). getD twos k 0) (sym e) in
+      let told = past-last (rowPart ones rows w i) (rowPart twos rows w i) m (part-length ones rows w i eo h) u
+      (subst (λ (k : ℕ). Fits w64 k) (sym fo) ho) (subst (λ (k : ℕ). Fits w64 k) (sym ft) ht) in
+      ap (λ (k : ℕ). not (eqb k 0)) (or-shr x (bitOr (getD ones q 0) (getD twos q 0)) (m % 64))
+      ∙ nonzero-or (x / 2 ^ (m % 64)) (bitOr (getD ones q 0) (getD twos q 0) / 2 ^ (m % 64))
+      ∙ ap₂ _||_ p (ap₂ (λ (a b : ℕ). not (eqb (bitOr a b / 2 ^ (m % 64)) 0)) (sym fo) (sym ft) ∙ told)
+      ∙ ap (anyTo (rowPast ones twos rows m)) (sym (add-one i))
+
+pub gathered : (ones twos : List ℕ) (rows m i x : ℕ) → i ≡ rows → not (eqb (x / 2 ^ (m % 64)) 0) ≡ anyTo (rowPast ones twos rows m) i
+    → not (eqb (x / 2 ^ (m % 64)) 0) ≡ rowsPastEnd ones twos rows m
 unfolding rowsPastEnd
-rows-all ones twos rows m i p e = sym e ∙ ap (anyTo (rowPast ones twos rows m)) p
+gathered ones twos rows m i x p e = e ∙ ap (anyTo (rowPast ones twos rows m)) p
+
+-- the next row's last word
+pub last-next : (i w q k : ℕ) → q ≡ i * w + k → q + w ≡ (i + 1) * w + k
+last-next i w q k e = omega (arith, e, suc-mul i w, ap (λ (n : ℕ). n * w) (add-one i))
+
+-- ---- a plane of one row
+
+pub one-row : (plane : List ℕ) (w : ℕ) → length plane ≡ w → rowPart plane 1 w 0 ≡ plane
+one-row plane w e =
+    let z : 0 * w ≡ 0 = omega arith in
+    let s : length plane ≡ 1 * w = omega arith in
+    sym (part-there plane 1 w 0 s (omega arith)) ∙ ap (λ (n : ℕ). take w (drop n plane)) z ∙ take-all w plane (omega arith)
+
+-- the test of a plane of one row is the row's own
+pub one-row-past : (ones twos : List ℕ) (m : ℕ) → length ones ≡ wordsFor m → length twos ≡ wordsFor m → rowsPastEnd ones twos 1 m ≡ pastEnd ones twos m
+unfolding rowsPastEnd anyTo
+one-row-past ones twos m o t = ap₂ (λ (a b : List ℕ). pastEnd a b m) (one-row ones (wordsFor m) o) (one-row twos (wordsFor m) t)

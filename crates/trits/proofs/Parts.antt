@@ -1,15 +1,15 @@
 -- Parts of planes, as `&s[a..e]` and `&mut s[a..e]` lend them: what a part holds, and what the whole holds when the part is back. Assumes nothing.
 use mathlib.Core.Path.{_≡_, refl, sym, ap, ap₂, _∙_, subst, fun-ext}
 use mathlib.Core.List.{List, [], _++_, append-nil}
-use Prim.Native.Nat.{ℕ, zero, suc, _+_, _-_, _*_, _/_, _%_, _≤_, _<_}
+use Prim.Native.Nat.{ℕ, _+_, _-_, _*_, _/_, _%_, _≤_, _<_}
 use native.Mathlib.Decide.{decLt}
 use native.Mathlib.Omega.{arith}
-use lib.ListN.{length, getD, take, drop, length-append, length-drop, length-take, drop-of-length-le, List·getD-append, List·getD-eq-default}
+use lib.ListN.{length, getD, take, drop, length-drop, drop-of-length-le, List·getD-append, List·getD-eq-default}
 use lib.Seq.{length-take-le, getD-take, getD-drop, getD-append-add, take-all, drop-drop}
 use lib.Bits.{bitAnd}
 use borrow.Rule.Slice.PartMut.{midOf, putMid, same-len-mid}
-use Rattle.trits.specs.Trit.{Trit, t0, zipV, zipAt}
-use Rattle.trits.specs.Planes.{bit, trit, tritAt, Apart, Row, Reads}
+use Rattle.trits.specs.Trit.{Trit, zipV, zipAt}
+use Rattle.trits.specs.Planes.{bit, trit, tritAt, Row, Reads}
 use Rattle.trits.specs.Rows.{putWords}
 use Rattle.trits.proofs.Reading.{tritAt-word}
 use Rattle.trits.proofs.WordOps.{second-op}

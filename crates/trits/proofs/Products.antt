@@ -1,19 +1,19 @@
 -- Products of trits, sixty-four at a time, and their sum modulo 3 from two counts. Assumes nothing.
-use mathlib.Core.Path.{_≡_, refl, sym, ap, ap₂, _∙_, subst}
+use mathlib.Core.Path.{_≡_, refl, sym, ap, ap₂, _∙_}
 use mathlib.Core.List.{List}
 use Prim.Native.Nat.{ℕ, zero, suc, _+_, _*_, _%_, _^_, _≤_, _<_}
 use native.Mathlib.Omega.{arith}
 use lib.ListN.{getD}
 use mir.Syntax.{w64}
 use mir.Val.{Fits}
-use lib.Bits.{bitAnd, bitOr, and-lt, or-lt}
+use lib.Bits.{and-lt, or-lt}
 use lib.Count.{ones, ones-le}
 use Rattle.trits.specs.Trit.{Trit, t0, t1, t2, addT, mulT, number, tritOf, sumTo, dotV}
-use Rattle.trits.specs.Planes.{bit, one, two, tritAt, Apart}
+use Rattle.trits.specs.Planes.{one, two, tritAt, Apart}
 use Rattle.trits.proofs.Reading.{tritAt-place}
 use Rattle.trits.proofs.WordOps.{mulOnes, mulTwos, mul-op, op-ones, op-twos}
 use Rattle.trits.proofs.Counts.{count-word}
-use Rattle.trits.proofs.Arithmetic.{add-assoc, tritOf-add, number-tritOf}
+use Rattle.trits.proofs.Arithmetic.{tritOf-add, number-tritOf}
 
 -- the counts of the products that are 1, and of those that are 2
 abbrev pub onesOfDot : (ℕ → Trit) → (ℕ → Trit) → ℕ → ℕ

@@ -1,20 +1,20 @@
 -- One place: what is read there, a word with one bit changed, and the vector after a place was written. Assumes nothing.
-use mathlib.Core.Path.{_≡_, refl, sym, ap, ap₂, _∙_, subst, fun-ext}
+use mathlib.Core.Path.{_≡_, refl, sym, ap, ap₂, _∙_, fun-ext}
 use mathlib.Core.Logic.{_≢_}
 use mathlib.Core.Bool.{Bool, true, false, cond}
 use mathlib.Core.List.{List}
-use Prim.Native.Nat.{ℕ, zero, suc, _+_, _*_, _/_, _%_, _^_, _≤_, _<_}
-use native.Mathlib.Nat.{zero-lt-suc, one-mul, mod-eq-of-lt, pow-suc}
+use Prim.Native.Nat.{ℕ, zero, suc, _*_, _/_, _%_, _^_, _<_}
+use native.Mathlib.Nat.{one-mul, mod-eq-of-lt, pow-suc}
 use native.Mathlib.Decide.{ℕ-discrete}
 use native.Mathlib.Omega.{arith}
 use borrow.Author.Tests.{eq-eqb, ne-eqb}
 use lib.ListN.{length, getD, set, length-set}
 use lib.Seq.{getD-set-same, getD-set-other}
 use lib.Dec.{eqb, lit<}
-use lib.Bits.{bitAnd, bitOr, bitXor, and-mask, and-lt, or-lt, xor-lt, and-zero-r, or-zero-r, xor-zero-r, xor-self}
+use lib.Bits.{bitAnd, bitOr, bitXor, and-mask, and-lt, or-lt, xor-lt, and-zero-r, or-zero-r, xor-zero-r}
 use lib.Pow.{pow-lt}
-use Rattle.trits.specs.Trit.{Trit, t0, t1, t2, number, tritOf, putV}
-use Rattle.trits.specs.Planes.{bit, fromBits, trit, one, two, bitAt, tritAt, withBit, Row, Reads}
+use Rattle.trits.specs.Trit.{Trit, number, tritOf, putV}
+use Rattle.trits.specs.Planes.{bit, trit, one, two, bitAt, tritAt, withBit, Row, Reads}
 use Rattle.trits.proofs.Bits.{bit-and, bit-or, bit-xor, bit-lt, bit-none, bit-first, bit-next, from-bits, from-lt, bit-from, bits-eq}
 use Rattle.trits.proofs.Reading.{one-lt, two-lt, trit-of, and-one-two}
 

@@ -1,17 +1,16 @@
 -- The two planes of a vector: reading what was written gives it back; the written planes have no bit in both; planes with no bit in both are those of what they read.
 -- Assumes nothing.
 use mathlib.Core.Path.{_≡_, refl, sym, ap, ap₂, _∙_, subst, subst₂, fun-ext}
-use mathlib.Core.List.{List, [], _∷_}
-use Prim.Native.Nat.{ℕ, zero, suc, _+_, _*_, _/_, _%_, _^_, _≤_, _<_, zero-le, suc-le-suc}
-use native.Mathlib.Nat.{zero-lt-suc, not-suc-le-zero, le-of-suc-le-suc}
+use mathlib.Core.List.{List}
+use Prim.Native.Nat.{ℕ, zero, suc, _+_, _*_, _/_, _%_, _^_, _≤_, _<_}
 use native.Mathlib.Omega.{arith}
 use native.Mathlib.Decide.{decLt}
 use lib.ListN.{length, getD, List·getD-eq-default}
-use lib.Bits.{bitAnd, bitOr, bitXor, and-lt, and-comm}
+use lib.Bits.{bitAnd, and-lt, and-comm}
 use lib.Dec.{lit<}
 use Rattle.trits.specs.Trit.{Trit, t0, t1, t2, negT, negV}
-use Rattle.trits.specs.Planes.{bit, fromBits, trit, one, two, bitAt, tritAt, tabulate, onesWord, twosWord, onesOf, twosOf, Apart, Row, Holds, Reads}
-use Rattle.trits.proofs.Bits.{bit-and, bit-or, bit-xor, bit-lt, bit-none, bits-eq, from-lt, bit-from, from-bits}
+use Rattle.trits.specs.Planes.{bit, fromBits, trit, one, two, bitAt, tritAt, onesOf, twosOf, Apart, Row, Holds, Reads}
+use Rattle.trits.proofs.Bits.{bit-and, bit-lt, bit-none, bits-eq, from-lt, bit-from, from-bits}
 use Rattle.trits.proofs.Lists.{length-tabulate, getD-tabulate, tabulated}
 
 -- ---- a trit and its bits
@@ -151,10 +150,6 @@ read-holds ones twos n r l ho hw = record {
   twos-are = tabulated n _ twos (r .same ∙ l) (λ j _. twos-word (tritAt ones twos) j (getD twos j 0) (hw j) (λ b h. coded-at ones twos (r .apart) j b h .1));
 }
 
--- planes of one vector are planes of another that agrees with it
-pub holds-ext : (ones twos : List ℕ) (n : ℕ) (u v : ℕ → Trit) → Holds ones twos n u → ((i : ℕ) → u i ≡ v i) → Holds ones twos n v
-holds-ext ones twos n u v h e = subst (λ (f : ℕ → Trit). Holds ones twos n f) (fun-ext e) h
-
 -- planes that read as v are those of v
 pub reads-holds : (ones twos : List ℕ) (n : ℕ) (v : ℕ → Trit) → Reads ones twos n v → ((j : ℕ) → getD ones j 0 < 2 ^ 64) → ((j : ℕ) → getD twos j 0 < 2 ^ 64) → Holds ones twos n v
 reads-holds ones twos n v r ho hw = subst (λ (f : ℕ → Trit). Holds ones twos n f) (r .trits) (read-holds ones twos n (r .row) (r .size) ho hw)
@@ -162,6 +157,10 @@ reads-holds ones twos n v r ho hw = subst (λ (f : ℕ → Trit). Holds ones two
 -- planes that read as u read as what equals it
 pub reads-to : {ones twos : List ℕ} {n : ℕ} {u v : ℕ → Trit} → Reads ones twos n u → u ≡ v → Reads ones twos n v
 reads-to r e = record { row = r .row; size = r .size; trits = r .trits ∙ e }
+
+-- the words of planes that read as v, where there are n of them
+pub reads-words : {ones twos : List ℕ} {k n : ℕ} {v : ℕ → Trit} → Reads ones twos k v → k ≡ n → ((j : ℕ) → getD ones j 0 < 2 ^ 64) → ((j : ℕ) → getD twos j 0 < 2 ^ 64) → Holds ones twos n v
+reads-words {ones} {twos} {k} {n} {v} r e ho hw = reads-holds ones twos n v (record { row = r .row; size = r .size ∙ e; trits = r .trits }) ho hw
 
 -- so two pairs of planes that read alike are the same words
 pub same-words : {o t o′ t′ : List ℕ} {n : ℕ} {v : ℕ → Trit} → Holds o t n v → Holds o′ t′ n v → (o ≡ o′) × (t ≡ t′)

@@ -13,10 +13,10 @@ use native.Mathlib.Omega.{arith}
 use borrow.Author.Tests.{eq-eqb, ne-eqb, eqb-true, eqb-false}
 use lib.ListN.{length, getD, List·getD-eq-default}
 use lib.Dec.{eqb}
-use lib.Bits.{bitAnd, bitOr, and-lt, or-lt, or-zero-r}
+use lib.Bits.{bitAnd, bitOr, and-lt, or-lt}
 use lib.Pow.{shr-lt, shr-shr, pow-pos}
-use Rattle.trits.specs.Trit.{Trit, t0, anyTo}
-use Rattle.trits.specs.Planes.{bit, trit, bitAt, tritAt, bothAt, eitherAt, bothSet, pastEnd, wordsFor, Apart, Row}
+use Rattle.trits.specs.Trit.{t0, anyTo}
+use Rattle.trits.specs.Planes.{bit, trit, bitAt, tritAt, bothAt, eitherAt, bothSet, pastEnd, wordsFor, Apart}
 use Rattle.trits.proofs.Bits.{bit-and, bit-or, bit-lt, bit-none, bits-eq}
 use Rattle.trits.proofs.Reading.{bitAt-place, read-past}
 use Rattle.trits.proofs.WordOps.{no-bits}

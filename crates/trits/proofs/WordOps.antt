@@ -1,14 +1,12 @@
 -- Operations on trits, sixty-four at a time: what masks make of two pairs of words is the operation at each bit. A new operation is one `WordOp`. Assumes nothing.
-use mathlib.Core.Path.{_≡_, refl, sym, ap, ap₂, _∙_, subst, fun-ext}
-use mathlib.Core.Bool.{Bool, true, false, _&&_}
-use mathlib.Core.List.{List}
-use Prim.Native.Nat.{ℕ, zero, suc, _+_, _*_, _^_, _<_, _/_, _%_}
+use mathlib.Core.Path.{_≡_, refl, sym, ap, ap₂, _∙_}
+use Prim.Native.Nat.{ℕ, zero, suc, _^_, _<_}
 use native.Mathlib.Nat.{zero-lt-suc, pow-suc}
 use native.Mathlib.Omega.{arith}
 use lib.Dec.{T, eqb, eqb→eq}
 use lib.Pow.{pow-pos}
 use lib.Bits.{bitAnd, bitOr, bitXor}
-use Rattle.trits.specs.Trit.{Trit, t0, t1, t2, addT, subT, negT, mulT}
+use Rattle.trits.specs.Trit.{Trit, addT, negT, mulT}
 use Rattle.trits.specs.Planes.{bit, trit, one, two}
 use Rattle.trits.proofs.Bits.{bit-and, bit-or, bit-xor, bit-lt, bit-none, bits-eq}
 use Rattle.trits.proofs.Reading.{coded, trit-of, and-one-two}
@@ -25,7 +23,7 @@ pub record WordOp (F G : ℕ → ℕ → ℕ → ℕ → ℕ) (op : Trit → Tri
 pub table : (f g : Trit → Trit → ℕ) → T (every (λ x. every (λ y. eqb (f x y) (g x y)))) → (x y : Trit) → f x y ≡ g x y
 table f g h x y = eqb→eq (f x y) (g x y) (at (λ b. eqb (f x b) (g x b)) (at (λ a. every (λ b. eqb (f a b) (g a b))) h x) y)
 
--- ---- the sum, the difference and the product
+-- ---- the sum, the product and the negative
 
 abbrev pub carry : ℕ → ℕ → ℕ → ℕ → ℕ
 carry a b c d = bitXor (bitOr a d) (bitOr b c)
@@ -42,20 +40,6 @@ add-op = record {
   twos-bit = λ i a b c d. simp (bit-xor, bit-or);
   ones-table = table (λ x y. sumOnes (one x) (two x) (one y) (two y)) (λ x y. one (addT x y)) tt;
   twos-table = table (λ x y. sumTwos (one x) (two x) (one y) (two y)) (λ x y. two (addT x y)) tt;
-}
-
-abbrev pub subOnes : ℕ → ℕ → ℕ → ℕ → ℕ
-subOnes a b c d = sumOnes a b d c
-
-abbrev pub subTwos : ℕ → ℕ → ℕ → ℕ → ℕ
-subTwos a b c d = sumTwos a b d c
-
-pub sub-op : WordOp subOnes subTwos subT
-sub-op = record {
-  ones-bit = λ i a b c d. simp (bit-xor, bit-or);
-  twos-bit = λ i a b c d. simp (bit-xor, bit-or);
-  ones-table = table (λ x y. subOnes (one x) (two x) (one y) (two y)) (λ x y. one (subT x y)) tt;
-  twos-table = table (λ x y. subTwos (one x) (two x) (one y) (two y)) (λ x y. two (subT x y)) tt;
 }
 
 abbrev pub mulOnes : ℕ → ℕ → ℕ → ℕ → ℕ

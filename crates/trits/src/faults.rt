@@ -7,7 +7,6 @@ ghost use Rattle.trits.specs.Rows.{rowsPastEnd};
 ghost use Rattle.trits.specs.Refusal.{codeOf, planesRefusal};
 use super::refusal::Outcome;
 use super::refusal::Refusal;
-use super::words::row_part;
 
 // Whether a bit is set in both planes, of any number of rows.
 pub fn both_set(ones: &[u64], twos: &[u64]) -> bool
@@ -36,22 +35,25 @@ pub fn past_end(ones: &[u64], twos: &[u64], m: usize) -> bool
     (ones[last] | twos[last]) >> used != 0
 }
 
-// Whether a bit is set past the length in one of the rows, each of m trits.
+// Whether a bit is set past the length in one of the rows, each of m trits: the last words of all rows are gathered.
 pub fn rows_past_end(ones: &[u64], twos: &[u64], rows: usize, m: usize) -> bool
     requires { ⌜ (length (now ones) ≡ rows * wordsFor m) × (length (now twos) ≡ rows * wordsFor m) × (m ≤ 16384) ⌝ }
     ensures { λ r. ⌜ r ≡ rowsPastEnd (now (ones .entry)) (now (twos .entry)) rows m ⌝ }
 {
-    let words = (m + 63) / 64;
+    let used = m % 64;
+    if used == 0 {
+        return false;
+    }
+    let words = m / 64 + 1;
+    let mut last = m / 64;
+    let mut past: u64 = 0;
     let mut i = 0;
     while i < rows {
-        let a = row_part(ones, rows, words, i);
-        let b = row_part(twos, rows, words, i);
-        if past_end(a, b, m) {
-            return true;
-        }
+        past = past | (ones[last] | twos[last]);
+        last += words;
         i += 1;
     }
-    false
+    past >> used != 0
 }
 
 // The contents of one pair of planes: a bit in both, over the whole buffer, before a bit past the length.

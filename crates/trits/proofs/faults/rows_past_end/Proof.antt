@@ -1,25 +1,29 @@
--- Each row is handed out as a part and tested; the search ends at the first that has a bit past the length (`rows-found`), or at the last row (`rows-all`).
+-- Only the last word of a row has places past the length; the bits of the last words are gathered row by row (`gather-turn`), and one is set from bit m % 64 on where some row has it.
 -- Assumes nothing.
-use Prim.Native.Nat.{_-_, _≤_}
-use mathlib.Core.Path.{_≡_, refl, ap, _∙_}
+use Prim.Native.Nat.{ℕ, _+_, _-_, _*_, _/_, _%_, _≤_, _<_, _^_}
+use mathlib.Core.Path.{_≡_, ap, _∙_}
 use native.Mathlib.Omega.{arith}
+use native.Mathlib.Nat.{zero-div}
 use borrow.Author.Needs.{needs}
-use lib.ListN.{length}
 use denote.Ref.{now}
-use mathlib.Core.Bool.{false}
+use mathlib.Core.Bool.{not, false}
+use lib.Dec.{eqb}
 use Rattle.trits.specs.Trit.{anyTo}
 use Rattle.trits.specs.Planes.{wordsFor}
-use Rattle.trits.proofs.Tests.{any-passed}
-use Rattle.trits.proofs.Matrix.{rowPast, part-length, past-told, rows-found, rows-all}
+use Rattle.trits.proofs.Matrix.{rowPast, rows-full, last-within, last-next, gather-turn, gathered}
 use Rattle.trits.proofs.faults.rows_past_end.Statement.{statement}
 use Rattle.trits.proofs.faults.rows_past_end.Tie as tie
 
 abbrev Inv-loop : tie.InvT-loop
-Inv-loop ones twos rows m words i₀ i =
-    (i ≤ rows) × (anyTo (rowPast ones twos rows m) i ≡ false)
+Inv-loop ones twos rows m used words last₀ past₀ i₀ last past i =
+    (i ≤ rows) × (last ≡ i * wordsFor m + m / 64) × (not (eqb (past / 2 ^ (m % 64)) 0) ≡ anyTo (rowPast ones twos rows m) i)
 
 abbrev μ-loop : tie.MeasureT-loop
-μ-loop ones twos rows m words i₀ i = rows - i
+μ-loop ones twos rows m used words last₀ past₀ i₀ last past i = rows - i
+
+returns : tie.Need-returns Inv-loop μ-loop
+returns c =
+    rows-full _ _ (c .before .args .rows) (c .before .args .m) (c .before .pre .0) (c .if1 .taken)
 
 add-words : tie.Need-add-words Inv-loop μ-loop
 add-words c = search needs
@@ -27,50 +31,67 @@ add-words c = search needs
 loop-holds : tie.Need-loop-holds Inv-loop μ-loop
 unfolding anyTo
 loop-holds c =
-    (omega arith, refl)
+    let z : not (eqb (0 / 2 ^ (c .before .args .m % 64)) 0) ≡ false = ap (λ (n : ℕ). not (eqb n 0)) (zero-div (2 ^ (c .before .args .m % 64))) in
+    (omega arith, omega arith, z)
 
-row-part-requires : tie.Need-row-part-requires Inv-loop μ-loop
-row-part-requires c κs = search needs
+-- the last word of row i stands within the planes
+within : (c : tie.In-loop Inv-loop μ-loop) → c .before .loop .last < c .before .before .before .args .rows * wordsFor (c .before .before .before .args .m)
+within c =
+    let l = c .before .loop in
+    let a = c .before .before .before .args in
+    last-within (now (a .ones)) (now (a .twos)) (a .rows) (a .m) (l .i) (c .before .before .before .pre .0) (c .before .before .before .pre .1) (c .loop-test .taken) (c .before .before .if1 .left) (l .inv .1)
 
-row-part-requires-2 : tie.Need-row-part-requires-2 Inv-loop μ-loop
-row-part-requires-2 c κs = search needs
+-- a row has one word more than those that its length fills
+words : (c : tie.In-loop Inv-loop μ-loop) → c .before .before .before .args .m / 64 + 1 ≡ wordsFor (c .before .before .before .args .m)
+words c = omega arith
 
-past-end-requires : tie.Need-past-end-requires Inv-loop μ-loop
-past-end-requires c κs =
-    let s = c .before .before .before in
-    let a = s .before .before .before .args in
-    let i = s .loop .i in (
-      ap length (c .before .row-part .ensures) ∙ part-length (now (a .ones)) (a .rows) (wordsFor (a .m)) i (s .before .before .before .pre .0) (omega arith),
-      ap length (c .row-part2 .ensures) ∙ part-length (now (a .twos)) (a .rows) (wordsFor (a .m)) i (s .before .before .before .pre .1) (omega arith),
-    )
+mul-past : tie.Need-mul-past Inv-loop μ-loop
+mul-past c =
+    omega (arith, within c)
 
-returns : tie.Need-returns Inv-loop μ-loop
-returns c =
-    let s = c .before .before .before .before .before in
-    let a = s .before .before .before .args in
-    rows-found (now (a .ones)) (now (a .twos)) (a .rows) (a .m) (s .loop .i) (omega arith)
-    (past-told (now (a .ones)) (now (a .twos)) (a .rows) (a .m) (s .loop .i) (c .before .before .before .row-part .ensures) (c .before .before .row-part2 .ensures) (c .before .past-end .ensures) (c .if1 .taken))
+shared-slice-read-past : tie.Need-shared-slice-read-past Inv-loop μ-loop
+shared-slice-read-past c =
+    omega (arith, within (c .before))
+
+mul-past-2 : tie.Need-mul-past-2 Inv-loop μ-loop
+mul-past-2 c =
+    omega (arith, within (c .before))
+
+shared-slice-read-past-2 : tie.Need-shared-slice-read-past-2 Inv-loop μ-loop
+shared-slice-read-past-2 c =
+    omega (arith, within (c .before .before))
+
+add-last : tie.Need-add-last Inv-loop μ-loop
+add-last c =
+    omega (arith, within (c .before .before))
 
 add-i : tie.Need-add-i Inv-loop μ-loop
 add-i c = search needs
 
 loop-less : tie.Need-loop-less Inv-loop μ-loop
-loop-less c = search needs
+loop-less c =
+    omega arith
 
 loop-again : tie.Need-loop-again Inv-loop μ-loop
 loop-again c =
-    let s = c .before .before .before .before .before in
-    let a = s .before .before .before .args in (
+    let s = c .before .before .before in
+    let l = s .loop in
+    let a = s .before .before .args in
+    let p = s .before .before .pre in
+    let w = ap (λ (n : ℕ). l .last + n) (words (c .before .before)) in (
       omega arith,
-      any-passed (rowPast (now (a .ones)) (now (a .twos)) (a .rows) (a .m)) (s .loop .i) (s .loop .inv .1)
-          (past-told (now (a .ones)) (now (a .twos)) (a .rows) (a .m) (s .loop .i) (c .before .before .before .row-part .ensures) (c .before .before .row-part2 .ensures) (c .before .past-end .ensures) (c .if1 .left)),
+      w ∙ last-next (l .i) (wordsFor (a .m)) (l .last) (a .m / 64) (l .inv .1),
+      gather-turn (now (a .ones)) (now (a .twos)) (a .rows) (a .m) (l .i) (p .0) (p .1) (c .before .before .loop-test .taken) (s .before .if1 .left) (l .past) (l .inv .1)
+          (c .before .shared-slice-known .given (l .last)) (c .shared-slice-known2 .given (l .last)) (l .inv .2),
     )
+
+shr-result : tie.Need-shr-result Inv-loop μ-loop
+shr-result c = search needs
 
 returns-2 : tie.Need-returns-2 Inv-loop μ-loop
 returns-2 c =
     let s = c .before in
-    let a = s .before .before .before .args in
-    rows-all (now (a .ones)) (now (a .twos)) (a .rows) (a .m) (s .loop .i) (omega arith) (s .loop .inv .1)
+    gathered _ _ (s .before .before .args .rows) (s .before .before .args .m) (s .loop .i) (s .loop .past) (omega arith) (s .loop .inv .2)
 
 pub rows-past-end-spec : {M : Type 1} → statement M
 rows-past-end-spec =
@@ -78,13 +99,16 @@ rows-past-end-spec =
     (tie.spec
     Inv-loop
     μ-loop
+    returns
     add-words
     loop-holds
-    row-part-requires
-    row-part-requires-2
-    past-end-requires
-    returns
+    mul-past
+    shared-slice-read-past
+    mul-past-2
+    shared-slice-read-past-2
+    add-last
     add-i
     loop-less
     loop-again
+    shr-result
     returns-2)

@@ -1,0 +1,71 @@
+-- A turn adds the source once more (`added-turn`).
+-- Assumes nothing.
+use Prim.Native.Nat.{_-_, _≤_}
+use mathlib.Core.Path.{_≡_, refl, sym, _∙_}
+use native.Mathlib.Omega.{arith}
+use lib.ListN.{length}
+use Rattle.trits.specs.Planes.{tritAt, Reads}
+use Rattle.bench.specs.{addedTo}
+use Rattle.bench.proofs.Laws.{added-turn}
+use Rattle.bench.proofs.add_times.Statement.{statement}
+use Rattle.bench.proofs.add_times.Tie as tie
+
+abbrev Inv-loop : tie.InvT-loop
+Inv-loop ones₀ twos₀ so st times i₀ ones twos i =
+    (i ≤ times) × Reads ones twos (length ones₀) (addedTo i (tritAt ones₀ twos₀) (tritAt so st))
+
+abbrev μ-loop : tie.MeasureT-loop
+μ-loop ones₀ twos₀ so st times i₀ ones twos i = times - i
+
+loop-holds : tie.Need-loop-holds Inv-loop μ-loop
+unfolding addedTo
+loop-holds c =
+    (omega arith, record { row = c .before .before .before .before .pre .0; size = refl; trits = refl })
+
+add-row-requires : tie.Need-add-row-requires Inv-loop μ-loop
+add-row-requires c κs =
+    let s = c .before .before .before in
+    let r = s .loop .inv .1 in
+    (r .row, (s .before .before .before .before .before .pre .1 .0, s .before .before .before .before .before .pre .1 .1 ∙ sym (r .size)))
+
+add-i : tie.Need-add-i Inv-loop μ-loop
+add-i c =
+    omega arith
+
+loop-less : tie.Need-loop-less Inv-loop μ-loop
+loop-less c =
+    omega arith
+
+loop-again : tie.Need-loop-again Inv-loop μ-loop
+loop-again c =
+    let s = c .before .before .before .before .before .before .before .before in
+    (omega arith, added-turn (s .loop .i) _ _ (s .loop .inv .1) (c .before .before .before .before .add-row .ensures))
+
+same-length : tie.Need-same-length Inv-loop μ-loop
+same-length c =
+    c .before .loop .inv .1 .size
+
+same-length-2 : tie.Need-same-length-2 Inv-loop μ-loop
+same-length-2 c =
+    c .before .loop .inv .1 .row .same ∙ c .before .loop .inv .1 .size ∙ sym (c .before .before .before .before .before .before .pre .0 .same)
+
+returns : tie.Need-returns Inv-loop μ-loop
+returns c =
+    let l = c .before .loop in
+    let e : l .i ≡ c .before .before .before .before .before .before .args .times = omega arith in
+    rw (← e) (l .inv .1)
+
+pub add-times-spec : {M : Type 1} → statement M
+add-times-spec =
+    tie.close
+    (tie.spec
+    Inv-loop
+    μ-loop
+    loop-holds
+    add-row-requires
+    add-i
+    loop-less
+    loop-again
+    same-length
+    same-length-2
+    returns)

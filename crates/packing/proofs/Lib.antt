@@ -1,0 +1,7 @@
+-- The laws that the functions' proofs cite, and that callers may.
+pub mod Digits
+pub mod Keeping
+pub mod Putting
+pub mod Turned
+pub mod RoundTrip
+pub mod Cases

@@ -1,0 +1,84 @@
+-- Each return has the number of the first test that applies; the bytes are written once nothing is refused.
+-- Assumes nothing.
+use mathlib.Core.Path.{sym, _∙_}
+use native.Mathlib.Omega.{arith}
+use borrow.Author.Needs.{needs}
+use lib.Dec.{lit<}
+use Rattle.trits.proofs.Refusals.{exit-kept, exit-new}
+use Rattle.packing.specs.Calls.{packExit}
+use Rattle.packing.proofs.Turned.{pack-size, pack-ones, pack-twos, pack-bytes, pack-passed}
+use Rattle.packing.proofs.pack.Statement.{statement}
+use Rattle.packing.proofs.pack.Tie as tie
+
+returns : tie.Need-returns
+unfolding packExit
+returns c =
+    let e = pack-size _ _ _ _ (c .if1 .taken) in
+    (e, exit-kept _ _ e (lit< tt))
+
+add-words : tie.Need-add-words
+add-words c = search needs
+
+returns-2 : tie.Need-returns-2
+unfolding packExit
+returns-2 c =
+    let e = pack-ones _ _ _ _ (c .before .if1 .left) (c .if2 .taken) in
+    (e, exit-kept _ _ e (lit< tt))
+
+returns-3 : tie.Need-returns-3
+unfolding packExit
+returns-3 c =
+    let e = pack-twos _ _ _ _ (c .before .before .if1 .left) (c .before .if2 .left) (c .if3 .taken) in
+    (e, exit-kept _ _ e (lit< tt))
+
+add-if4 : tie.Need-add-if4
+add-if4 c = search needs
+
+returns-4 : tie.Need-returns-4
+unfolding packExit
+returns-4 c =
+    let e = pack-bytes _ _ _ _ (c .before .before .before .if1 .left) (c .before .before .if2 .left) (c .before .if3 .left) (c .if4 .taken) in
+    (e, exit-kept _ _ e (lit< tt))
+
+test-planes-requires : tie.Need-test-planes-requires
+test-planes-requires c κs = search needs
+
+code-requires : tie.Need-code-requires
+code-requires c κs = search needs
+
+returns-5 : tie.Need-returns-5
+unfolding packExit
+returns-5 c =
+    let e = c .before .before .test-planes .ensures ∙ pack-passed _ _ _ _ (c .before .before .before .before .before .before .if1 .left) (c .before .before .before .if4 .left) (c .before .before .before .before .before .if2 .left) (c .before .before .before .before .if3 .left) in
+    (e, exit-kept _ _ (c .before .code .ensures ∙ e) (omega arith))
+
+read-bytes-requires : tie.Need-read-bytes-requires
+read-bytes-requires c κs =
+    omega arith
+
+same-length : tie.Need-same-length
+same-length c = search needs
+
+returns-6 : tie.Need-returns-6
+unfolding packExit
+returns-6 c =
+    let e = c .before .before .before .before .before .before .test-planes .ensures ∙ pack-passed _ _ _ _ (c .before .before .before .before .before .before .before .before .before .before .if1 .left) (c .before .before .before .before .before .before .before .if4 .left) (c .before .before .before .before .before .before .before .before .before .if2 .left) (c .before .before .before .before .before .before .before .before .if3 .left) in
+    let z = sym e ∙ sym (c .before .before .before .before .before .code .ensures) ∙ c .before .before .before .before .if5 .left in
+    (sym z, c .before .before .read-bytes .ensures ∙ exit-new _ _ z)
+
+pub pack-spec : {M : Type 1} → statement M
+pack-spec =
+    tie.close
+    (tie.spec
+    returns
+    add-words
+    returns-2
+    returns-3
+    add-if4
+    returns-4
+    test-planes-requires
+    code-requires
+    returns-5
+    read-bytes-requires
+    same-length
+    returns-6)

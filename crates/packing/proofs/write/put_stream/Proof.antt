@@ -1,0 +1,83 @@
+-- After each byte the row holds the first trits of the stream, as many as the bytes read so far give (`Stands`, `reads-next`).
+-- Assumes nothing.
+use Prim.Native.Nat.{_-_, _<_}
+use mathlib.Core.Path.{sym, _∙_}
+use native.Mathlib.Omega.{arith}
+use lib.ListN.{length}
+use denote.Ref.{now}
+use Rattle.trits.specs.Planes.{Reads}
+use Rattle.packing.specs.Stream.{streamRow}
+use Rattle.packing.proofs.Putting.{Stands, stands-none, stands-more, stands-next, reads-next, stands-all}
+use Rattle.packing.proofs.write.put_stream.Statement.{statement}
+use Rattle.packing.proofs.write.put_stream.Tie as tie
+
+abbrev Inv-loop : tie.InvT-loop
+Inv-loop m bytes ones₀ twos₀ at₀ i₀ ones twos at i =
+    Stands m bytes at i × Reads ones twos (length ones₀) (streamRow at bytes)
+
+abbrev μ-loop : tie.MeasureT-loop
+μ-loop m bytes ones₀ twos₀ at₀ i₀ ones twos at i = length bytes - i
+
+loop-holds : tie.Need-loop-holds Inv-loop μ-loop
+loop-holds c =
+    (stands-none _ _, c .before .before .before .pre .0)
+
+-- there is a byte to read
+more : (c : tie.In-loop Inv-loop μ-loop) → c .before .loop .i < length (now (c .before .before .before .before .before .args .bytes))
+more c = stands-more (c .before .loop .inv .0) (c .loop-test .taken) (c .before .before .before .before .before .pre .1 .0)
+
+shared-slice-read-put-next : tie.Need-shared-slice-read-put-next Inv-loop μ-loop
+shared-slice-read-put-next c =
+    more (c .before)
+
+put-next-requires : tie.Need-put-next-requires Inv-loop μ-loop
+put-next-requires c κs =
+    let s = c .before .before .before .before in
+    let r = s .loop .inv .1 in
+    (r .row, omega (arith, s .loop .inv .0 .within, r .size))
+
+add-i : tie.Need-add-i Inv-loop μ-loop
+add-i c =
+    omega (arith, more (c .before .before .before .before .before .before .before .before))
+
+loop-less : tie.Need-loop-less Inv-loop μ-loop
+loop-less c =
+    omega (arith, more (c .before .before .before .before .before .before .before .before))
+
+loop-again : tie.Need-loop-again Inv-loop μ-loop
+loop-again c =
+    let s = c .before .before .before .before .before .before .before .before .before in
+    let e = c .before .before .before .before .put-next .ensures in (
+      stands-next (s .loop .inv .0) (c .before .before .before .before .before .before .before .before .loop-test .taken) (more (c .before .before .before .before .before .before .before .before)) (e .0),
+      reads-next (s .loop .inv .0) (c .before .before .before .before .before .before .before .before .loop-test .taken) (more (c .before .before .before .before .before .before .before .before)) (s .loop .inv .1) (e .0) (e .1),
+    )
+
+same-length : tie.Need-same-length Inv-loop μ-loop
+same-length c =
+    c .before .loop .inv .1 .size
+
+same-length-2 : tie.Need-same-length-2 Inv-loop μ-loop
+same-length-2 c =
+    c .before .loop .inv .1 .row .same ∙ c .before .loop .inv .1 .size ∙ sym (c .before .before .before .before .before .pre .0 .row .same)
+
+returns : tie.Need-returns Inv-loop μ-loop
+returns c =
+    let l = c .before .loop in
+    let e = stands-all (l .inv .0) (c .loop-test .left) in
+    rw (← e) (l .inv .1)
+
+pub put-stream-spec : {M : Type 1} → statement M
+put-stream-spec =
+    tie.close
+    (tie.spec
+    Inv-loop
+    μ-loop
+    loop-holds
+    shared-slice-read-put-next
+    put-next-requires
+    add-i
+    loop-less
+    loop-again
+    same-length
+    same-length-2
+    returns)

@@ -1,0 +1,29 @@
+-- No byte is skipped, so the stream's row is the packed row (`kept-row`).
+-- Assumes nothing.
+use borrow.Author.Needs.{needs}
+use denote.Ref.{now}
+use Rattle.trits.proofs.Reading.{reads-to}
+use Rattle.packing.proofs.Keeping.{kept-enough, kept-row}
+use Rattle.packing.proofs.Turned.{bytes-passed}
+use Rattle.packing.proofs.write.write_packed.Statement.{statement}
+use Rattle.packing.proofs.write.write_packed.Tie as tie
+
+write-stream-requires : tie.Need-write-stream-requires
+write-stream-requires c κs =
+    let s = c .before .before .before .before .before in
+    let e = bytes-passed (now (s .args .bytes)) (s .pre .1) in
+    (s .pre .0 .0, kept-enough _ _ e (s .pre .0 .1), s .pre .0 .2, s .pre .0 .3)
+
+same-length : tie.Need-same-length
+same-length c = search needs
+
+same-length-2 : tie.Need-same-length-2
+same-length-2 c = search needs
+
+returns : tie.Need-returns
+returns c =
+    let s = c .before .before .before .before .before .before .before .before .before .before in
+    reads-to (c .before .before .before .before .write-stream .ensures) (kept-row (s .args .m) _ (bytes-passed _ (s .pre .1)))
+
+pub write-packed-spec : {M : Type 1} → statement M
+write-packed-spec = tie.close (tie.spec write-stream-requires same-length same-length-2 returns)

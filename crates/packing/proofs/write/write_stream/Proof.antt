@@ -1,0 +1,51 @@
+-- Both planes are made 0, and then the stream's trits are put.
+-- Assumes nothing.
+use mathlib.Core.Path.{ap, _∙_}
+use native.Mathlib.Omega.{arith}
+use borrow.Author.Needs.{needs}
+use lib.ListN.{length}
+use denote.Ref.{now}
+use Rattle.trits.proofs.Ends.{zeros-hold}
+use Rattle.trits.proofs.Lists.{length-zeros}
+use Rattle.packing.specs.Stream.{streamRow, kept}
+use Rattle.packing.specs.Packed.{packedAt}
+use Rattle.packing.proofs.write.write_stream.Statement.{statement}
+use Rattle.packing.proofs.write.write_stream.Tie as tie
+
+zero-words-requires : tie.Need-zero-words-requires
+zero-words-requires c κs = search needs
+
+zero-words-requires-2 : tie.Need-zero-words-requires-2
+zero-words-requires-2 c κs = search needs
+
+put-stream-requires : tie.Need-put-stream-requires
+unfolding streamRow
+put-stream-requires c κs =
+    let s = c .before .before .before .before .before .before .before .before .before .before .before .before .before in
+    let eo = c .before .before .before .before .before .before .before .before .zero-words .ensures in
+    let et = c .before .before .before .before .zero-words2 .ensures in
+    let l = ap length eo ∙ length-zeros (length (now (s .args .ones))) in
+    (zeros-hold (packedAt (kept (now (s .args .bytes)))) eo et (s .pre .0), omega (arith, l))
+
+same-length : tie.Need-same-length
+same-length c = search needs
+
+same-length-2 : tie.Need-same-length-2
+same-length-2 c = search needs
+
+returns : tie.Need-returns
+returns c =
+    let s = c .before .before .before .before .before .before .before .before .before .before .before .before .before .before .before .before .before .before in
+    let l = ap length (c .before .before .before .before .before .before .before .before .before .before .before .before .before .zero-words .ensures) ∙ length-zeros (length (now (s .args .ones))) in
+    rw l at (c .before .before .before .before .put-stream .ensures)
+
+pub write-stream-spec : {M : Type 1} → statement M
+write-stream-spec =
+    tie.close
+    (tie.spec
+    zero-words-requires
+    zero-words-requires-2
+    put-stream-requires
+    same-length
+    same-length-2
+    returns)

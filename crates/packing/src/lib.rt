@@ -1,0 +1,86 @@
+// Trits packed five to a byte, and trits of a byte stream: the calls.
+pub mod table; // the five trits of each byte
+pub mod write; // a row written from bytes
+pub mod read; // bytes made from a row
+
+ghost use mathlib.Core.Path.{_≡_};
+ghost use Rattle.trits.specs.Refusal.{codeOf};
+ghost use Rattle.packing.specs.Calls.{packRefusal, packExit, unpackRefusal, unpackOnes, unpackTwos, streamRefusal, streamOnes, streamTwos};
+use trits::refusal::Outcome;
+use trits::refusal::Refusal;
+
+// A row of m trits is packed into bytes.
+pub fn pack(m: usize, ones: &[u64], twos: &[u64], bytes: &mut [u8]) -> Outcome
+    ensures { λ r. ⌜ codeOf r ≡ packRefusal m (now (ones .entry)) (now (twos .entry)) (now (bytes .entry)) ⌝ }
+    ensures { λ _. ⌜ now (bytes .exit) ≡ packExit m (now (ones .entry)) (now (twos .entry)) (now (bytes .entry)) ⌝ }
+{
+    if m > 16384 {
+        return Outcome::Refused(Refusal::Size);
+    }
+    let words = (m + 63) / 64;
+    if ones.len() != words {
+        return Outcome::Refused(Refusal::Length);
+    }
+    if twos.len() != words {
+        return Outcome::Refused(Refusal::Length);
+    }
+    if bytes.len() != (m + 4) / 5 {
+        return Outcome::Refused(Refusal::Length);
+    }
+    let tested = trits::faults::test_planes(ones, twos, 1, m);
+    if trits::refusal::code(tested) != 0 {
+        return tested;
+    }
+    read::read_bytes(m, ones, twos, bytes);
+    Outcome::Done
+}
+
+// Bytes are unpacked into a row of m trits.
+pub fn unpack(m: usize, bytes: &[u8], ones: &mut [u64], twos: &mut [u64]) -> Outcome
+    ensures { λ r. ⌜ codeOf r ≡ unpackRefusal m (now (bytes .entry)) (now (ones .entry)) (now (twos .entry)) ⌝ }
+    ensures { λ _. ⌜ now (ones .exit) ≡ unpackOnes m (now (bytes .entry)) (now (ones .entry)) (now (twos .entry)) ⌝ }
+    ensures { λ _. ⌜ now (twos .exit) ≡ unpackTwos m (now (bytes .entry)) (now (ones .entry)) (now (twos .entry)) ⌝ }
+{
+    if m > 16384 {
+        return Outcome::Refused(Refusal::Size);
+    }
+    if bytes.len() != (m + 4) / 5 {
+        return Outcome::Refused(Refusal::Length);
+    }
+    let words = (m + 63) / 64;
+    if ones.len() != words {
+        return Outcome::Refused(Refusal::Length);
+    }
+    if twos.len() != words {
+        return Outcome::Refused(Refusal::Length);
+    }
+    let tested = write::test_bytes(bytes);
+    if trits::refusal::code(tested) != 0 {
+        return tested;
+    }
+    write::write_packed(m, bytes, ones, twos);
+    Outcome::Done
+}
+
+// A stream of bytes becomes a row of m trits.
+pub fn from_stream(m: usize, bytes: &[u8], ones: &mut [u64], twos: &mut [u64]) -> Outcome
+    ensures { λ r. ⌜ codeOf r ≡ streamRefusal m (now (bytes .entry)) (now (ones .entry)) (now (twos .entry)) ⌝ }
+    ensures { λ _. ⌜ now (ones .exit) ≡ streamOnes m (now (bytes .entry)) (now (ones .entry)) (now (twos .entry)) ⌝ }
+    ensures { λ _. ⌜ now (twos .exit) ≡ streamTwos m (now (bytes .entry)) (now (ones .entry)) (now (twos .entry)) ⌝ }
+{
+    if m > 16384 {
+        return Outcome::Refused(Refusal::Size);
+    }
+    let words = (m + 63) / 64;
+    if ones.len() != words {
+        return Outcome::Refused(Refusal::Length);
+    }
+    if twos.len() != words {
+        return Outcome::Refused(Refusal::Length);
+    }
+    if write::too_short(m, bytes) {
+        return Outcome::Refused(Refusal::StreamEnd);
+    }
+    write::write_stream(m, bytes, ones, twos);
+    Outcome::Done
+}

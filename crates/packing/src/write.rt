@@ -1,0 +1,130 @@
+// A row written from bytes, those of 243 or more being skipped.
+ghost use mathlib.Core.Path.{_≡_};
+ghost use Prim.Native.Nat.{_+_, _*_, _≤_, _<_};
+ghost use lib.ListN.{length};
+ghost use Rattle.trits.specs.Planes.{tritAt, Row, Reads};
+ghost use Rattle.trits.specs.Refusal.{codeOf};
+ghost use Rattle.packing.specs.Packed.{badByte, packedRefusal, packedRow};
+ghost use Rattle.packing.specs.Stream.{kept, streamRow, tooShort};
+ghost use Rattle.packing.specs.Steps.{gives, missing, withByte};
+use super::table::trit;
+use trits::refusal::Outcome;
+use trits::refusal::Refusal;
+
+// Whether a byte is above 242.
+pub fn bad_byte(bytes: &[u8]) -> bool
+    ensures { λ r. ⌜ r ≡ badByte (now (bytes .entry)) ⌝ }
+{
+    let mut i = 0;
+    while i < bytes.len() {
+        if bytes[i] > 242 {
+            return true;
+        }
+        i += 1;
+    }
+    false
+}
+
+// The contents of a packed row.
+pub fn test_bytes(bytes: &[u8]) -> Outcome
+    ensures { λ r. ⌜ codeOf r ≡ packedRefusal (now (bytes .entry)) ⌝ }
+{
+    if bad_byte(bytes) {
+        return Outcome::Refused(Refusal::PackedByte);
+    }
+    Outcome::Done
+}
+
+// How many trits are missing after one more byte.
+fn count_byte(left: usize, b: u8) -> usize
+    ensures { λ r. ⌜ r ≡ missing left b ⌝ }
+{
+    if b > 242 {
+        return left;
+    }
+    if left < 5 {
+        return 0;
+    }
+    left - 5
+}
+
+// Whether the stream ends before m trits.
+pub fn too_short(m: usize, bytes: &[u8]) -> bool
+    ensures { λ r. ⌜ r ≡ tooShort m (now (bytes .entry)) ⌝ }
+{
+    let mut left = m;
+    let mut i = 0;
+    while i < bytes.len() {
+        if left == 0 {
+            return false;
+        }
+        left = count_byte(left, bytes[i]);
+        i += 1;
+    }
+    left != 0
+}
+
+// The first `count` trits of a byte are put at the places from `at` on.
+fn put_byte(b: u8, ones: &mut [u64], twos: &mut [u64], at: usize, count: usize)
+    requires { ⌜ Row (now ones) (now twos) ⌝ }
+    requires { ⌜ (b < 243) × (count ≤ 5) × (at + count ≤ 64 * length (now ones)) × (length (now ones) ≤ 65536) ⌝ }
+    ensures { λ _. ⌜ Reads (now (ones .exit)) (now (twos .exit)) (length (now (ones .entry))) (withByte (tritAt (now (ones .entry)) (now (twos .entry))) b at count) ⌝ }
+{
+    let mut k = 0;
+    while k < count {
+        trits::places::put_trit(ones, twos, at + k, trit(b, k));
+        k += 1;
+    }
+}
+
+// The trits that a byte gives are put at the places from `at` on, up to m; the next place is returned.
+fn put_next(m: usize, b: u8, ones: &mut [u64], twos: &mut [u64], at: usize) -> usize
+    requires { ⌜ Row (now ones) (now twos) ⌝ }
+    requires { ⌜ (at ≤ m) × (m ≤ 64 * length (now ones)) × (length (now ones) ≤ 65536) ⌝ }
+    ensures { λ r. ⌜ r ≡ at + gives m at b ⌝ }
+    ensures { λ _. ⌜ Reads (now (ones .exit)) (now (twos .exit)) (length (now (ones .entry))) (withByte (tritAt (now (ones .entry)) (now (twos .entry))) b at (gives m at b)) ⌝ }
+{
+    if b > 242 {
+        return at;
+    }
+    let left = m - at;
+    if left < 5 {
+        put_byte(b, ones, twos, at, left);
+        return at + left;
+    }
+    put_byte(b, ones, twos, at, 5);
+    at + 5
+}
+
+// The bytes' trits are written to the first places of planes that are 0.
+fn put_stream(m: usize, bytes: &[u8], ones: &mut [u64], twos: &mut [u64])
+    requires { ⌜ Reads (now ones) (now twos) (length (now ones)) (streamRow 0 (now bytes)) ⌝ }
+    requires { ⌜ (m ≤ 5 * length (kept (now bytes))) × (m ≤ 64 * length (now ones)) × (length (now ones) ≤ 65536) ⌝ }
+    ensures { λ _. ⌜ Reads (now (ones .exit)) (now (twos .exit)) (length (now (ones .entry))) (streamRow m (now (bytes .entry))) ⌝ }
+{
+    let mut at = 0;
+    let mut i = 0;
+    while at < m {
+        at = put_next(m, bytes[i], ones, twos, at);
+        i += 1;
+    }
+}
+
+// The row of m trits of a stream that has as many; what the planes held before is gone.
+pub fn write_stream(m: usize, bytes: &[u8], ones: &mut [u64], twos: &mut [u64])
+    requires { ⌜ (length (now twos) ≡ length (now ones)) × (m ≤ 5 * length (kept (now bytes))) × (m ≤ 64 * length (now ones)) × (length (now ones) ≤ 65536) ⌝ }
+    ensures { λ _. ⌜ Reads (now (ones .exit)) (now (twos .exit)) (length (now (ones .entry))) (streamRow m (now (bytes .entry))) ⌝ }
+{
+    trits::words::zero_words(ones);
+    trits::words::zero_words(twos);
+    put_stream(m, bytes, ones, twos);
+}
+
+// The row of m trits of packed bytes that passed their test; what the planes held before is gone.
+pub fn write_packed(m: usize, bytes: &[u8], ones: &mut [u64], twos: &mut [u64])
+    requires { ⌜ (length (now twos) ≡ length (now ones)) × (m ≤ 5 * length (now bytes)) × (m ≤ 64 * length (now ones)) × (length (now ones) ≤ 65536) ⌝ }
+    requires { ⌜ packedRefusal (now bytes) ≡ 0 ⌝ }
+    ensures { λ _. ⌜ Reads (now (ones .exit)) (now (twos .exit)) (length (now (ones .entry))) (packedRow m (now (bytes .entry))) ⌝ }
+{
+    write_stream(m, bytes, ones, twos);
+}

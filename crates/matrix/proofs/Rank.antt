@@ -9,8 +9,9 @@ use native.Mathlib.Omega.{arith}
 use native.Mathlib.Decide.{decLt}
 use lib.Dec.{leb}
 use lib.ListN.{length, getD}
-use borrow.Author.Tests.{leb-true, leb-false, lt-ltb, le-ltb}
+use borrow.Author.Tests.{leb-true, leb-false}
 use Rattle.trits.specs.Trit.{t0, mulT, dotV, upTo}
+use Rattle.trits.proofs.Ends.{upto-in, upto-out}
 use Rattle.matrix.specs.Linear.{Vector, Matrix, zeros, column, times, elem, solve, orZeros, pivots, rank, range}
 use Rattle.matrix.proofs.Field.{mul-zero, set-not}
 use Rattle.matrix.proofs.Dots.{dot-left, dot-right, dot-zero, dot-swap}
@@ -82,12 +83,9 @@ module _ (r n : ℕ) (H : Matrix) where
       below v t = (
         upTo n (t .0),
         (λ q m. by q m (decLt q n)),
-        λ i h. dot-right n (H i) (upTo n (t .0)) (t .0) (λ q l. low q l) ∙ t .1 i h,
+        λ i h. dot-right n (H i) (upTo n (t .0)) (t .0) (upto-in (t .0) n) ∙ t .1 i h,
       )
         where
-          low : (q : ℕ) → q < n → upTo n (t .0) q ≡ t .0 q
-          low q l = unfold upTo in (rw (lt-ltb q n l))
-
           by : (q : ℕ) → elem q (range n) ≡ false → Dec (q < n) → upTo n (t .0) q ≡ t0
           by q m (yes l) = absurd (true≢false (sym (range-order n .every q l) ∙ m))
-          by q m (no l) = unfold upTo in (rw (le-ltb q n (omega arith)))
+          by q m (no l) = upto-out (t .0) n q (omega arith)

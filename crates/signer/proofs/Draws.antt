@@ -9,6 +9,7 @@ use lib.Dec.{eqb}
 use lib.ListN.{length, getD, take, drop, length-drop, take-append-drop}
 use borrow.Author.Tests.{eqb-true, eq-eqb}
 use Rattle.trits.specs.Trit.{Trit, isSet, weightV}
+use Rattle.trits.proofs.Refusals.{passed-demand}
 use Rattle.matrix.specs.Linear.{Vector, Matrix, zeros, times, elem, orZeros, fill, rank, without}
 use Rattle.matrix.specs.Orders.{Distinct, Order, isOrder}
 use Rattle.matrix.proofs.Places.{Below, elem-append, fill-at, fill-off, or-cases, or-true-right}
@@ -23,7 +24,7 @@ use Rattle.signer.specs.Sizes.{Sizes, half, places, ru, rv, gapV, gapU}
 use Rattle.signer.specs.Secret.{Secret, leftOf, rightOf}
 use Rattle.signer.specs.Draw.{Choices, choicesFit, firstV, pivotsV, suppliedV, drawV, firstU, pivotsU, lastU, forced, suppliedU, drawU, drawn, drawRefusal}
 use Rattle.signer.proofs.Pairs.{no-zero, zero-no, forced-pair}
-use Rattle.signer.proofs.Ranges.{Ranges, passed}
+use Rattle.signer.proofs.Ranges.{Ranges}
 
 -- ---- parts of an order
 
@@ -82,9 +83,9 @@ module _ (z : Sizes) (s : Secret) (p : List ℕ) (y : Vector) (ch : Choices) whe
   pub released-passes : drawRefusal z s p y ch ≡ 0 → Passes z s p y ch
   unfolding drawRefusal rank pivotsV pivotsU
   released-passes h =
-      let a = passed (eqb (rank (rv z) (half z) (s .hv) (firstV z ch)) (rv z)) 12 _ (omega arith) h in
-      let b = passed (eqb (rank (ru z) (half z) (s .hu) (firstU z ch)) (ru z)) 13 _ (omega arith) (a .1) in
-      let c = passed (eqb (weightV (drawn z s p y ch) (places z)) (z .w)) 14 _ (omega arith) (b .1) in
+      let a = passed-demand (eqb (rank (rv z) (half z) (s .hv) (firstV z ch)) (rv z)) 12 _ (omega arith) h in
+      let b = passed-demand (eqb (rank (ru z) (half z) (s .hu) (firstU z ch)) (ru z)) 13 _ (omega arith) (a .1) in
+      let c = passed-demand (eqb (weightV (drawn z s p y ch) (places z)) (z .w)) 14 _ (omega arith) (b .1) in
       record {
         fullV = eqb-true (rank (rv z) (half z) (s .hv) (firstV z ch)) (rv z) (a .0);
         fullU = eqb-true (rank (ru z) (half z) (s .hu) (firstU z ch)) (ru z) (b .0);

@@ -1,13 +1,13 @@
 -- What sizes in their ranges say, and what a build and its supplied buffers have passed. Assumes nothing.
-use mathlib.Core.Path.{_≡_, refl}
-use mathlib.Core.Bool.{Bool, true, false, and-eq-true-iff}
+use mathlib.Core.Path.{_≡_}
+use mathlib.Core.Bool.{true, and-eq-true-iff}
 use mathlib.Core.List.{List}
 use Prim.Native.Nat.{ℕ, _+_, _-_, _%_, _≤_, _<_}
 use native.Mathlib.Omega.{arith}
 use lib.Dec.{eqb, leb}
 use borrow.Author.Tests.{eqb-true, leb-true}
 use Rattle.trits.specs.Trit.{isSet}
-use Rattle.trits.specs.Refusal.{demand}
+use Rattle.trits.proofs.Refusals.{passed-demand}
 use Rattle.matrix.specs.Linear.{rank, range}
 use Rattle.matrix.specs.Orders.{Order}
 use Rattle.matrix.proofs.Orders.{order-test}
@@ -57,18 +57,13 @@ pub record Builds (z : Sizes) (s : Secret) (start : List ℕ) : Type 0 where
   pub full-u : rank (ru z) (half z) (s .hu) (range (half z)) ≡ ru z
   pub full-v : rank (rv z) (half z) (s .hv) (range (half z)) ≡ rv z
 
--- a chain of tests that ends in 0
-pub passed : (test : Bool) (k rest : ℕ) → 0 < k → demand test k rest ≡ 0 → (test ≡ true) × (rest ≡ 0)
-passed true k rest h e = (refl, e)
-passed false k rest h e = absurd (omega (arith, h, e))
-
 pub build-passed : (z : Sizes) (s : Secret) (start : List ℕ) → buildFits z s start ≡ true → buildRefusal z s ≡ 0 → Builds z s start
 unfolding buildFits buildRefusal
 build-passed z s start h e =
     let a = and-eq-true-iff (sizesFit z) _ .0 h in
     let b = and-eq-true-iff (noZero (half z) (s .c)) _ .0 (a .1) in
-    let c = passed (eqb (rank (ru z) (half z) (s .hu) (range (half z))) (ru z)) 9 _ (omega arith) e in
-    let d = passed (eqb (rank (rv z) (half z) (s .hv) (range (half z))) (rv z)) 10 _ (omega arith) (c .1) in
+    let c = passed-demand (eqb (rank (ru z) (half z) (s .hu) (range (half z))) (ru z)) 9 _ (omega arith) e in
+    let d = passed-demand (eqb (rank (rv z) (half z) (s .hv) (range (half z))) (rv z)) 10 _ (omega arith) (c .1) in
     record {
       ranges = sizes-fit z (a .0);
       unit = no-zero (half z) (s .c) (b .0);

@@ -1,5 +1,5 @@
 -- The starred cases of the paper ("At the edges") that do not speak of packing, and its example of lines, by computation over the definitions.
--- The cases that the stars leave open stand in the signer's `Cases`. Assumes nothing.
+-- Those of packing stand in the `Cases` of packing, and cases that the stars leave open in those of the signer. Assumes nothing.
 use mathlib.Core.Path.{_≡_, refl}
 use mathlib.Core.Bool.{true, false}
 use mathlib.Core.List.{List, [], _∷_}

@@ -4,8 +4,8 @@ use mathlib.Core.Bool.{Bool, true, false}
 use mathlib.Core.Logic.{_↔_}
 use Prim.Native.Nat.{ℕ, zero, suc, _+_, _-_, _<_}
 use native.Mathlib.Omega.{arith}
-use lib.Dec.{ltb}
 use borrow.Author.Tests.{lt-ltb, le-ltb, ltb-true, ltb-false, eqb-true, eq-eqb}
+use lib.Dec.{ltb}
 use Rattle.trits.specs.Trit.{Trit, addT, subT, mulT, nonZero, dotV, weightV}
 use Rattle.trits.proofs.Arithmetic.{law2}
 use Rattle.trits.proofs.Counts.{sum-cong}

@@ -5,11 +5,10 @@ use mathlib.Core.Logic.{_⊎_, inl, inr}
 use mathlib.Core.List.{List, [], _∷_, _++_}
 use Prim.Native.Nat.{ℕ, zero, suc, _+_, _≤_, _<_}
 use native.Mathlib.Omega.{arith}
+use borrow.Author.Tests.{eqb-true, eqb-false}
 use lib.Dec.{eqb}
 use lib.ListN.{length, getD, length-append}
-use borrow.Author.Tests.{eqb-true, eqb-false}
-use Rattle.matrix.specs.Linear.{Vector}
-use Rattle.matrix.specs.Linear.{elem, without, range, fill}
+use Rattle.matrix.specs.Linear.{Vector, elem, without, range, fill}
 use Rattle.matrix.specs.Orders.{Distinct, Order}
 use Rattle.matrix.proofs.Places.{Below, or-false-left, or-false-right, or-true-right, or-cases, or-none, elem-append, elem-here, fill-at}
 use Rattle.matrix.proofs.Greedy.{bool-cases}

@@ -4,16 +4,16 @@ use mathlib.Core.Bool.{Bool, true, false, cond}
 use mathlib.Core.Logic.{_⊎_, inl, inr}
 use Prim.Native.Nat.{ℕ, zero, suc, pred, _≤_, _<_}
 use native.Mathlib.Omega.{arith}
-use lib.Dec.{eqb, leb}
 use borrow.Author.Tests.{leb-true, leb-false, eqb-true, eqb-false, eq-eqb}
-use Rattle.trits.specs.Trit.{Trit, t0, t1, addT, negT, subT, mulT, putV, isSet, dotV}
-use Rattle.matrix.specs.Linear.{Vector, zeros}
-use Rattle.matrix.specs.Linear.{Matrix, column, times}
+use lib.Dec.{eqb, leb}
+use Rattle.trits.specs.Trit.{Trit, t0, t1, addT, negT, subT, mulT, putV, isSet, dotV, anyTo}
+use Rattle.trits.proofs.Tests.{any-some, any-none}
 use Rattle.trits.proofs.Arithmetic.{add-zero-r, add-comm, mul-assoc, add-neg}
-use Rattle.matrix.proofs.Field.{solved, mul-zero, mul-neg, square, zero-or, set-not}
+use Rattle.matrix.specs.Linear.{Vector, zeros, Matrix, column, times}
+use Rattle.matrix.proofs.Field.{unset-zero, solved, mul-zero, mul-neg, square, zero-or, set-not}
 use Rattle.matrix.proofs.Dots.{put-same, put-other, dot-left, dot-right, dot-zero, dot-zeros, dot-mul, dot-swap, dot-unit, dot-less}
 
--- a word that is not 0 everywhere below m, and that the first r rows of A take to 0
+-- a vector that is not 0 everywhere below m, and that the first r rows of A take to 0
 pub record Dependence (r m : ℕ) (A : Matrix) : Type 0 where
   pub w : Vector
   pub place : ℕ
@@ -21,21 +21,15 @@ pub record Dependence (r m : ℕ) (A : Matrix) : Type 0 where
   pub nonzero : isSet (w place) ≡ true
   pub vanishes : (i : ℕ) → i < r → times m A w i ≡ t0
 
-pub set-below : (r : ℕ) (f : Vector) → ((i : ℕ) × (i < r) × (isSet (f i) ≡ true)) ⊎ ((i : ℕ) → i < r → f i ≡ t0)
-set-below zero f = inr (λ i h. absurd (omega arith))
-set-below (suc r) f = go (zero-or (f r)) (set-below r f)
+-- a trit below r that is not 0, or none
+set-below : (r : ℕ) (f : Vector) → ((i : ℕ) × (i < r) × (isSet (f i) ≡ true)) ⊎ ((i : ℕ) → i < r → f i ≡ t0)
+set-below r f = by (anyTo (λ i. isSet (f i)) r) refl
   where
-    go : (f r ≡ t0) ⊎ (isSet (f r) ≡ true) → ((i : ℕ) × (i < r) × (isSet (f i) ≡ true)) ⊎ ((i : ℕ) → i < r → f i ≡ t0)
-        → ((i : ℕ) × (i < suc r) × (isSet (f i) ≡ true)) ⊎ ((i : ℕ) → i < suc r → f i ≡ t0)
-    go (inr e) o = inl (r, omega arith, e)
-    go (inl e) (inl (i, h, k)) = inl (i, omega arith, k)
-    go (inl e) (inr z) = inr (λ i h. last i h (eqb i r) refl)
-      where
-        last : (i : ℕ) → i < suc r → (t : Bool) → eqb i r ≡ t → f i ≡ t0
-        last i h true q = rw (eqb-true i r q) e
-        last i h false q = z i (omega (arith, eqb-false i r q))
+    by : (b : Bool) → anyTo (λ i. isSet (f i)) r ≡ b → ((i : ℕ) × (i < r) × (isSet (f i) ≡ true)) ⊎ ((i : ℕ) → i < r → f i ≡ t0)
+    by true e = inl (any-some r (λ i. isSet (f i)) e)
+    by false e = inr (λ i h. unset-zero (f i) (any-none r (λ i. isSet (f i)) e i h))
 
--- a word changed past the places that are read
+-- a vector changed past the places that are read
 pub times-put : (m : ℕ) (A : Matrix) (w : Vector) (x : Trit) (i : ℕ) → times (suc m) A (putV w m x) i ≡ addT (times m A w i) (mulT (A i m) x)
 unfolding dotV
 times-put m A w x i = ap₂ addT (dot-right m (A i) (putV w m x) w (λ p h. put-other w m x p (λ z. omega arith))) (ap (mulT (A i m)) (put-same w m x))
@@ -51,7 +45,7 @@ module _ (m r q : ℕ) (A : Matrix) where
   cleared-times : (u : Vector) (i : ℕ) → times m cleared u i ≡ subT (times m A u (row i)) (mulT (mulT (A (row i) m) (A q m)) (times m A u q))
   cleared-times u i = dot-less m (mulT (A (row i) m) (A q m)) (A (row i)) (A q) u
 
-  -- from a word that the cleared rows take to 0, one that the rows of A do
+  -- from a vector that the cleared rows take to 0, one that the rows of A do
   lifted : Vector → Vector
   lifted u = putV u m (negT (mulT (A q m) (times m A u q)))
 
@@ -113,7 +107,7 @@ unfolding dotV
 times-column m A v w i =
     ap₂ addT (dot-left m (putV (A i) m (v i)) (A i) w (λ p h. put-other (A i) m (v i) p (λ z. omega arith))) (ap (λ (x : Trit). mulT x (w m)) (put-same (A i) m (v i)))
 
--- only the word of zeros is taken to 0 by the first r rows
+-- only the vector of zeros is taken to 0 by the first r rows
 abbrev pub Injective : ℕ → ℕ → Matrix → Type 0
 Injective r m A = (w : Vector) → ((i : ℕ) → i < r → times m A w i ≡ t0) → (j : ℕ) → j < m → w j ≡ t0
 

@@ -4,8 +4,8 @@ use mathlib.Core.Bool.{Bool, true, false}
 use Prim.Native.Nat.{ℕ, zero, suc, _+_, _-_, _≤_, _<_}
 use native.Mathlib.Nat.{add-zero, add-suc}
 use native.Mathlib.Omega.{arith}
-use lib.Dec.{eqb}
 use borrow.Author.Tests.{eqb-true, eqb-false, eq-eqb, ne-eqb}
+use lib.Dec.{eqb}
 use Rattle.trits.specs.Trit.{Trit, t0, t1, addT, subT, mulT, putV, dotV}
 use Rattle.trits.proofs.Arithmetic.{add-zero-r, add-comm, add-assoc, mul-comm, mul-add}
 use Rattle.matrix.specs.Linear.{Vector, Matrix, zeros}

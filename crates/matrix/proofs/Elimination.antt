@@ -1,4 +1,4 @@
--- Elimination: rows that are changed without changing which words are taken alike, until the kept columns are unit columns, show what is in the span and what the solutions are. Assumes nothing.
+-- Elimination: rows that are changed without changing which vectors are taken alike, until the kept columns are unit columns, show what is in the span and what the solutions are. Assumes nothing.
 use mathlib.Core.Path.{_≡_, refl, sym, ap, ap₂, _∙_, subst}
 use mathlib.Core.Bool.{Bool, true, false, cond}
 use mathlib.Core.Logic.{_⊎_, inl, inr, _↔_}
@@ -6,28 +6,26 @@ use mathlib.Core.List.{List, [], _∷_, _++_}
 use mathlib.Core.Option.{some}
 use Prim.Native.Nat.{ℕ, _+_, _≤_, _<_}
 use native.Mathlib.Omega.{arith}
+use borrow.Author.Tests.{eqb-true, eqb-false, eq-eqb, ltb-true, ltb-false}
 use lib.Dec.{eqb, ltb}
 use lib.ListN.{length, getD, length-append, List·getD-append}
 use lib.Seq.{getD-append-seam}
-use borrow.Author.Tests.{eqb-true, eqb-false, eq-eqb, ltb-true, ltb-false}
 use Rattle.trits.specs.Trit.{Trit, t0, t1, addT, subT, mulT, putV, isSet}
-use Rattle.matrix.specs.Linear.{Vector, zeros}
-use Rattle.matrix.specs.Linear.{Matrix, column, times, elem, fill, solve, inSpan}
-use Rattle.matrix.specs.Eliminate.{swapRows, clearRows}
 use Rattle.trits.proofs.Arithmetic.{add-zero-r, mul-assoc, add-neg}
-use Rattle.matrix.proofs.Field.{mul-zero, mul-one, square, set-not}
+use Rattle.matrix.specs.Linear.{Vector, zeros, Matrix, column, times, elem, fill, solve, inSpan}
+use Rattle.matrix.specs.Eliminate.{swapRows, clearRows}
+use Rattle.matrix.proofs.Field.{mul-zero, mul-one, square, set-not, add-sub, sub-add, mul-left-comm}
 use Rattle.matrix.proofs.Dots.{put-other, dot-cong, dot-left, dot-right, dot-zero, dot-mul, dot-add, dot-less, dot-unit}
 use Rattle.matrix.proofs.Places.{Below, picked, times-places, times-fill, fill-at, fill-off, elem-at}
 use Rattle.matrix.proofs.Search.{Spans, inSpan-iff}
 use Rattle.matrix.proofs.Greedy.{Kept, bool-cases, times-unit}
 use Rattle.matrix.proofs.Solutions.{solve-is}
 use Rattle.matrix.proofs.Orders.{elem-index}
-use Rattle.matrix.proofs.Field.{add-sub, sub-add, mul-left-comm}
 
 abbrev pub Same : ℕ → ℕ → Matrix → Vector → Vector → Type 0
 Same r n H u v = (i : ℕ) → i < r → times n H u i ≡ times n H v i
 
--- the rows of H and of A take the same words alike
+-- the rows of H and of A take the same vectors alike
 abbrev pub Alike : ℕ → ℕ → Matrix → Matrix → Type 0
 Alike r n H A = (u v : Vector) → Same r n H u v ↔ Same r n A u v
 
@@ -43,7 +41,7 @@ pub record Reduced (r n : ℕ) (H A : Matrix) (ps : List ℕ) : Type 0 where
   pub unit : (c i : ℕ) → c < length ps → i < r → A i (getD ps c 0) ≡ putV zeros c t1 i
 
 module _ (r n : ℕ) (H A : Matrix) (ps : List ℕ) (k : Kept r n H ps) (d : Reduced r n H A ps) where
-  -- a word over the kept places, times A: its own trits, then zeros
+  -- a vector over the kept places, times A: its own trits, then zeros
   reduced-low : (a : Vector) (i : ℕ) → i < r → i < length ps → times (length ps) (picked A ps) a i ≡ a i
   reduced-low a i h l =
       dot-left (length ps) (picked A ps i) (λ c. putV zeros c t1 i) a (λ c b. d .unit c i b h) ∙ dot-unit (length ps) i a l
@@ -80,7 +78,7 @@ module _ (r n : ℕ) (H A : Matrix) (ps : List ℕ) (k : Kept r n H ps) (d : Red
       solve-is r n H ps k (column H q) (fill ps (column A q) zeros) zeros (λ t m. fill-off ps (column A q) zeros t m)
       (λ i l. d .alike (fill ps (column A q) zeros) (putV zeros q t1) .1 (column-fill q h (λ i a b. absurd (omega arith))) i l ∙ times-unit n H q i h)
 
-  -- the pivots' values, where the word w of the other values is 0 at the pivots
+  -- the pivots' values, where the vector w of the other values is 0 at the pivots
   pub reduced-solve : length ps ≡ r → (x w : Vector) → ((q : ℕ) → elem q ps ≡ true → w q ≡ t0)
       → solve r n H (times n H x) ps w ≡ some (fill ps (λ c. subT (times n A x c) (times n A w c)) w)
   reduced-solve full x w z = solve-is r n H ps k (times n H x) (fill ps v w) w (λ q m. fill-off ps v w q m) (d .alike (fill ps v w) x .1 here)

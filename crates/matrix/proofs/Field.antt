@@ -2,8 +2,8 @@
 use mathlib.Core.Path.{_≡_, refl, sym, ap, _∙_}
 use mathlib.Core.Bool.{Bool, true, false, not, _||_, true≢false}
 use mathlib.Core.Logic.{_⊎_, inl, inr}
-use Rattle.trits.specs.Trit.{Trit, t0, t1, t2, addT, negT, mulT, subT, isSet}
 use lib.Dec.{T}
+use Rattle.trits.specs.Trit.{Trit, t0, t1, t2, addT, negT, mulT, subT, isSet}
 use Rattle.trits.proofs.Arithmetic.{at, every, eqT, law1, law2, law3, add-zero-r, add-comm, add-assoc, mul-comm, mul-assoc, mul-add}
 
 -- an equation in four trits
@@ -62,9 +62,6 @@ sub-add = law2 (λ x y. addT (subT x y) y) (λ x y. x) tt
 
 pub add-sub : (x y : Trit) → addT y (subT x y) ≡ x
 add-sub = law2 (λ x y. addT y (subT x y)) (λ x y. x) tt
-
-pub sub-back : (x y : Trit) → subT (addT x y) y ≡ x
-sub-back = law2 (λ x y. subT (addT x y) y) (λ x y. x) tt
 
 -- a trit is 0 or not
 pub zero-or : (x : Trit) → (x ≡ t0) ⊎ (isSet x ≡ true)

@@ -5,14 +5,13 @@ use mathlib.Core.Logic.{_⊎_, inl, inr, _↔_}
 use mathlib.Core.List.{List, [], _∷_, _++_, append-assoc, append-nil}
 use Prim.Native.Nat.{ℕ, _+_, _≤_, _<_}
 use native.Mathlib.Omega.{arith}
+use borrow.Author.Tests.{eqb-true, eqb-false, ne-eqb}
 use lib.Dec.{eqb}
 use lib.ListN.{length, getD}
-use borrow.Author.Tests.{eqb-true, eqb-false, ne-eqb}
 use Rattle.trits.specs.Trit.{t0, t1, addT, negT, mulT, putV, isSet}
-use Rattle.matrix.specs.Linear.{Vector, zeros}
-use Rattle.matrix.specs.Linear.{Matrix, column, times, elem, fill, inSpan, keep, pivots, rank}
-use Rattle.matrix.specs.Orders.{Distinct}
 use Rattle.trits.proofs.Arithmetic.{add-zero-r, mul-comm}
+use Rattle.matrix.specs.Linear.{Vector, zeros, Matrix, column, times, elem, fill, inSpan, keep, pivots, rank}
+use Rattle.matrix.specs.Orders.{Distinct}
 use Rattle.matrix.proofs.Field.{mul-zero, mul-one, square, solved, zero-or}
 use Rattle.matrix.proofs.Dots.{put-same, put-other, dot-zero, dot-put, dot-add, dot-mul}
 use Rattle.matrix.proofs.Dimension.{Injective, injective-few, injective-reaches, reaches-many}
@@ -36,7 +35,7 @@ times-unit n H p i h =
     none q true e = rw e
     none q false e = rw e
 
--- only the word of zeros, of those that are 0 off the list, is taken to 0
+-- only the vector of zeros, of those that are 0 off the list, is taken to 0
 abbrev pub Independent : ℕ → ℕ → Matrix → List ℕ → Type 0
 Independent r n H ps = (w : Vector) → Supported ps w → ((i : ℕ) → i < r → times n H w i ≡ t0) → (q : ℕ) → w q ≡ t0
 
@@ -59,7 +58,7 @@ module _ (r n : ℕ) (H : Matrix) where
   pub unit-spans : (ps : List ℕ) (p : ℕ) → p < n → elem p ps ≡ true → Spans r n H ps (column H p)
   unit-spans ps p h e = (putV zeros p t1, (λ q k. put-other zeros p t1 q (λ z. true≢false (sym e ∙ (rw z at k)))), λ i k. times-unit n H p i h)
 
-  -- a word over the kept places and one more
+  -- a vector over the kept places and one more
   over : (kept : List ℕ) (p : ℕ) (w : Vector) → Supported (kept ++ (p ∷ [])) w → Supported kept (putV w p t0)
   over kept p w z q e = go (eqb q p) refl
     where

@@ -5,14 +5,13 @@ use mathlib.Core.Logic.{_⊎_, inl, inr}
 use mathlib.Core.List.{List, [], _∷_}
 use Prim.Native.Nat.{ℕ, zero, suc, _<_}
 use native.Mathlib.Omega.{arith}
+use borrow.Author.Tests.{eqb-true, eqb-false, eq-eqb}
 use lib.Dec.{eqb}
 use lib.ListN.{length, getD}
-use borrow.Author.Tests.{eqb-true, eqb-false, eq-eqb}
 use Rattle.trits.specs.Trit.{dotV, anyTo}
-use Rattle.matrix.specs.Linear.{Vector}
-use Rattle.matrix.specs.Linear.{elem}
-use Rattle.matrix.specs.Orders.{Distinct, Order, isOrder}
 use Rattle.trits.proofs.Tests.{any-none, none-any}
+use Rattle.matrix.specs.Linear.{Vector, elem}
+use Rattle.matrix.specs.Orders.{Distinct, Order, isOrder}
 use Rattle.matrix.proofs.Field.{not-true, not-false}
 use Rattle.matrix.proofs.Places.{Below, or-false-right, or-true-right, or-cases, elem-at, dot-places}
 

@@ -1,16 +1,15 @@
--- Lists of places, and words that are 0 off a list. Assumes nothing.
+-- Lists of places, and vectors that are 0 off a list. Assumes nothing.
 use mathlib.Core.Path.{_≡_, refl, sym, ap, _∙_}
 use mathlib.Core.Bool.{Bool, true, false, _||_, true≢false}
 use mathlib.Core.Logic.{_⊎_, inl, inr}
 use mathlib.Core.List.{List, [], _∷_, _++_}
 use Prim.Native.Nat.{ℕ, zero, suc, _+_, _<_}
 use native.Mathlib.Omega.{arith}
+use borrow.Author.Tests.{eqb-true, eqb-false, eq-eqb}
 use lib.Dec.{eqb}
 use lib.ListN.{length, getD}
-use borrow.Author.Tests.{eqb-true, eqb-false, eq-eqb}
 use Rattle.trits.specs.Trit.{t0, addT, mulT, putV, dotV}
-use Rattle.matrix.specs.Linear.{Vector, zeros}
-use Rattle.matrix.specs.Linear.{Matrix, times, elem, fill}
+use Rattle.matrix.specs.Linear.{Vector, zeros, Matrix, times, elem, fill}
 use Rattle.matrix.specs.Orders.{Distinct}
 use Rattle.matrix.proofs.Dots.{put-same, put-other, dot-right, dot-zero, dot-put, dot-first}
 use Rattle.matrix.proofs.Field.{mul-zero}

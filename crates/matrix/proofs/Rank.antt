@@ -7,9 +7,9 @@ use mathlib.Core.Option.{Option}
 use Prim.Native.Nat.{ℕ, _≤_, _<_}
 use native.Mathlib.Omega.{arith}
 use native.Mathlib.Decide.{decLt}
+use borrow.Author.Tests.{leb-true, leb-false}
 use lib.Dec.{leb}
 use lib.ListN.{length, getD}
-use borrow.Author.Tests.{leb-true, leb-false}
 use Rattle.trits.specs.Trit.{t0, mulT, dotV, upTo}
 use Rattle.trits.proofs.Ends.{upto-in, upto-out}
 use Rattle.matrix.specs.Linear.{Vector, Matrix, zeros, column, times, elem, solve, orZeros, pivots, rank, range}

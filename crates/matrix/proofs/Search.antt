@@ -1,16 +1,15 @@
--- The search finds a word if there is one. Assumes nothing.
+-- The search finds a vector if there is one. Assumes nothing.
 use mathlib.Core.Path.{_≡_, refl, sym, ap, _∙_, fun-ext}
 use mathlib.Core.Bool.{Bool, true, false, cond, not, true≢false}
 use mathlib.Core.Logic.{_↔_}
 use mathlib.Core.List.{List, [], _∷_}
 use mathlib.Core.Option.{Option, none, some}
 use Prim.Native.Nat.{ℕ, _<_}
-use lib.Dec.{eqb}
 use borrow.Author.Tests.{eqb-true, eqb-false}
+use lib.Dec.{eqb}
 use Rattle.trits.specs.Trit.{Trit, t0, t1, t2, subT, isSet, putV, anyTo}
-use Rattle.matrix.specs.Linear.{Vector, zeros, agree}
-use Rattle.matrix.specs.Linear.{Matrix, times, elem, find, orElse, found, solve, inSpan}
 use Rattle.trits.proofs.Tests.{any-none, none-any}
+use Rattle.matrix.specs.Linear.{Vector, zeros, agree, Matrix, times, elem, find, orElse, found, solve, inSpan}
 use Rattle.matrix.proofs.Field.{not-true, sub-zero-eq, unset-zero, sub-self}
 use Rattle.matrix.proofs.Dots.{put-same, put-other}
 use Rattle.matrix.proofs.Places.{Supported, or-false-left, or-false-right, or-none}
@@ -23,7 +22,7 @@ pub eq-agree : (r : ℕ) (u v : Vector) → ((i : ℕ) → i < r → u i ≡ v i
 unfolding agree
 eq-agree r u v h = ap not (none-any r (λ i. isSet (subT (u i) (v i))) (λ i k. ap isSet (ap (λ (x : Trit). subT x (v i)) (h i k) ∙ sub-self (v i))))
 
--- the words agree off the list
+-- the vectors agree off the list
 abbrev pub Off : List ℕ → Vector → Vector → Type 0
 Off ps u w = (q : ℕ) → elem q ps ≡ false → u q ≡ w q
 

@@ -5,14 +5,12 @@ use mathlib.Core.Option.{Option, some}
 use Prim.Native.Nat.{ℕ, _<_}
 use lib.ListN.{length}
 use Rattle.trits.specs.Trit.{t2, addT, subT, mulT}
-use Rattle.matrix.specs.Linear.{Vector}
-use Rattle.matrix.specs.Linear.{Matrix, times, solve}
 use Rattle.trits.proofs.Arithmetic.{add-zero-r, add-neg}
-use Rattle.matrix.proofs.Field.{sub-zero-eq}
+use Rattle.matrix.specs.Linear.{Vector, Matrix, times, solve}
+use Rattle.matrix.proofs.Field.{sub-zero-eq, add-sub}
 use Rattle.matrix.proofs.Dots.{dot-add, dot-mul}
 use Rattle.matrix.proofs.Search.{Off, solve-sound, solve-complete}
 use Rattle.matrix.proofs.Greedy.{Kept, kept-spans}
-use Rattle.matrix.proofs.Field.{add-sub}
 
 module _ (r n : ℕ) (H : Matrix) (ps : List ℕ) (k : Kept r n H ps) where
   pub solve-unique : (u v w : Vector) → Off ps u w → Off ps v w → ((i : ℕ) → i < r → times n H u i ≡ times n H v i) → (q : ℕ) → u q ≡ v q

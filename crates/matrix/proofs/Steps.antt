@@ -56,9 +56,6 @@ module _ (A : Matrix) (q : ℕ) where
           go i h l (yes d) = ap (λ (z : ℕ). A z q) d ∙ unset-zero (A at q) e
           go i h l (no d) = f .zeros i (omega arith) l
 
-  pub pivot-found : (r at : ℕ) → at ≤ r → Found at (r - at) (pivotRow r A q at)
-  pivot-found r at h = first-found at (r - at)
-
 -- ---- the row operations of a step, one after another
 
 pub take-scaled : (j q : ℕ) (A : Matrix) → isSet (A j q) ≡ true → takeOut j q (scaleRow j (A j q) A) ≡ clearRows j q A

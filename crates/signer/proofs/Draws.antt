@@ -5,9 +5,9 @@ use mathlib.Core.Logic.{_⊎_, inl, inr}
 use mathlib.Core.List.{List}
 use Prim.Native.Nat.{ℕ, _+_, _-_, _<_}
 use native.Mathlib.Omega.{arith}
+use borrow.Author.Tests.{eqb-true, eq-eqb}
 use lib.Dec.{eqb}
 use lib.ListN.{length, getD, take, drop, length-drop, take-append-drop}
-use borrow.Author.Tests.{eqb-true, eq-eqb}
 use Rattle.trits.specs.Trit.{Trit, isSet, weightV}
 use Rattle.trits.proofs.Refusals.{passed-demand}
 use Rattle.matrix.specs.Linear.{Vector, Matrix, zeros, times, elem, orZeros, fill, rank, without}

@@ -3,8 +3,8 @@ use mathlib.Core.Path.{_≡_, refl, sym, ap, ap₂, _∙_, subst}
 use mathlib.Core.Bool.{Bool, true, false, cond, not, _&&_, _||_, and-eq-true-iff}
 use Prim.Native.Nat.{ℕ, _+_, _-_, _<_}
 use native.Mathlib.Omega.{arith}
-use lib.Dec.{ltb}
 use borrow.Author.Tests.{lt-ltb, le-ltb, ltb-true, ltb-false}
+use lib.Dec.{ltb}
 use Rattle.trits.specs.Trit.{Trit, t0, t1, addT, negT, subT, mulT, isSet, dotV, anyTo}
 use Rattle.trits.proofs.Tests.{any-none, none-any}
 use Rattle.trits.proofs.Arithmetic.{law3}

@@ -4,8 +4,8 @@ use mathlib.Core.Bool.{true, and-eq-true-iff}
 use mathlib.Core.List.{List}
 use Prim.Native.Nat.{ℕ, _+_, _-_, _%_, _≤_, _<_}
 use native.Mathlib.Omega.{arith}
-use lib.Dec.{eqb, leb}
 use borrow.Author.Tests.{eqb-true, leb-true}
+use lib.Dec.{eqb, leb}
 use Rattle.trits.specs.Trit.{isSet}
 use Rattle.trits.proofs.Refusals.{passed-demand}
 use Rattle.matrix.specs.Linear.{rank, range}

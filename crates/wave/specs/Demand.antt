@@ -1,4 +1,4 @@
--- Demand 3 in its terms ("The words of demand 3"). Assumes nothing.
+-- Demand 3 in its terms, which the paper defines itself ("The words of demand 3"). Assumes nothing.
 use mathlib.Core.Path.{_≡_}
 use mathlib.Core.Bool.{true}
 use mathlib.Core.List.{List}

@@ -4,6 +4,7 @@ use mathlib.Core.Bool.{Bool, true, false, _||_, true≢false}
 use mathlib.Core.Logic.{_⊎_, inl, inr}
 use mathlib.Core.List.{List, [], _∷_, _++_}
 use Prim.Native.Nat.{ℕ, zero, suc, _+_, _≤_, _<_}
+use native.Mathlib.Numerals.{add-one}
 use native.Mathlib.Omega.{arith}
 use borrow.Author.Tests.{eqb-true, eqb-false}
 use lib.Dec.{eqb}
@@ -130,10 +131,18 @@ range-elem (suc n) q h = elem-append q (range n) (n ∷ []) ∙ go (range-elem n
     go ih true e = or-true-right (elem q (range n)) (elem q (n ∷ [])) (rw e)
     go ih false e = rw (ih (omega (arith, eqb-false q n e)))
 
+pub range-none : range 0 ≡ []
+unfolding range
+range-none = refl
+
+pub range-next : (i : ℕ) → range (i + 1) ≡ range i ++ (i ∷ [])
+unfolding range
+range-next i = ap range (add-one i)
+
 pub range-order : (n : ℕ) → Order n (range n)
 range-order n = record { size = range-length n; every = range-elem n }
 
--- the values of e, putV at places that are listed
+-- the values of e, put at places that are listed
 pub fill-own : (ps : List ℕ) (e v w : Vector) (q : ℕ) → Distinct ps → ((j : ℕ) → j < length ps → v j ≡ e (getD ps j 0)) → elem q ps ≡ true → fill ps v w q ≡ e q
 fill-own ps e v w q d h m =
     let k = elem-index q ps m in

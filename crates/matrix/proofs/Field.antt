@@ -2,8 +2,9 @@
 use mathlib.Core.Path.{_≡_, refl, sym, ap, _∙_}
 use mathlib.Core.Bool.{Bool, true, false, not, _||_, true≢false}
 use mathlib.Core.Logic.{_⊎_, inl, inr}
+use native.Mathlib.Omega.{arith}
 use lib.Dec.{T}
-use Rattle.trits.specs.Trit.{Trit, t0, t1, t2, addT, negT, mulT, subT, isSet}
+use Rattle.trits.specs.Trit.{Trit, number, t0, t1, t2, addT, negT, mulT, subT, isSet}
 use Rattle.trits.proofs.Arithmetic.{at, every, eqT, law1, law2, law3, add-zero-r, add-comm, add-assoc, mul-comm, mul-assoc, mul-add}
 
 -- an equation in four trits
@@ -86,8 +87,29 @@ square t2 h = refl
 pub sub-zero-eq : (x y : Trit) → subT x y ≡ t0 → x ≡ y
 sub-zero-eq x y h = sym (sub-add x y) ∙ ap (λ (z : Trit). addT z y) h
 
-pub sub-self : (x : Trit) → subT x x ≡ t0
-sub-self = law1 (λ x. subT x x) (λ x. t0) tt
+-- ---- the number of a trit, as it is read
+
+pub number-set : (x : Trit) → (number x ≡ 0 → ⊥) → isSet x ≡ true
+number-set t0 f = absurd (f refl)
+number-set t1 f = refl
+number-set t2 f = refl
+
+pub number-unset : (x : Trit) → number x ≡ 0 → isSet x ≡ false
+number-unset t0 e = refl
+number-unset t1 e = absurd (omega arith)
+number-unset t2 e = absurd (omega arith)
+
+pub number-two : (x : Trit) → number x ≡ 2 → x ≡ t2
+number-two t0 e = absurd (omega arith)
+number-two t1 e = absurd (omega arith)
+number-two t2 e = refl
+
+pub number-one : (x : Trit) → isSet x ≡ true → (number x ≡ 2 → ⊥) → x ≡ t1
+number-one t0 e f = absurd (true≢false (sym e))
+number-one t1 e f = refl
+number-one t2 e f = absurd (f refl)
+
+-- ---- sums of products
 
 -- from y x + s = 0, where x is not 0, y
 pub solved : (s x y : Trit) → mulT x x ≡ t1 → addT (mulT y x) s ≡ t0 → mulT (negT x) s ≡ y

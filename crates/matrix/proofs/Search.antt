@@ -8,9 +8,10 @@ use Prim.Native.Nat.{ℕ, _<_}
 use borrow.Author.Tests.{eqb-true, eqb-false}
 use lib.Dec.{eqb}
 use Rattle.trits.specs.Trit.{Trit, t0, t1, t2, subT, isSet, putV, anyTo}
+use Rattle.trits.proofs.Arithmetic.{add-neg}
 use Rattle.trits.proofs.Tests.{any-none, none-any}
 use Rattle.matrix.specs.Linear.{Vector, zeros, agree, Matrix, times, elem, find, orElse, found, solve, inSpan}
-use Rattle.matrix.proofs.Field.{not-true, sub-zero-eq, unset-zero, sub-self}
+use Rattle.matrix.proofs.Field.{not-true, sub-zero-eq, unset-zero}
 use Rattle.matrix.proofs.Dots.{put-same, put-other}
 use Rattle.matrix.proofs.Places.{Supported, or-false-left, or-false-right, or-none}
 
@@ -20,7 +21,7 @@ agree-eq r u v h i k = sub-zero-eq (u i) (v i) (unset-zero (subT (u i) (v i)) (a
 
 pub eq-agree : (r : ℕ) (u v : Vector) → ((i : ℕ) → i < r → u i ≡ v i) → agree r u v ≡ true
 unfolding agree
-eq-agree r u v h = ap not (none-any r (λ i. isSet (subT (u i) (v i))) (λ i k. ap isSet (ap (λ (x : Trit). subT x (v i)) (h i k) ∙ sub-self (v i))))
+eq-agree r u v h = ap not (none-any r (λ i. isSet (subT (u i) (v i))) (λ i k. ap isSet (ap (λ (x : Trit). subT x (v i)) (h i k) ∙ add-neg (v i))))
 
 -- the vectors agree off the list
 abbrev pub Off : List ℕ → Vector → Vector → Type 0

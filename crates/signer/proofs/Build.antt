@@ -240,7 +240,7 @@ module _ (r n : ℕ) (H : Matrix) (start : List ℕ) where
         same : take j (swap j (j + f) order) ≡ take j order
         same = take-set-le j (set order j (getD order (j + f) 0)) (j + f) (getD order j 0) (omega arith) ∙ take-set-le j order j (getD order (j + f) 0) (omega arith)
 
-    -- it has a isSet trit in row a: rows j and a change places and the column is cleared
+    -- it has a trit in row a that is not 0: rows j and a change places and the column is cleared
     pub taken : (a : ℕ) → j ≤ a → a < r → isSet (A a (getD order j 0)) ≡ true → State f (suc j) order (clearRows j (getD order j 0) (swapRows j a A))
     taken a la ha z =
         let b = next r n H f j order (t .order-ok) (t .kept) (t .room) (t .rest) out in

@@ -57,9 +57,10 @@ unfoldable pub eliminate : ℕ → List ℕ → Stage → Stage
 eliminate r [] s = s
 eliminate r (q ∷ qs) s = eliminate r qs (tried r q s)
 
+-- before any is tried
 abbrev pub begun : Matrix → Stage
 begun A = record { cells = A; kept = [] }
 
--- the matrix after elimination at the places, and the places kept
+-- the matrix after elimination at the places
 unfoldable pub eliminated : ℕ → Matrix → List ℕ → Matrix
 eliminated r A ps = eliminate r ps (begun A) .cells

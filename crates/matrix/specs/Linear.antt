@@ -11,6 +11,7 @@ use Rattle.trits.specs.Trit.{Trit, t0, t1, t2, subT, isSet, anyTo, dotV, putV}
 abbrev pub Vector : Type 0
 Vector = ℕ → Trit
 
+-- 0 at every place
 abbrev pub zeros : Vector
 zeros i = t0
 
@@ -22,6 +23,7 @@ agree r u v = not (anyTo (λ i. isSet (subT (u i) (v i))) r)
 abbrev pub Matrix : Type 0
 Matrix = ℕ → ℕ → Trit
 
+-- column p, from the first row on
 abbrev pub column : Matrix → ℕ → Vector
 column H p i = H i p
 
@@ -45,10 +47,12 @@ find test (p ∷ ps) w = orElse (find test ps (putV w p t0)) (orElse (find test 
 unfoldable pub solve : ℕ → ℕ → Matrix → Vector → List ℕ → Vector → Option Vector
 solve r n H v ps w = find (λ u. agree r (times n H u) v) ps w
 
+-- whether there is one
 abbrev pub found : Option Vector → Bool
 found (some w) = true
 found none = false
 
+-- the one that there is, or zeros
 abbrev pub orZeros : Option Vector → Vector
 orZeros (some w) = w
 orZeros none = zeros
@@ -74,6 +78,7 @@ rank r n H ps = length (pivots r n H ps)
 
 -- ---- lists of places
 
+-- whether q is listed
 abbrev pub elem : ℕ → List ℕ → Bool
 elem q [] = false
 elem q (p ∷ ps) = eqb q p || elem q ps

@@ -52,9 +52,10 @@ buildRefusal z s =
     (demand (eqb (rank (rv z) (half z) (s .hv) (range (half z))) (rv z)) 10
     0)
 
--- released: the final order p, and k rows of n-k trits
+-- released: the final order p
 abbrev pub keyOrder : Sizes → Secret → List ℕ → List ℕ
 keyOrder z s start = arranged (codim z) (places z) (secretMatrix z s) start .order
 
+-- and R, kept as k rows of n-k trits
 abbrev pub keyRow : Sizes → Secret → List ℕ → ℕ → Vector
 keyRow z s start = rowOfR (codim z) (places z) (secretMatrix z s) (keyOrder z s start)

@@ -26,14 +26,11 @@ choicesFit z ch = isOrder (half z) (ch .orderV) && (isOrder (half z) (ch .orderU
 abbrev pub placed : List ℕ → Vector → Vector
 placed p e = fill p e zeros
 
--- (y, 0...0), in secret places
-abbrev pub start : Sizes → List ℕ → Vector → Vector
-start z p y = placed p (join (codim z) y zeros)
-
--- V: the first r_V + g places of the order, and its pivots
+-- V: the first part is the first r_V + g places of the order
 abbrev pub firstV : Sizes → Choices → List ℕ
 firstV z ch = take (rv z + gapV z) (ch .orderV)
 
+-- the pivots are the first independent ones in it
 unfoldable pub pivotsV : Sizes → Secret → Choices → List ℕ
 pivotsV z s ch = pivots (rv z) (half z) (s .hv) (firstV z ch)
 
@@ -45,13 +42,15 @@ suppliedV z s ch = fill (without (pivotsV z s ch) (ch .orderV)) (ch .tritsV) zer
 unfoldable pub drawV : Sizes → Secret → Vector → Choices → Vector
 drawV z s x ch = orZeros (solve (rv z) (half z) (s .hv) (times (half z) (s .hv) x) (pivotsV z s ch) (suppliedV z s ch))
 
--- U: the first r_U + g places of the order, its pivots, and the last k_U - g places
+-- U: the first part likewise, with r_U + g places
 abbrev pub firstU : Sizes → Choices → List ℕ
 firstU z ch = take (ru z + gapU z) (ch .orderU)
 
+-- and its pivots
 unfoldable pub pivotsU : Sizes → Secret → Choices → List ℕ
 pivotsU z s ch = pivots (ru z) (half z) (s .hu) (firstU z ch)
 
+-- the last k_U - g places
 abbrev pub lastU : Sizes → Choices → List ℕ
 lastU z ch = drop (ru z + gapU z) (ch .orderU)
 
@@ -69,10 +68,10 @@ suppliedU z s eV ch =
 unfoldable pub drawU : Sizes → Secret → Vector → Vector → Choices → Vector
 drawU z s x eV ch = orZeros (solve (ru z) (half z) (s .hu) (times (half z) (s .hu) x) (pivotsU z s ch) (suppliedU z s eV ch))
 
--- the whole word that they make, in public places: place i has the trit of secret place p(i)
+-- the whole word from y, x being (y, 0...0) in secret places; public place i has the trit of secret place p(i)
 unfoldable pub drawn : Sizes → Secret → List ℕ → Vector → Choices → Vector
 drawn z s p y ch i =
-    let x = start z p y in
+    let x = placed p (join (codim z) y zeros) in
     let eV = drawV z s (vOf z s x) ch in
     whole z s (drawU z s (uOf z s x) eV ch) eV (getD p i 0)
 

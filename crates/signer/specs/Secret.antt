@@ -21,24 +21,27 @@ noZero m v = not (anyTo (λ i. not (isSet (v i))) m)
 abbrev pub dOf : Secret → Vector
 dOf s i = addT t1 (mulT (s .b i) (s .c i))
 
--- the pair map, of a word in secret places, where place i is paired with N + i: e_U is d·e_L - b·e_R, and e_V is e_R - c·e_L
+-- e_U of a word in secret places, where place i is paired with N + i: d·e_L - b·e_R
 abbrev pub uOf : Sizes → Secret → Vector → Vector
 uOf z s e i = subT (mulT (dOf s i) (e i)) (mulT (s .b i) (e (half z + i)))
 
+-- and its e_V: e_R - c·e_L
 abbrev pub vOf : Sizes → Secret → Vector → Vector
 vOf z s e i = subT (e (half z + i)) (mulT (s .c i) (e i))
 
--- and back: e_L is e_U + b·e_V, and e_R is c·e_L + e_V
+-- back again, the left half: e_U + b·e_V
 abbrev pub leftOf : Secret → Vector → Vector → Vector
 leftOf s u v i = addT (u i) (mulT (s .b i) (v i))
 
+-- and the right half: c·e_L + e_V
 abbrev pub rightOf : Secret → Vector → Vector → Vector
 rightOf s u v i = addT (mulT (s .c i) (leftOf s u v i)) (v i)
 
--- two stretches in one vector, the second from place N on; so the word that e_U and e_V make
+-- two stretches in one vector, the second from place N on
 abbrev pub join : ℕ → Vector → Vector → Vector
 join N l r q = cond (ltb q N) (l q) (r (q - N))
 
+-- the word in secret places that e_U and e_V make
 abbrev pub whole : Sizes → Secret → Vector → Vector → Vector
 whole z s u v = join (half z) (leftOf s u v) (rightOf s u v)
 

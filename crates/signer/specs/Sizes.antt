@@ -23,10 +23,11 @@ places z = half z + half z
 abbrev pub dim : Sizes → ℕ
 dim z = z .ku + z .kv
 
--- r_U and r_V, the rows of H_U and of H_V
+-- r_U, the rows of H_U
 abbrev pub ru : Sizes → ℕ
 ru z = half z - z .ku
 
+-- r_V, the rows of H_V
 abbrev pub rv : Sizes → ℕ
 rv z = half z - z .kv
 
@@ -34,10 +35,11 @@ rv z = half z - z .kv
 abbrev pub codim : Sizes → ℕ
 codim z = ru z + rv z
 
--- the gap of V and the gap of U, each read here alone
+-- the gap of V, read here alone
 abbrev pub gapV : Sizes → ℕ
 gapV z = z .g
 
+-- the gap of U, read here alone
 abbrev pub gapU : Sizes → ℕ
 gapU z = z .g
 

@@ -23,9 +23,9 @@ use Rattle.matrix.proofs.Solutions.{solve-is}
 use Rattle.checker.specs.Verdict.{Key, HasSyndrome}
 use Rattle.checker.proofs.FullWord.{syndrome-cong}
 use Rattle.signer.specs.Sizes.{Sizes, half, places, dim, ru, rv, codim, gapV, gapU, sizesFit}
-use Rattle.signer.specs.Secret.{Secret, leftOf, rightOf, uOf, vOf, whole, secretMatrix}
+use Rattle.signer.specs.Secret.{Secret, join, leftOf, rightOf, uOf, vOf, whole, secretMatrix}
 use Rattle.signer.specs.Build.{arranged, keyOrder, keyRow}
-use Rattle.signer.specs.Draw.{Choices, placed, start, pivotsV, suppliedV, drawV, firstU, pivotsU, lastU, forced, suppliedU, drawU, drawn}
+use Rattle.signer.specs.Draw.{Choices, placed, pivotsV, suppliedV, drawV, firstU, pivotsU, lastU, forced, suppliedU, drawU, drawn}
 use Rattle.signer.proofs.Pairs.{pair-left, pair-right, pair-forced, join-low, join-high, secret-u, secret-v, whole-u, whole-v, by-rows}
 use Rattle.signer.proofs.Ranges.{sizes-fit, codim-dim, Builds, build-passed, build-ends}
 use Rattle.signer.proofs.Draws.{Valid, choices-valid, valid-choices, Passes, passes-released, released-passes, parts, first-below, either-part, keptV, keptU, drawV-good, drawU-good, last-below, last-pair}
@@ -34,6 +34,10 @@ use Rattle.wave.proofs.Syndrome.{syndrome-iff}
 
 weight-cong : (n : ℕ) (u v : Vector) → ((i : ℕ) → i < n → u i ≡ v i) → weightV u n ≡ weightV v n
 weight-cong n u v h = sum-cong n (λ i. nonZero (u i)) (λ i. nonZero (v i)) (λ i l. ap nonZero (h i l))
+
+-- (y, 0...0), in secret places
+abbrev pub start : Sizes → List ℕ → Vector → Vector
+start z p y = placed p (join (codim z) y zeros)
 
 -- ---- the key that is built
 

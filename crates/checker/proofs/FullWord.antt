@@ -1,0 +1,70 @@
+-- The full word of y and s is the one word that has the syndrome y and extends s, under any key; so its weight is the answer. Assumes nothing.
+use mathlib.Core.Path.{_≡_, refl, sym, ap, ap₂, _∙_, subst}
+use mathlib.Core.Bool.{Bool, true, false}
+use mathlib.Core.Logic.{_↔_}
+use Prim.Native.Nat.{ℕ, zero, suc, _+_, _-_, _<_}
+use native.Mathlib.Omega.{arith}
+use borrow.Author.Tests.{lt-ltb, le-ltb, ltb-true, ltb-false, eqb-true, eq-eqb}
+use lib.Dec.{ltb}
+use Rattle.trits.specs.Trit.{Trit, addT, subT, mulT, nonZero, dotV, weightV}
+use Rattle.trits.proofs.Arithmetic.{law2}
+use Rattle.trits.proofs.Counts.{sum-cong}
+use Rattle.checker.specs.Verdict.{Key, timesKey, fullWord, fullWeight, saysYes, syndrome, HasSyndrome, Extends}
+
+-- s·R-transposed reads k trits of s and k rows
+pub times-key-cong : (k : ℕ) (R Q : Key) (s t : ℕ → Trit) (j : ℕ) → ((i : ℕ) → i < k → s i ≡ t i) → ((i : ℕ) → i < k → R i j ≡ Q i j) → timesKey k R s j ≡ timesKey k Q t j
+unfolding timesKey dotV
+times-key-cong zero R Q s t j h g = refl
+times-key-cong (suc k) R Q s t j h g =
+    ap₂ addT (times-key-cong k R Q s t j (λ i l. h i (omega arith)) (λ i l. g i (omega arith))) (ap₂ mulT (h k (omega arith)) (g k (omega arith)))
+
+-- a syndrome reads a word below n, and a key's rows below their sizes
+pub syndrome-cong : (m k : ℕ) (R Q : Key) (e f : ℕ → Trit) → ((q : ℕ) → q < m + k → e q ≡ f q) → ((i j : ℕ) → i < k → j < m → R i j ≡ Q i j)
+    → (j : ℕ) → j < m → syndrome m k R e j ≡ syndrome m k Q f j
+unfolding syndrome
+syndrome-cong m k R Q e f h g j l =
+    ap₂ addT (h j (omega arith)) (times-key-cong k R Q (λ i. e (m + i)) (λ i. f (m + i)) j (λ i b. h (m + i) (omega arith)) (λ i b. g i j b l))
+
+module _ (m k : ℕ) (R : Key) (y s : ℕ → Trit) where
+  pub full-low : (q : ℕ) → q < m → fullWord m k R y s q ≡ subT (y q) (timesKey k R s q)
+  unfolding fullWord
+  full-low q h = rw (lt-ltb q m h)
+
+  pub full-high : (i : ℕ) → fullWord m k R y s (m + i) ≡ s i
+  unfolding fullWord
+  full-high i =
+      let e : (m + i) - m ≡ i = omega arith in
+      rw (le-ltb (m + i) m (omega arith), e)
+
+  pub full-extends : Extends m k (fullWord m k R y s) s
+  full-extends i l = full-high i
+
+  pub full-syndrome : HasSyndrome m k R (fullWord m k R y s) y
+  unfolding syndrome
+  full-syndrome j h =
+      ap₂ addT (full-low j h) (times-key-cong k R R (λ i. fullWord m k R y s (m + i)) s j (λ i l. full-high i) (λ i l. refl))
+      ∙ law2 (λ y t. addT (subT y t) t) (λ y t. y) tt (y j) (timesKey k R s j)
+
+  -- and no other word has that syndrome and extends s
+  pub full-unique : (e : ℕ → Trit) → HasSyndrome m k R e y → Extends m k e s → (q : ℕ) → q < m + k → e q ≡ fullWord m k R y s q
+  unfolding syndrome
+  full-unique e a b q h = go (ltb q m) refl
+    where
+      go : (t : Bool) → ltb q m ≡ t → e q ≡ fullWord m k R y s q
+      go true t =
+          let l = ltb-true q m t in
+          sym (law2 (λ x t. subT (addT x t) t) (λ x t. x) tt (e q) (timesKey k R s q))
+          ∙ ap (λ (x : Trit). subT x (timesKey k R s q)) (ap (addT (e q)) (times-key-cong k R R s (λ i. e (m + i)) q (λ i o. sym (b i o)) (λ i o. refl)) ∙ a q l)
+          ∙ sym (full-low q l)
+      go false t =
+          let back : m + (q - m) ≡ q = omega (arith, ltb-false q m t) in
+          subst (λ (x : ℕ). e x ≡ fullWord m k R y s x) back (b (q - m) (omega (arith, ltb-false q m t)) ∙ sym (full-high (q - m)))
+
+  -- the answer is the weight of that word, and yes where that is w
+  pub weight-of : (e : ℕ → Trit) → HasSyndrome m k R e y → Extends m k e s → fullWeight m k R y s ≡ weightV e (m + k)
+  unfolding fullWeight
+  weight-of e a b = sum-cong (m + k) (λ q. nonZero (fullWord m k R y s q)) (λ q. nonZero (e q)) (λ q h. ap nonZero (sym (full-unique e a b q h)))
+
+  pub yes-weight : (w : ℕ) → (saysYes m k w R y s ≡ true) ↔ (fullWeight m k R y s ≡ w)
+  unfolding saysYes
+  yes-weight w = (eqb-true (fullWeight m k R y s) w, eq-eqb (fullWeight m k R y s) w)

@@ -1,0 +1,2 @@
+-- The definitions of the module's half: the verdict.
+pub mod Verdict

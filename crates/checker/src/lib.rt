@@ -1,0 +1,1 @@
+// The module's half: the verdict on a signature. So far definitions and laws.

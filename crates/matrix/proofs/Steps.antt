@@ -1,0 +1,106 @@
+-- The steps of elimination as they are run: the search for a pivot's row, and the row operations of a step. Assumes nothing.
+use mathlib.Core.Path.{_≡_, refl, sym, ap, _∙_, fun-ext}
+use mathlib.Core.Bool.{Bool, true, false, cond}
+use Prim.Native.Nat.{ℕ, zero, suc, _+_, _-_, _≤_, _<_}
+use native.Mathlib.Numerals.{add-one}
+use native.Mathlib.Decide.{ℕ-discrete}
+use native.Mathlib.Omega.{arith}
+use borrow.Author.Tests.{eq-eqb, ne-eqb, lt-ltb, le-ltb, ltb-true, ltb-false}
+use Rattle.trits.specs.Trit.{t0, mulT, isSet}
+use Rattle.trits.proofs.Arithmetic.{mul-assoc}
+use Rattle.matrix.specs.Linear.{Matrix}
+use Rattle.matrix.specs.Eliminate.{swapRows, clearRows, scaleRow, takeOut, firstRow, pivotRow, hasPivot, stepOf}
+use Rattle.matrix.proofs.Field.{unset-zero}
+
+-- ---- the search for a row
+
+module _ (A : Matrix) (q : ℕ) where
+  pub first-here : (r i : ℕ) → i < r → isSet (A i q) ≡ true → i ≡ firstRow A q i (r - i)
+  unfolding firstRow
+  first-here r i h e = let k : r - i ≡ suc (r - i - 1) = omega arith in rw (k, firstRow, e)
+
+  pub first-next : (r i : ℕ) → i < r → isSet (A i q) ≡ false → firstRow A q i (r - i) ≡ firstRow A q (i + 1) (r - (i + 1))
+  unfolding firstRow
+  first-next r i h e =
+      let k : r - i ≡ suc (r - (i + 1)) = omega arith in
+      rw (k, firstRow, e) (ap (λ (z : ℕ). firstRow A q z (r - (i + 1))) (sym (add-one i)))
+
+  pub first-end : (r i : ℕ) → i ≡ r → i ≡ firstRow A q i (r - i)
+  unfolding firstRow
+  first-end r i e = let k : r - i ≡ 0 = omega arith in rw (k, firstRow)
+
+  -- what the search finds
+  pub record Found (at k p : ℕ) : Type 0 where
+    pub above : at ≤ p
+    pub within : p ≤ at + k
+    pub zeros : (i : ℕ) → at ≤ i → i < p → A i q ≡ t0
+    pub set : p < at + k → isSet (A p q) ≡ true
+
+  pub first-found : (at k : ℕ) → Found at k (firstRow A q at k)
+  unfolding firstRow
+  first-found at zero = record { above = omega arith; within = omega arith; zeros = λ i h l. absurd (omega arith); set = λ l. absurd (omega arith) }
+  first-found at (suc k) = by (first-found (suc at) k) (isSet (A at q)) refl
+    where
+      by : Found (suc at) k (firstRow A q (suc at) k) → (t : Bool) → isSet (A at q) ≡ t → Found at (suc k) (cond (isSet (A at q)) at (firstRow A q (suc at) k))
+      by f true e = rw e (record { above = omega arith; within = omega arith; zeros = λ i h l. absurd (omega arith); set = λ l. e })
+      by f false e =
+          rw e
+          (record {
+            above = omega (arith, f .above);
+            within = omega (arith, f .within);
+            zeros = λ i h l. go i h l (ℕ-discrete i at);
+            set = λ l. f .set (omega arith);
+          })
+        where
+          go : (i : ℕ) → at ≤ i → i < firstRow A q (suc at) k → Dec (i ≡ at) → A i q ≡ t0
+          go i h l (yes d) = ap (λ (z : ℕ). A z q) d ∙ unset-zero (A at q) e
+          go i h l (no d) = f .zeros i (omega arith) l
+
+-- ---- the row operations of a step, one after another
+
+pub take-scaled : (j q : ℕ) (A : Matrix) → isSet (A j q) ≡ true → takeOut j q (scaleRow j (A j q) A) ≡ clearRows j q A
+take-scaled j q A z = fun-ext (λ i. fun-ext (λ t. by i t (ℕ-discrete i j)))
+  where
+    by : (i t : ℕ) → Dec (i ≡ j) → takeOut j q (scaleRow j (A j q) A) i t ≡ clearRows j q A i t
+    by i t (yes e) = rw (eq-eqb i j e) (ap (λ (z : ℕ). mulT (A j q) (A z t)) e)
+    by i t (no f) = rw (ne-eqb i j f, eq-eqb j j refl, mul-assoc (A i q) (A j q) (A j t))
+
+module _ (r at q : ℕ) (A : Matrix) where
+  pub no-pivot : pivotRow r A q at ≡ r → (false ≡ hasPivot r at q A) × (A ≡ stepOf r at q A)
+  unfolding hasPivot stepOf
+  no-pivot e = let h = le-ltb (pivotRow r A q at) r (omega (arith, e)) in (sym h, rw h)
+
+  pub a-pivot : pivotRow r A q at < r → (true ≡ hasPivot r at q A) × (clearRows at q (swapRows at (pivotRow r A q at) A) ≡ stepOf r at q A)
+  unfolding hasPivot stepOf
+  a-pivot l = let h = lt-ltb (pivotRow r A q at) r l in (sym h, rw h)
+
+-- the tests of a step
+module _ (r at q : ℕ) (A : Matrix) where
+  pub has-row : hasPivot r at q A ≡ true → (at ≤ pivotRow r A q at) × (pivotRow r A q at < r) × (isSet (A (pivotRow r A q at) q) ≡ true)
+  unfolding hasPivot
+  has-row e =
+      let l = ltb-true (pivotRow r A q at) r e in
+      let f = first-found A q at (r - at) in
+      (f .above, l, f .set (omega arith))
+
+  pub has-none : hasPivot r at q A ≡ false → (i : ℕ) → at ≤ i → i < r → A i q ≡ t0
+  unfolding hasPivot
+  has-none e i h l =
+      let g = ltb-false (pivotRow r A q at) r e in
+      first-found A q at (r - at) .zeros i h (omega arith)
+
+  pub step-has : hasPivot r at q A ≡ true → stepOf r at q A ≡ clearRows at q (swapRows at (pivotRow r A q at) A)
+  unfolding stepOf
+  step-has e = rw e
+
+  pub step-none : hasPivot r at q A ≡ false → stepOf r at q A ≡ A
+  unfolding stepOf
+  step-none e = rw e
+
+  -- the count stays within the rows
+  pub count-room : at ≤ r → cond (hasPivot r at q A) (suc at) at ≤ r
+  count-room h = by (hasPivot r at q A) refl
+    where
+      by : (t : Bool) → hasPivot r at q A ≡ t → cond (hasPivot r at q A) (suc at) at ≤ r
+      by true e = rw e (let f = has-row e in omega (arith, f .0, f .1))
+      by false e = rw e h

@@ -1,0 +1,5 @@
+-- The definitions, in reading order: vectors and matrices, orders of places, elimination as it is run, digits.
+pub mod Linear
+pub mod Orders
+pub mod Eliminate
+pub mod Digits

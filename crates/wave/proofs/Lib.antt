@@ -1,0 +1,5 @@
+-- The theorems: the syndrome and the secret matrix, demand 3, the verdict, the starred cases.
+pub mod Syndrome
+pub mod Reach
+pub mod Verifier
+pub mod Cases

@@ -1,0 +1,53 @@
+-- The verdict: yes exactly when some word of weight w that has the syndrome extends s, and it is one word; what a draw releases is accepted; a build ends. Assumes nothing.
+use mathlib.Core.Path.{_≡_, refl, sym, ap, _∙_}
+use mathlib.Core.Logic.{_↔_}
+use mathlib.Core.Bool.{true}
+use mathlib.Core.List.{List}
+use Prim.Native.Nat.{ℕ, _+_, _<_}
+use lib.ListN.{take}
+use Rattle.trits.specs.Trit.{weightV}
+use Rattle.matrix.specs.Linear.{Vector}
+use Rattle.matrix.specs.Orders.{Order}
+use Rattle.matrix.proofs.Greedy.{Kept}
+use Rattle.checker.specs.Verdict.{Key, fullWord, fullWeight, saysYes, HasSyndrome, Extends}
+use Rattle.checker.proofs.FullWord.{full-syndrome, full-extends, full-unique, weight-of, yes-weight}
+use Rattle.signer.specs.Sizes.{Sizes, places, dim, codim, sizesFit}
+use Rattle.signer.specs.Secret.{Secret, secretMatrix}
+use Rattle.signer.specs.Build.{arranged}
+use Rattle.signer.specs.Draw.{signature}
+use Rattle.signer.proofs.Ranges.{codim-dim, build-passed, build-ends}
+use Rattle.wave.specs.Demand.{sized, Released, Releases}
+use Rattle.wave.proofs.Reach.{reach}
+
+-- ---- for any key at all
+
+module _ (m k : ℕ) (R : Key) (y s : Vector) where
+  pub verifier : (w : ℕ) → (saysYes m k w R y s ≡ true) ↔ ((e : Vector) × (weightV e (m + k) ≡ w) × HasSyndrome m k R e y × Extends m k e s)
+  unfolding fullWeight
+  verifier w = (
+    (λ h. (fullWord m k R y s, yes-weight m k R y s w .0 h, full-syndrome m k R y s, full-extends m k R y s)),
+    λ (e, h, a, b). yes-weight m k R y s w .1 (weight-of m k R y s e a b ∙ h),
+  )
+
+  -- no two words of one syndrome extend the same signature
+  pub extends-once : (e f : Vector) → HasSyndrome m k R e y → Extends m k e s → HasSyndrome m k R f y → Extends m k f s → (q : ℕ) → q < m + k → e q ≡ f q
+  extends-once e f a b c d q h = full-unique m k R y s e a b q h ∙ sym (full-unique m k R y s f c d q h)
+
+-- ---- for a key that a build released
+
+module _ (z : Sizes) (s : Secret) (start p : List ℕ) (R : Key) (re : Released z s start p R) where
+  -- the signature of a word that a draw releases is accepted, with weight w
+  pub released-accepted : (g w : ℕ) → sizesFit (sized z g w) ≡ true → (y e : Vector) → Releases (sized z g w) s p y e
+      → (fullWeight (codim z) (dim z) R y (signature z e) ≡ w) × (saysYes (codim z) (dim z) w R y (signature z e) ≡ true)
+  released-accepted g w h y e r =
+      let t = reach z s start p R re g w h y e .0 r in
+      let c : fullWeight (codim z) (dim z) R y (signature z e) ≡ w =
+      weight-of (codim z) (dim z) R y (signature z e) e (t .has-syndrome) (λ i l. refl)
+      ∙ ap (weightV e) (codim-dim z (build-passed z s start (re .given) (re .passed) .ranges)) ∙ t .weighs in
+      (c, yes-weight (codim z) (dim z) R y (signature z e) w .1 c)
+
+  -- the build ended with n-k columns kept: p is an order of the n places, and the columns at its first n-k places are independent
+  pub build-ended : (arranged (codim z) (places z) (secretMatrix z s) start .kept ≡ codim z) × Order (places z) p × Kept (codim z) (places z) (secretMatrix z s) (take (codim z) p)
+  build-ended =
+      let a = build-ends z s start (build-passed z s start (re .given) (re .passed)) in
+      (a .count, (rw (re .order) (a .order)), rw (re .order) (a .kept))

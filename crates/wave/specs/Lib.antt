@@ -1,0 +1,2 @@
+-- What is said of both halves together.
+pub mod Demand

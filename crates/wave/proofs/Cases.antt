@@ -1,13 +1,15 @@
--- The starred cases of the paper ("At the edges") that do not speak of packing, and its example of lines, by computation over the definitions.
--- Those of packing stand in the `Cases` of packing, and cases that the stars leave open in those of the signer. Assumes nothing.
+-- The starred cases of the paper ("At the edges"), and its example of lines, by computation over the definitions.
+-- Cases that the stars leave open stand in the `Cases` of packing and of the signer. Assumes nothing.
 use mathlib.Core.Path.{_≡_, refl}
 use mathlib.Core.Bool.{true, false}
 use mathlib.Core.List.{List, [], _∷_}
 use Prim.Native.Nat.{ℕ, zero, suc, _+_, _<_}
 use native.Mathlib.Omega.{arith}
 use lib.ListN.{getD}
-use Rattle.trits.specs.Trit.{t0, isSet, dotV, anyTo, sumTo}
+use Rattle.trits.specs.Trit.{t0, isSet, dotV, anyTo, sumTo, upTo}
 use Rattle.trits.specs.Planes.{tabulate}
+use Rattle.packing.specs.Packed.{byteOf, digitOf, packedAt, packedRow, packedBytes, badByte, packedRefusal}
+use Rattle.packing.specs.Calls.{unpackRefusal}
 use Rattle.matrix.specs.Linear.{Vector, agree, find, solve, inSpan, keep, pivots, rank, without, fill, range}
 use Rattle.matrix.specs.Orders.{isOrder}
 use Rattle.matrix.specs.Digits.{vector, digits, matrix, digitRows}
@@ -49,6 +51,12 @@ abbrev refusal4 : ℕ → ℕ → ℕ → ℕ → ℕ
 refusal4 g w v u = drawRefusal (sizes4 g w) secret4 order4 y4 (choose v u)
 
 pub record Starred : Type 0 where
+  -- trits 1,2,0,0,1 pack to 88
+  pub packs-88 : packedBytes 5 (vector (1 ∷ 2 ∷ 0 ∷ 0 ∷ 1 ∷ [])) ≡ 88 ∷ []
+  -- 242 reads 2,2,2,2,2
+  pub reads-242 : digits 5 (packedRow 5 (242 ∷ [])) ≡ 2 ∷ 2 ∷ 2 ∷ 2 ∷ 2 ∷ []
+  -- 243 gives 5
+  pub refused-243 : unpackRefusal 5 (243 ∷ []) (0 ∷ []) (0 ∷ []) ≡ 5
   -- start (0,1,2,3): R has rows 02 and 22, p unchanged
   pub start-0123 : keyOrder (sizes4 0 4) secret4 (0 ∷ 1 ∷ 2 ∷ 3 ∷ []) ≡ 0 ∷ 1 ∷ 2 ∷ 3 ∷ []
   pub rows-0123 : digitRows 2 2 (keyRow (sizes4 0 4) secret4 (0 ∷ 1 ∷ 2 ∷ 3 ∷ [])) ≡ (0 ∷ 2 ∷ []) ∷ (2 ∷ 2 ∷ []) ∷ []
@@ -76,8 +84,11 @@ pub record Starred : Type 0 where
   pub accepted-1200 : saysYes 2 2 2 key4 y4 (vector (0 ∷ 0 ∷ [])) ≡ true
 
 pub starred : Starred
-unfolding dotV anyTo sumTo tabulate agree find solve inSpan keep pivots rank without fill range digitRows secretMatrix arrange arranged rowOfR buildRefusal pivotsV suppliedV drawV pivotsU suppliedU drawU drawn drawRefusal timesKey fullWord fullWeight saysYes
+unfolding upTo byteOf digitOf packedAt packedRow packedBytes badByte packedRefusal unpackRefusal dotV anyTo sumTo tabulate agree find solve inSpan keep pivots rank without fill range digitRows secretMatrix arrange arranged rowOfR buildRefusal pivotsV suppliedV drawV pivotsU suppliedU drawU drawn drawRefusal timesKey fullWord fullWeight saysYes
 starred = record {
+  packs-88 = refl;
+  reads-242 = refl;
+  refused-243 = refl;
   start-0123 = refl;
   rows-0123 = refl;
   start-1203 = refl;

@@ -58,21 +58,25 @@ fn next(x: u8) -> u8
     x - 236
 }
 
-// The rule at its edges: the paper's bytes, the last byte, a row of no trits.
-fn edges() {
+// The rule at its edges: the paper's bytes, and the last byte.
+fn pack_edges() {
     show::pack(5, &[17], &[2], &mut [9]);
     show::pack(5, &[0], &[31], &mut [9]);
     show::pack(4, &[0], &[15], &mut [9]);
     show::pack(6, &[0], &[63], &mut [9, 9]);
     show::pack(1, &[0], &[1], &mut [9]);
+}
+
+// The same, read back.
+fn unpack_edges() {
     show::unpack(5, &[88], &mut [9], &mut [9]);
     show::unpack(5, &[242], &mut [9], &mut [9]);
     show::unpack(2, &[242], &mut [9], &mut [9]);
     show::unpack(1, &[241], &mut [9], &mut [9]);
 }
 
-// What pack refuses: sizes, each length, a bit in both planes, a bit past the length, and which comes first.
-fn refused_pack() {
+// What pack refuses: sizes and each length.
+fn pack_lengths() {
     show::pack(16385, &[0], &[0], &mut [9]);
     show::pack(5, &[0, 0], &[0], &mut [9]);
     show::pack(5, &[0], &[0, 0], &mut [9]);
@@ -84,6 +88,10 @@ fn refused_pack() {
         &[0, 0],
         &mut [9, 9, 9, 9, 9, 9, 9, 9, 9, 9, 9, 9, 9],
     );
+}
+
+// And a bit in both planes, a bit past the length, and which comes first.
+fn pack_contents() {
     show::pack(5, &[4], &[6], &mut [9]);
     show::pack(5, &[32], &[0], &mut [9]);
     show::pack(5, &[0], &[9223372036854775808], &mut [9]);
@@ -91,28 +99,40 @@ fn refused_pack() {
     show::pack(5, &[33], &[1], &mut [9]);
 }
 
-// What unpack refuses: sizes, each length, a byte above 242, also where only its ignored trits are large.
-fn refused_unpack() {
+// What unpack refuses: sizes and each length.
+fn unpack_lengths() {
     show::unpack(16385, &[0], &mut [9], &mut [9]);
     show::unpack(6, &[0], &mut [9], &mut [9]);
     show::unpack(5, &[0, 0], &mut [9], &mut [9]);
     show::unpack(5, &[0], &mut [9, 9], &mut [9]);
     show::unpack(5, &[0], &mut [9], &mut [9, 9]);
+}
+
+// And a byte above 242, also where only its ignored trits are large.
+fn unpack_contents() {
     show::unpack(5, &[243], &mut [9], &mut [9]);
     show::unpack(6, &[0, 255], &mut [9], &mut [9]);
     show::unpack(1, &[243], &mut [9], &mut [9]);
 }
 
-// Streams: skipped bytes, a last byte that gives less, streams that end too soon, bytes that are not looked at.
+// Streams: skipped bytes, a last byte that gives less, bytes that are not looked at.
 fn streams() {
     show::stream(9, &[255, 88, 243, 242, 7], &mut [9], &mut [9]);
     show::stream(10, &[88, 244, 242], &mut [9], &mut [9]);
     show::stream(6, &[1, 1, 255], &mut [9], &mut [9]);
     show::stream(5, &[243, 250, 80], &mut [9], &mut [9]);
     show::stream(1, &[2], &mut [9], &mut [9]);
+}
+
+// Streams that end too soon.
+fn short_streams() {
     show::stream(6, &[1, 243], &mut [9], &mut [9]);
     show::stream(1, &[243, 255], &mut [9], &mut [9]);
     show::stream(11, &[1, 2], &mut [9], &mut [9]);
+}
+
+// And sizes and each length.
+fn stream_lengths() {
     show::stream(16385, &[1], &mut [9], &mut [9]);
     show::stream(5, &[1], &mut [9, 9], &mut [9]);
     show::stream(5, &[1], &mut [9], &mut [9, 9]);
@@ -124,10 +144,15 @@ fn main() {
         STDOUT_FILENO,
         b"what the packing calls answer and leave; expected by tests/packing_cases.py, from the paper's rules on lists of trits\n",
     );
-    edges();
-    refused_pack();
-    refused_unpack();
+    pack_edges();
+    unpack_edges();
+    pack_lengths();
+    pack_contents();
+    unpack_lengths();
+    unpack_contents();
     streams();
+    short_streams();
+    stream_lengths();
     round_trip(0);
     round_trip(1);
     round_trip(4);

@@ -1,10 +1,10 @@
 -- Rows of a matrix: the part that a row is, its trits, and the test of every row. Assumes nothing.
-use mathlib.Core.Path.{_≡_, refl, sym, ap, ap₂, _∙_, subst}
+use mathlib.Core.Path.{_≡_, sym, ap, ap₂, _∙_, subst}
 use mathlib.Core.Logic.{_⊎_, inl, inr, _≢_}
-use mathlib.Core.Bool.{Bool, true, false, not, _&&_, _||_, cond, and-false}
+use mathlib.Core.Bool.{Bool, false, not, _&&_, _||_, cond, and-false}
 use mathlib.Core.List.{List, []}
 use Prim.Native.Nat.{ℕ, _+_, _-_, _*_, _/_, _%_, _^_, _≤_, _<_}
-use native.Mathlib.Nat.{mul-le-mul-right, suc-mul, mul-div-cancel, mul-mod-left, div-add-mod'}
+use native.Mathlib.Nat.{mul-le-mul-right, suc-mul}
 use native.Mathlib.Decide.{decLt}
 use native.Mathlib.Numerals.{add-one}
 use mir.Syntax.{w64}
@@ -57,28 +57,6 @@ module _ (plane : List ℕ) (rows w i : ℕ) where
 
   pub part-length : length plane ≡ rows * w → i < rows → length (rowPart plane rows w i) ≡ w
   part-length e h = ap length (sym (part-there e h)) ∙ length-mid (i * w) w plane (omega (arith, row-le w h))
-
-  empty : (t : Bool) → w ≡ 0 → [] ≡ cond t (take w (drop (i * w) plane)) []
-  empty true z = sym (ap (λ (k : ℕ). take k (drop (i * w) plane)) z)
-  empty false z = refl
-
-  -- the five ends of `row_part`
-  pub part-no-words : w ≡ 0 → [] ≡ rowPart plane rows w i
-  unfolding rowPart
-  part-no-words z = empty (eqb (length plane) (rows * w) && ltb i rows) z
-
-  module _ (p : w ≡ 0 → ⊥) where
-    positive : 0 < w
-    positive = let n : w ≢ 0 = p in omega arith
-
-    pub part-other : (length plane / w ≡ rows → ⊥) → [] ≡ rowPart plane rows w i
-    part-other f = part-wrong (λ e. f (ap (λ (n : ℕ). n / w) e ∙ mul-div-cancel rows positive))
-
-    pub part-over : (length plane % w ≡ 0 → ⊥) → [] ≡ rowPart plane rows w i
-    part-over f = part-wrong (λ e. f (ap (λ (n : ℕ). n % w) e ∙ mul-mod-left rows w))
-
-    pub part-size : length plane / w ≡ rows → length plane % w ≡ 0 → length plane ≡ rows * w
-    part-size d r = sym (div-add-mod' (length plane) w) ∙ ap₂ (λ (x y : ℕ). x * w + y) d r ∙ omega arith
 
 -- ---- its trits
 

@@ -47,18 +47,13 @@ pub fn copy_words(plane: &mut [u64], src: &[u64])
 
 // Row i of a plane of `rows` rows of `words` words each, or the empty part.
 pub fn row_part<'a>(plane: &'a [u64], rows: usize, words: usize, i: usize) -> &'a [u64]
+    requires { ⌜ (rows ≤ 65536) × (words ≤ 65536) ⌝ }
     ensures { λ r. ⌜ now r ≡ rowPart (now (plane .entry)) rows words i ⌝ }
 {
+    if plane.len() != rows * words {
+        return &plane[..0];
+    }
     if i >= rows {
-        return &plane[..0];
-    }
-    if words == 0 {
-        return &plane[..0];
-    }
-    if plane.len() / words != rows {
-        return &plane[..0];
-    }
-    if plane.len() % words != 0 {
         return &plane[..0];
     }
     let a = i * words;

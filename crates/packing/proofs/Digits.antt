@@ -4,10 +4,12 @@ use mathlib.Core.List.{List}
 use Prim.Native.Nat.{ℕ, zero, suc, _+_, _*_, _/_, _%_, _^_, _<_}
 use native.Mathlib.Nat.{mod-lt, zero-lt-suc}
 use native.Mathlib.Omega.{arith}
+use lib.Arith.{digits-div, digits-mod}
 use lib.ListN.{getD}
 use Rattle.trits.specs.Trit.{Trit, t0, t1, t2, number, tritOf}
 use Rattle.trits.proofs.Arithmetic.{number-tritOf}
-use Rattle.packing.specs.Packed.{byteOf, digitOf, packedAt}
+use Rattle.trits.proofs.Lists.{getD-tabulate}
+use Rattle.packing.specs.Packed.{byteOf, digitOf, byteTable, packedAt}
 
 pub number-lt : (x : Trit) → number x < 3
 number-lt t0 = omega arith
@@ -79,3 +81,9 @@ byte-digits b h =
 pub packed-place : (bytes : List ℕ) (j k : ℕ) → k < 5 → packedAt bytes (5 * j + k) ≡ tritOf (digitOf (getD bytes j 0) k)
 unfolding packedAt
 packed-place bytes j k h = ap₂ (λ (q r : ℕ). tritOf (digitOf (getD bytes q 0) r)) (omega arith) (omega arith)
+
+-- ---- the byte table, at each of its entries
+
+pub table-rule : (b k : ℕ) → b < 243 → k < 5 → getD byteTable (b * 5 + k) 0 ≡ digitOf b k
+unfolding byteTable
+table-rule b k hb hk = rw (digits-div b hk, digits-mod b hk) at (getD-tabulate 1215 (λ i. digitOf (i / 5) (i % 5)) (b * 5 + k) 0 (omega arith))

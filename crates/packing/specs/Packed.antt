@@ -21,6 +21,10 @@ byteOf v j =
 unfoldable pub digitOf : ℕ → ℕ → ℕ
 digitOf b k = b / 3 ^ k % 3
 
+-- the byte table: the five digits of each byte from 0 to 242, one byte after another
+unfoldable pub byteTable : List ℕ
+byteTable = tabulate (λ i. digitOf (i / 5) (i % 5)) 1215
+
 -- the trits of bytes: place p is digit p % 5 of byte p / 5
 unfoldable pub packedAt : List ℕ → ℕ → Trit
 packedAt bytes p = tritOf (digitOf (getD bytes (p / 5) 0) (p % 5))

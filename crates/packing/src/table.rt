@@ -1,14 +1,22 @@
 // The byte table: the five trits of each byte from 0 to 242.
 ghost use mathlib.Core.Path.{_≡_};
 ghost use Prim.Native.Nat.{_<_};
-ghost use Rattle.packing.specs.Packed.{digitOf};
+ghost use Rattle.packing.specs.Packed.{digitOf, byteTable};
+
+// The table, made once by who reads many trits, and lent to `trit`.
+pub fn byte_table() -> [u8; 1215]
+    ensures { λ r. ⌜ r ≡ byteTable ⌝ }
+{
+    TRITS
+}
 
 // Trit k of the packed byte b.
-pub fn trit(b: u8, k: usize) -> u8
+pub fn trit(table: &[u8; 1215], b: u8, k: usize) -> u8
+    requires { ⌜ now table ≡ byteTable ⌝ }
     requires { ⌜ (b < 243) × (k < 5) ⌝ }
     ensures { λ r. ⌜ r ≡ digitOf b k ⌝ }
 {
-    TRITS[b as usize * 5 + k]
+    table[b as usize * 5 + k]
 }
 
 const TRITS: [u8; 1215] = [

@@ -4,9 +4,10 @@ ghost use Prim.Native.Nat.{_+_, _*_, _≤_, _<_};
 ghost use lib.ListN.{length};
 ghost use Rattle.trits.specs.Planes.{tritAt, Row, Reads};
 ghost use Rattle.trits.specs.Refusal.{codeOf};
-ghost use Rattle.packing.specs.Packed.{badByte, packedRefusal, packedRow};
+ghost use Rattle.packing.specs.Packed.{badByte, byteTable, packedRefusal, packedRow};
 ghost use Rattle.packing.specs.Stream.{kept, streamRow, tooShort};
 ghost use Rattle.packing.specs.Steps.{gives, missing, withByte};
+use super::table::byte_table;
 use super::table::trit;
 use trits::refusal::Outcome;
 use trits::refusal::Refusal;
@@ -65,20 +66,29 @@ pub fn too_short(m: usize, bytes: &[u8]) -> bool
 }
 
 // The first `count` trits of a byte are put at the places from `at` on.
-fn put_byte(b: u8, ones: &mut [u64], twos: &mut [u64], at: usize, count: usize)
+fn put_byte(table: &[u8; 1215], b: u8, ones: &mut [u64], twos: &mut [u64], at: usize, count: usize)
+    requires { ⌜ now table ≡ byteTable ⌝ }
     requires { ⌜ Row (now ones) (now twos) ⌝ }
     requires { ⌜ (b < 243) × (count ≤ 5) × (at + count ≤ 64 * length (now ones)) × (length (now ones) ≤ 65536) ⌝ }
     ensures { λ _. ⌜ Reads (now (ones .exit)) (now (twos .exit)) (length (now (ones .entry))) (withByte (tritAt (now (ones .entry)) (now (twos .entry))) b at count) ⌝ }
 {
     let mut k = 0;
     while k < count {
-        trits::places::put_trit(ones, twos, at + k, trit(b, k));
+        trits::places::put_trit(ones, twos, at + k, trit(table, b, k));
         k += 1;
     }
 }
 
 // The trits that a byte gives are put at the places from `at` on, up to m; the next place is returned.
-fn put_next(m: usize, b: u8, ones: &mut [u64], twos: &mut [u64], at: usize) -> usize
+fn put_next(
+    table: &[u8; 1215],
+    m: usize,
+    b: u8,
+    ones: &mut [u64],
+    twos: &mut [u64],
+    at: usize,
+) -> usize
+    requires { ⌜ now table ≡ byteTable ⌝ }
     requires { ⌜ Row (now ones) (now twos) ⌝ }
     requires { ⌜ (at ≤ m) × (m ≤ 64 * length (now ones)) × (length (now ones) ≤ 65536) ⌝ }
     ensures { λ r. ⌜ r ≡ at + gives m at b ⌝ }
@@ -89,15 +99,16 @@ fn put_next(m: usize, b: u8, ones: &mut [u64], twos: &mut [u64], at: usize) -> u
     }
     let left = m - at;
     if left < 5 {
-        put_byte(b, ones, twos, at, left);
+        put_byte(table, b, ones, twos, at, left);
         return at + left;
     }
-    put_byte(b, ones, twos, at, 5);
+    put_byte(table, b, ones, twos, at, 5);
     at + 5
 }
 
 // The bytes' trits are written to the first places of planes that are 0.
-fn put_stream(m: usize, bytes: &[u8], ones: &mut [u64], twos: &mut [u64])
+fn put_stream(table: &[u8; 1215], m: usize, bytes: &[u8], ones: &mut [u64], twos: &mut [u64])
+    requires { ⌜ now table ≡ byteTable ⌝ }
     requires { ⌜ Reads (now ones) (now twos) (length (now ones)) (streamRow 0 (now bytes)) ⌝ }
     requires { ⌜ (m ≤ 5 * length (kept (now bytes))) × (m ≤ 64 * length (now ones)) × (length (now ones) ≤ 65536) ⌝ }
     ensures { λ _. ⌜ Reads (now (ones .exit)) (now (twos .exit)) (length (now (ones .entry))) (streamRow m (now (bytes .entry))) ⌝ }
@@ -105,7 +116,7 @@ fn put_stream(m: usize, bytes: &[u8], ones: &mut [u64], twos: &mut [u64])
     let mut at = 0;
     let mut i = 0;
     while at < m {
-        at = put_next(m, bytes[i], ones, twos, at);
+        at = put_next(table, m, bytes[i], ones, twos, at);
         i += 1;
     }
 }
@@ -117,7 +128,8 @@ pub fn write_stream(m: usize, bytes: &[u8], ones: &mut [u64], twos: &mut [u64])
 {
     trits::words::zero_words(ones);
     trits::words::zero_words(twos);
-    put_stream(m, bytes, ones, twos);
+    let table = byte_table();
+    put_stream(&table, m, bytes, ones, twos);
 }
 
 // The row of m trits of packed bytes that passed their test; what the planes held before is gone.

@@ -12,16 +12,16 @@ use Rattle.packing.proofs.write.put_byte.Statement.{statement}
 use Rattle.packing.proofs.write.put_byte.Tie as tie
 
 abbrev Inv-loop : tie.InvT-loop
-Inv-loop b ones₀ twos₀ at count k₀ ones twos k =
+Inv-loop table b ones₀ twos₀ at count k₀ ones twos k =
     (k ≤ count) × Reads ones twos (length ones₀) (withByte (tritAt ones₀ twos₀) b at k)
 
 abbrev μ-loop : tie.MeasureT-loop
-μ-loop b ones₀ twos₀ at count k₀ ones twos k = count - k
+μ-loop table b ones₀ twos₀ at count k₀ ones twos k = count - k
 
 loop-holds : tie.Need-loop-holds Inv-loop μ-loop
 loop-holds c =
     let s = c .before .before in
-    (omega arith, record { row = s .pre .0; size = refl; trits = with-none _ (s .args .b) (s .args .at) })
+    (omega arith, record { row = s .pre .1 .0; size = refl; trits = with-none _ (s .args .b) (s .args .at) })
 
 add-put-trit : tie.Need-add-put-trit Inv-loop μ-loop
 add-put-trit c =
@@ -29,7 +29,7 @@ add-put-trit c =
 
 trit-requires : tie.Need-trit-requires Inv-loop μ-loop
 trit-requires c κs =
-    omega arith
+    (c .before .before .before .before .before .before .pre .0, omega arith)
 
 put-trit-requires : tie.Need-put-trit-requires Inv-loop μ-loop
 put-trit-requires c κs =
@@ -57,7 +57,7 @@ same-length c =
 
 same-length-2 : tie.Need-same-length-2 Inv-loop μ-loop
 same-length-2 c =
-    c .before .loop .inv .1 .row .same ∙ c .before .loop .inv .1 .size ∙ sym (c .before .before .before .before .pre .0 .same)
+    c .before .loop .inv .1 .row .same ∙ c .before .loop .inv .1 .size ∙ sym (c .before .before .before .before .pre .1 .0 .same)
 
 returns : tie.Need-returns Inv-loop μ-loop
 returns c =

@@ -17,7 +17,7 @@ returns c =
     let a = s .args in
     let u = tritAt (now (a .ones)) (now (a .twos)) in
     let z = gives-none (a .m) (a .at) (a .b) (omega arith) in
-    (omega arith, record { row = s .pre .0; size = refl; trits = with-none u (a .b) (a .at) ∙ ap (withByte u (a .b) (a .at)) (sym z) })
+    (omega arith, record { row = s .pre .1 .0; size = refl; trits = with-none u (a .b) (a .at) ∙ ap (withByte u (a .b) (a .at)) (sym z) })
 
 sub-left : tie.Need-sub-left
 sub-left c = search needs
@@ -25,7 +25,7 @@ sub-left c = search needs
 put-byte-requires : tie.Need-put-byte-requires
 put-byte-requires c κs =
     let s = c .before .before .before .before .before .before in
-    (s .pre .0, omega arith)
+    (s .pre .0, (s .pre .1 .0, omega arith))
 
 add-result : tie.Need-add-result
 add-result c =
@@ -46,7 +46,7 @@ returns-2 c =
 put-byte-requires-2 : tie.Need-put-byte-requires-2
 put-byte-requires-2 c κs =
     let s = c .before .before .before .before .before .before in
-    (s .pre .0, omega arith)
+    (s .pre .0, (s .pre .1 .0, omega arith))
 
 add-result-2 : tie.Need-add-result-2
 add-result-2 c =

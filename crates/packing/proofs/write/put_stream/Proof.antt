@@ -12,19 +12,19 @@ use Rattle.packing.proofs.write.put_stream.Statement.{statement}
 use Rattle.packing.proofs.write.put_stream.Tie as tie
 
 abbrev Inv-loop : tie.InvT-loop
-Inv-loop m bytes ones₀ twos₀ at₀ i₀ ones twos at i =
+Inv-loop table m bytes ones₀ twos₀ at₀ i₀ ones twos at i =
     Stands m bytes at i × Reads ones twos (length ones₀) (streamRow at bytes)
 
 abbrev μ-loop : tie.MeasureT-loop
-μ-loop m bytes ones₀ twos₀ at₀ i₀ ones twos at i = length bytes - i
+μ-loop table m bytes ones₀ twos₀ at₀ i₀ ones twos at i = length bytes - i
 
 loop-holds : tie.Need-loop-holds Inv-loop μ-loop
 loop-holds c =
-    (stands-none _ _, c .before .before .before .pre .0)
+    (stands-none _ _, c .before .before .before .pre .1 .0)
 
 -- there is a byte to read
 more : (c : tie.In-loop Inv-loop μ-loop) → c .before .loop .i < length (now (c .before .before .before .before .before .args .bytes))
-more c = stands-more (c .before .loop .inv .0) (c .loop-test .taken) (c .before .before .before .before .before .pre .1 .0)
+more c = stands-more (c .before .loop .inv .0) (c .loop-test .taken) (c .before .before .before .before .before .pre .1 .1 .0)
 
 shared-slice-read-put-next : tie.Need-shared-slice-read-put-next Inv-loop μ-loop
 shared-slice-read-put-next c =
@@ -34,7 +34,7 @@ put-next-requires : tie.Need-put-next-requires Inv-loop μ-loop
 put-next-requires c κs =
     let s = c .before .before .before .before in
     let r = s .loop .inv .1 in
-    (r .row, omega (arith, s .loop .inv .0 .within, r .size))
+    (s .before .before .before .before .pre .0, (r .row, omega (arith, s .loop .inv .0 .within, r .size)))
 
 add-i : tie.Need-add-i Inv-loop μ-loop
 add-i c =
@@ -58,7 +58,7 @@ same-length c =
 
 same-length-2 : tie.Need-same-length-2 Inv-loop μ-loop
 same-length-2 c =
-    c .before .loop .inv .1 .row .same ∙ c .before .loop .inv .1 .size ∙ sym (c .before .before .before .before .before .pre .0 .row .same)
+    c .before .loop .inv .1 .row .same ∙ c .before .loop .inv .1 .size ∙ sym (c .before .before .before .before .before .pre .1 .0 .row .same)
 
 returns : tie.Need-returns Inv-loop μ-loop
 returns c =

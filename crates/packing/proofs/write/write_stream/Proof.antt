@@ -18,14 +18,17 @@ zero-words-requires c κs = search needs
 zero-words-requires-2 : tie.Need-zero-words-requires-2
 zero-words-requires-2 c κs = search needs
 
+byte-table-requires : tie.Need-byte-table-requires
+byte-table-requires c κs = search needs
+
 put-stream-requires : tie.Need-put-stream-requires
 unfolding streamRow
 put-stream-requires c κs =
-    let s = c .before .before .before .before .before .before .before .before .before .before .before .before .before in
-    let eo = c .before .before .before .before .before .before .before .before .zero-words .ensures in
-    let et = c .before .before .before .before .zero-words2 .ensures in
+    let s = c .before .before .before .before .before .before .before .before .before .before .before .before .before .before .before in
+    let eo = c .before .before .before .before .before .before .before .before .before .before .zero-words .ensures in
+    let et = c .before .before .before .before .before .before .zero-words2 .ensures in
     let l = ap length eo ∙ length-zeros (length (now (s .args .ones))) in
-    (zeros-hold (packedAt (kept (now (s .args .bytes)))) eo et (s .pre .0), omega (arith, l))
+    (c .before .before .before .byte-table .ensures, (zeros-hold (packedAt (kept (now (s .args .bytes)))) eo et (s .pre .0), omega (arith, l)))
 
 same-length : tie.Need-same-length
 same-length c = search needs
@@ -35,8 +38,8 @@ same-length-2 c = search needs
 
 returns : tie.Need-returns
 returns c =
-    let s = c .before .before .before .before .before .before .before .before .before .before .before .before .before .before .before .before .before .before in
-    let l = ap length (c .before .before .before .before .before .before .before .before .before .before .before .before .before .zero-words .ensures) ∙ length-zeros (length (now (s .args .ones))) in
+    let s = c .before .before .before .before .before .before .before .before .before .before .before .before .before .before .before .before .before .before .before .before in
+    let l = ap length (c .before .before .before .before .before .before .before .before .before .before .before .before .before .before .before .zero-words .ensures) ∙ length-zeros (length (now (s .args .ones))) in
     rw l at (c .before .before .before .before .put-stream .ensures)
 
 pub write-stream-spec : {M : Type 1} → statement M
@@ -45,6 +48,7 @@ write-stream-spec =
     (tie.spec
     zero-words-requires
     zero-words-requires-2
+    byte-table-requires
     put-stream-requires
     same-length
     same-length-2

@@ -21,7 +21,7 @@ use Rattle.packing.specs.Packed.{bytesFor, packedRefusal}
 use Rattle.checker.specs.declared.state.Held.{Held}
 use Rattle.checker.specs.Verdict.{timesKey}
 use Rattle.checker.specs.Held.{sound, rowTrits, rowWords, keyWords, heldKey}
-use Rattle.checker.specs.Store.{rowRefusal}
+use Rattle.checker.specs.Store.{rowRefusal, storeRefusal, storePackedRefusal}
 use Rattle.checker.specs.Check.{callRefusal, planesLengths, planesContents, packedLengths, packedContents, heldWeight}
 use Rattle.checker.specs.Steps.{Whole}
 use Rattle.checker.proofs.Sizes.{Sizes, sizes}
@@ -50,6 +50,25 @@ room h ones twos e =
     let ne : h .rows ≢ h .k = eqb-false _ _ (c .0) in
     let l : h .rows < h .k = omega (arith, s .counted) in
     record { is-sound = b .0; all = s; more = l; ones-are = eqb-true _ _ (d .0); twos-are = eqb-true _ _ (f .0); within = row-le (rowWords h) {i = h .rows} {m = h .k} l }
+
+-- a row in planes passed
+pub stored-passed : (h : Held) (ones twos rowOnes rowTwos : List ℕ) → storeRefusal h ones twos rowOnes rowTwos ≡ 0
+    → Room h (length ones) (length twos) × (length rowOnes ≡ rowWords h) × (length rowTwos ≡ rowWords h) × (planesRefusal rowOnes rowTwos 1 (rowTrits h) ≡ 0)
+unfolding storeRefusal
+stored-passed h ones twos ro rt e =
+    let a = passed-first (rowRefusal h (length ones) (length twos)) _ e in
+    let b = passed-demand (eqb (length ro) (rowWords h)) 2 _ (lit< tt) (a .1) in
+    let c = passed-demand (eqb (length rt) (rowWords h)) 2 _ (lit< tt) (b .1) in
+    (room h (length ones) (length twos) (a .0), eqb-true _ _ (b .0), eqb-true _ _ (c .0), c .1)
+
+-- a packed row passed
+pub stored-packed-passed : (h : Held) (ones twos row : List ℕ) → storePackedRefusal h ones twos row ≡ 0
+    → Room h (length ones) (length twos) × (length row ≡ bytesFor (rowTrits h)) × (packedRefusal row ≡ 0)
+unfolding storePackedRefusal
+stored-packed-passed h ones twos row e =
+    let a = passed-first (rowRefusal h (length ones) (length twos)) _ e in
+    let b = passed-demand (eqb (length row) (bytesFor (rowTrits h))) 2 _ (lit< tt) (a .1) in
+    (room h (length ones) (length twos) (a .0), eqb-true _ _ (b .0), b .1)
 
 -- ---- a check
 

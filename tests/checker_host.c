@@ -246,10 +246,10 @@ static void example(void)
     m.held.w = 2;
     pack_digits("00", bytes(&m.s));
     verdict(&m, 2, 1);
-    /* trits past the length in the last byte are ignored on reading: 22222 is 22 here */
+    /* trits past the length in the last byte are ignored on reading: 22222 is 22 here, and the word 0022 */
     bytes(&m.s)[0] = 242;
     bytes(&m.y)[0] = 7 + 2 * 9 + 1 * 81;
-    verdict(&m, 4, 0);
+    verdict(&m, 2, 1);
     take_back_all();
 }
 

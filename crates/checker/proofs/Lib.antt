@@ -6,3 +6,4 @@ pub mod Product
 pub mod Passed
 pub mod Answers
 pub mod Storing
+pub mod Loader

@@ -13,7 +13,7 @@ use Rattle.checker.specs.Store.{storedPlane}
 use Prim.Native.Nat.{_<_}
 
 -- a part that came back with other words
-put-words : (a k : ℕ) (xs ys new : List ℕ) → k ≡ length new → ys ≡ new → putMid a k xs ys ≡ putWords a xs new
+pub put-words : (a k : ℕ) (xs ys new : List ℕ) → k ≡ length new → ys ≡ new → putMid a k xs ys ≡ putWords a xs new
 unfolding putWords
 put-words a k xs ys new e f = ap₂ (λ (z w : List ℕ). take a xs ++ (z ++ w)) f (drop-drop k a xs ∙ ap (λ (n : ℕ). drop (a + n) xs) e)
 

@@ -68,3 +68,15 @@ module _ (m k : ℕ) (R : Key) (y s : ℕ → Trit) where
   pub yes-weight : (w : ℕ) → (saysYes m k w R y s ≡ true) ↔ (fullWeight m k R y s ≡ w)
   unfolding saysYes
   yes-weight w = (eqb-true (fullWeight m k R y s) w, eq-eqb (fullWeight m k R y s) w)
+
+  -- yes exactly when some word of weight w that has the syndrome extends s
+  pub verifier : (w : ℕ) → (saysYes m k w R y s ≡ true) ↔ ((e : ℕ → Trit) × (weightV e (m + k) ≡ w) × HasSyndrome m k R e y × Extends m k e s)
+  unfolding fullWeight
+  verifier w = (
+    (λ h. (fullWord m k R y s, yes-weight w .0 h, full-syndrome, full-extends)),
+    λ (e, h, a, b). yes-weight w .1 (weight-of e a b ∙ h),
+  )
+
+  -- no two words of one syndrome extend the same signature
+  pub extends-once : (e f : ℕ → Trit) → HasSyndrome m k R e y → Extends m k e s → HasSyndrome m k R f y → Extends m k f s → (q : ℕ) → q < m + k → e q ≡ f q
+  extends-once e f a b c d q h = full-unique e a b q h ∙ sym (full-unique f c d q h)

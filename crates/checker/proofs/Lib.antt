@@ -7,3 +7,4 @@ pub mod Passed
 pub mod Answers
 pub mod Storing
 pub mod Loader
+pub mod Verdicts

@@ -8,3 +8,4 @@ pub mod Answers
 pub mod Storing
 pub mod Loader
 pub mod Verdicts
+pub mod Filled

@@ -1,6 +1,6 @@
 -- The full word of y and s is the one word that has the syndrome y and extends s, under any key; so its weight is the answer. Assumes nothing.
 use mathlib.Core.Path.{_≡_, refl, sym, ap, ap₂, _∙_, subst}
-use mathlib.Core.Bool.{Bool, true, false}
+use mathlib.Core.Bool.{Bool, true, false, cond}
 use mathlib.Core.Logic.{_↔_}
 use Prim.Native.Nat.{ℕ, zero, suc, _+_, _-_, _<_}
 use native.Mathlib.Omega.{arith}
@@ -35,6 +35,13 @@ module _ (m k : ℕ) (R : Key) (y s : ℕ → Trit) where
   full-high i =
       let e : (m + i) - m ≡ i = omega arith in
       rw (le-ltb (m + i) m (omega arith), e)
+
+  -- the weight reads k rows of the key
+  pub weight-cong : (Q : Key) → ((i q : ℕ) → i < k → R i q ≡ Q i q) → fullWeight m k R y s ≡ fullWeight m k Q y s
+  unfolding fullWeight fullWord
+  weight-cong Q g =
+      sum-cong (m + k) (λ q. nonZero (fullWord m k R y s q)) (λ q. nonZero (fullWord m k Q y s q))
+      (λ q h. ap (λ (x : Trit). nonZero (cond (ltb q m) (subT (y q) x) (s (q - m)))) (times-key-cong k R Q s s q (λ i l. refl) (λ i l. g i q l)))
 
   pub full-extends : Extends m k (fullWord m k R y s) s
   full-extends i l = full-high i

@@ -9,3 +9,4 @@ pub mod Storing
 pub mod Loader
 pub mod Verdicts
 pub mod Filled
+pub mod EndToEnd

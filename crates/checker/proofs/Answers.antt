@@ -1,11 +1,10 @@
 -- What a call answers and leaves, from the number of its refusal. Assumes nothing.
 use mathlib.Core.Path.{_≡_, sym, ap, _∙_}
-use mathlib.Core.Bool.{Bool, true, false, cond}
+use mathlib.Core.Bool.{Bool, cond}
 use mathlib.Core.List.{List}
 use mathlib.Core.Logic.{_≢_}
 use Prim.Native.Nat.{ℕ, _<_}
 use native.Mathlib.Omega.{arith}
-use lib.Dec.{eqb}
 use borrow.Author.Tests.{eq-eqb, ne-eqb}
 use lib.ListN.{length}
 use Rattle.trits.specs.Planes.{zeroWords}
@@ -14,7 +13,7 @@ use Rattle.trits.specs.declared.refusal.Refusal.{Refusal}
 use Rattle.trits.proofs.Refusals.{number-positive, exit-kept, exit-new}
 use Rattle.checker.specs.declared.state.Held.{Held}
 use Rattle.checker.specs.declared.checking.Checked.{Checked}
-use Rattle.checker.specs.Store.{heldAtExit, nextHeld, storedHeld, storedPlane}
+use Rattle.checker.specs.Store.{heldAtExit}
 use Rattle.checker.specs.Check.{answered, spaceAtExit}
 
 -- a number that is not 0 is above it

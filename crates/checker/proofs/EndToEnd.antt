@@ -2,23 +2,21 @@
 use mathlib.Core.Path.{_≡_, refl, sym, ap, ap₂, _∙_, subst}
 use mathlib.Core.Bool.{true, false}
 use mathlib.Core.List.{List}
-use Prim.Native.Nat.{ℕ, zero, suc, _+_, _-_, _*_, _≤_, _<_}
+use Prim.Native.Nat.{ℕ, zero, suc, _-_, _*_, _≤_, _<_}
 use native.Mathlib.Nat.{le-refl}
 use native.Mathlib.Numerals.{add-one}
 use native.Mathlib.Omega.{arith}
-use lib.Dec.{eqb}
 use lib.ListN.{length}
 use borrow.Author.Tests.{eq-eqb, ne-eqb, le-leb}
-use Rattle.trits.specs.Trit.{Trit, nonZero}
+use Rattle.trits.specs.Trit.{Trit}
 use Rattle.trits.specs.Planes.{onesOf, twosOf, wordsFor}
 use Rattle.trits.proofs.Refusals.{first-goes}
 use Rattle.trits.proofs.Reading.{length-ones, length-twos}
-use Rattle.trits.proofs.Counts.{sum-cong}
 use Rattle.packing.specs.Packed.{bytesFor, packedRow, badByte}
 use Rattle.packing.proofs.Turned.{bytes-good}
 use Rattle.checker.specs.declared.state.Held.{Held}
-use Rattle.checker.specs.Verdict.{Key, fullWeight, fullWord}
-use Rattle.checker.specs.Held.{sizesFit, sound, rowTrits, rowWords, heldKey}
+use Rattle.checker.specs.Verdict.{Key, fullWeight}
+use Rattle.checker.specs.Held.{sizesFit, sound, heldKey}
 use Rattle.checker.specs.Store.{beginRefusal, begunHeld, beginHeld, rowRefusal, storePackedRefusal, nextHeld, storedHeld, storedPlane}
 use Rattle.checker.specs.Load.{Kept, offer, offerAll}
 use Rattle.checker.specs.Check.{callRefusal, packedLengths, packedContents, checkPackedRefusal, heldWeight, answered, checkPackedAnswer}
@@ -99,8 +97,15 @@ module _ (number n k w : ℕ) (z : sizesFit number n k w ≡ true) (rows : ℕ �
     call-passes : callRefusal (heldAt k) number (length (s .ones)) (length (s .twos)) (length wo) (length wt) ≡ 0
     unfolding callRefusal
     call-passes =
-        rw (sound-at k (le-refl k), eq-eqb k k refl, eq-eqb number number refl, eq-eqb (length (s .ones)) (k * wordsFor (n - k)) (g .ones-size), eq-eqb (length (s .twos)) (k * wordsFor (n - k)) (g .twos-size),
-        eq-eqb (length wo) (wordsFor (n - k)) ol, eq-eqb (length wt) (wordsFor (n - k)) pl)
+        rw (
+          sound-at k (le-refl k),
+          eq-eqb k k refl,
+          eq-eqb number number refl,
+          eq-eqb (length (s .ones)) (k * wordsFor (n - k)) (g .ones-size),
+          eq-eqb (length (s .twos)) (k * wordsFor (n - k)) (g .twos-size),
+          eq-eqb (length wo) (wordsFor (n - k)) ol,
+          eq-eqb (length wt) (wordsFor (n - k)) pl,
+        )
 
     lengths-pass : packedLengths (heldAt k) (length y) (length t) ≡ 0
     unfolding packedLengths

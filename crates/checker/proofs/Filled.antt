@@ -1,6 +1,6 @@
 -- A key that was stored row by row passes the tests of its contents, 3 and 4, and its rows are those that were offered. Assumes nothing.
 use mathlib.Core.Path.{_≡_, refl, sym, ap, ap₂, _∙_, subst₂}
-use mathlib.Core.Bool.{Bool, false, _&&_}
+use mathlib.Core.Bool.{false, _&&_}
 use mathlib.Core.List.{List}
 use Prim.Native.Nat.{ℕ, _+_, _-_, _*_, _/_, _%_, _≤_, _<_}
 use native.Mathlib.Nat.{mod-lt, div-add-mod, div-lt-iff-lt-mul, mul-comm}
@@ -23,7 +23,7 @@ use Rattle.checker.specs.Verdict.{Key}
 use Rattle.checker.specs.Held.{rowTrits, rowWords, keyWords, heldRow, heldKey}
 use Rattle.checker.specs.Store.{storeRefusal, storePackedRefusal, nextHeld, storedPlane}
 use Rattle.checker.specs.Steps.{Whole}
-use Rattle.checker.proofs.Sizes.{Sizes, sizes}
+use Rattle.checker.proofs.Sizes.{sizes}
 use Rattle.checker.proofs.Stretch.{ones-row, twos-row, ones-length}
 use Rattle.checker.proofs.Product.{packed-out}
 use Rattle.checker.proofs.Passed.{Room, stored-passed, stored-packed-passed}

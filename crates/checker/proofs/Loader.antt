@@ -3,7 +3,6 @@ use mathlib.Core.Path.{_≡_, refl, sym, ap, ap₂, _∙_}
 use mathlib.Core.Bool.{true}
 use mathlib.Core.List.{List}
 use Prim.Native.Nat.{ℕ, _+_, _*_, _≤_, _<_}
-use native.Mathlib.Nat.{zero-add}
 use native.Mathlib.Omega.{arith}
 use lib.Dec.{eqb, leb}
 use lib.ListN.{length, getD}
@@ -21,7 +20,7 @@ use Rattle.packing.specs.Packed.{packedRow}
 use Rattle.checker.specs.declared.state.Held.{Held}
 use Rattle.checker.specs.Held.{sizesFit, sound, rowTrits, rowWords, keyWords, heldRow, heldKey}
 use Rattle.checker.specs.Store.{storeRefusal, storePackedRefusal, nextHeld, storedPlane}
-use Rattle.checker.proofs.Sizes.{and-both, Sizes}
+use Rattle.checker.proofs.Sizes.{and-both}
 use Rattle.checker.proofs.Stretch.{row-there}
 use Rattle.checker.proofs.Product.{packed-out}
 use Rattle.checker.proofs.Passed.{Room, stored-passed, stored-packed-passed}

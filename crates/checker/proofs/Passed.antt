@@ -1,6 +1,6 @@
 -- What the tests of a call have shown where none of them applied. Assumes nothing.
 use mathlib.Core.Path.{_≡_, sym, ap, ap₂, _∙_}
-use mathlib.Core.Bool.{true, false}
+use mathlib.Core.Bool.{true}
 use mathlib.Core.List.{List}
 use mathlib.Core.Logic.{_≢_}
 use Prim.Native.Nat.{ℕ, _+_, _*_, _≤_, _<_}
@@ -11,8 +11,7 @@ use borrow.Author.Tests.{eqb-true, eqb-false}
 use mir.Val.{Fits}
 use mir.Syntax.{w64}
 use Rattle.trits.specs.Trit.{Trit, t0, subT, zipV, weightV}
-use Rattle.trits.specs.Planes.{tritAt, wordsFor, bothSet, Row, Reads}
-use Rattle.trits.specs.Rows.{rowsPastEnd}
+use Rattle.trits.specs.Planes.{tritAt, wordsFor, Row, Reads}
 use Rattle.trits.specs.Refusal.{planesRefusal}
 use Rattle.trits.proofs.Refusals.{passed-refuse, passed-demand, passed-first, planes-passed}
 use Rattle.trits.proofs.Matrix.{row-le, one-row-past}

@@ -1,30 +1,29 @@
 -- What a check that is not refused says: yes exactly when some word of weight w with that syndrome extends s, and it is one word; both forms of a check agree. Assumes nothing.
 use mathlib.Core.Path.{_≡_, refl, sym, ap, ap₂, _∙_}
 use mathlib.Core.Logic.{_↔_}
-use mathlib.Core.Bool.{Bool, true, false, cond}
+use mathlib.Core.Bool.{Bool, true, cond}
 use mathlib.Core.List.{List}
-use Prim.Native.Nat.{ℕ, _+_, _<_, _≤_}
+use Prim.Native.Nat.{ℕ, _+_, _<_}
 use native.Mathlib.Omega.{arith}
 use native.Mathlib.Decide.{ℕ-discrete}
 use lib.Dec.{eqb}
 use lib.ListN.{length}
 use borrow.Author.Tests.{eq-eqb, ne-eqb}
-use Rattle.trits.specs.Trit.{Trit, upTo, weightV}
+use Rattle.trits.specs.Trit.{Trit, weightV}
 use Rattle.trits.specs.Planes.{tritAt}
-use Rattle.trits.specs.Refusal.{demand, planesRefusal}
+use Rattle.trits.specs.Refusal.{planesRefusal}
 use Rattle.trits.proofs.Refusals.{first-goes, passed-first}
 use Rattle.trits.proofs.Ends.{upto-ended}
-use Rattle.packing.specs.Packed.{bytesFor, packedRow, packedBytes, packedRefusal}
+use Rattle.packing.specs.Packed.{bytesFor, packedRow, packedBytes}
 use Rattle.packing.proofs.RoundTrip.{packed-length, packed-back, packed-good}
 use Rattle.packing.proofs.Turned.{bytes-good}
 use Rattle.checker.specs.declared.state.Held.{Held}
-use Rattle.checker.specs.declared.checking.Checked.{Checked}
-use Rattle.checker.specs.Verdict.{Key, fullWord, fullWeight, saysYes, HasSyndrome, Extends}
+use Rattle.checker.specs.Verdict.{fullWeight, HasSyndrome, Extends}
 use Rattle.checker.specs.Held.{sound, rowTrits, heldKey}
 use Rattle.checker.specs.Check.{callRefusal, planesLengths, planesContents, packedLengths, packedContents, checkRefusal, checkPackedRefusal, heldWeight, answered, checkAnswer, checkPackedAnswer}
 use Rattle.checker.proofs.Sizes.{Sizes, sizes}
 use Rattle.checker.proofs.FullWord.{verifier, extends-once, yes-weight}
-use Rattle.checker.proofs.Passed.{Called, Fitted, fitted, packed-fitted, contents, row-ended, check-passed, check-packed-passed}
+use Rattle.checker.proofs.Passed.{Called, Fitted, fitted, contents, row-ended, check-passed, check-packed-passed}
 
 -- ---- yes
 
@@ -53,9 +52,10 @@ module _ (h : Held) (ones twos : List ℕ) (y s : ℕ → Trit) (all : Sizes h) 
       let R = heldKey h ones twos in
       let v = verifier (rowTrits h) (h .k) R y s (h .w) in
       let a = answered-yes (fullWeight (rowTrits h) (h .k) R y s) (h .w) in
-      let g = yes-weight (rowTrits h) (h .k) R y s (h .w) in
-      ((λ q. let x = v .0 (g .1 (a .0 q)) in (x .0, record { weighs = sym (ap (weightV (x .0)) places) ∙ x .1; syndrome-is = x .2; extends = x .3 })),
-      λ (e, f). a .1 (g .0 (v .1 (e, ap (weightV e) places ∙ f .weighs, f .syndrome-is, f .extends))))
+      let g = yes-weight (rowTrits h) (h .k) R y s (h .w) in (
+        (λ q. let x = v .0 (g .1 (a .0 q)) in (x .0, record { weighs = sym (ap (weightV (x .0)) places) ∙ x .1; syndrome-is = x .2; extends = x .3 })),
+        λ (e, f). a .1 (g .0 (v .1 (e, ap (weightV e) places ∙ f .weighs, f .syndrome-is, f .extends))),
+      )
 
 -- the check in planes
 module _ (h : Held) (number : ℕ) (ones twos yOnes yTwos sOnes sTwos workOnes workTwos : List ℕ) (e : checkRefusal h number ones twos yOnes yTwos sOnes sTwos workOnes workTwos ≡ 0) where

@@ -4,8 +4,8 @@ ghost use mathlib.Core.Bool.{true};
 ghost use Prim.Native.Nat.{ℕ, _*_, _<_, _≤_};
 ghost use lib.ListN.{length};
 ghost use Rattle.trits.specs.Trit.{subT, mulT, nonZero, zipV, weightV, tritOf};
-ghost use Rattle.trits.specs.Planes.{tritAt, wordsFor, Row, Reads};
-ghost use Rattle.trits.specs.Refusal.{codeOf, planesRefusal};
+ghost use Rattle.trits.specs.Planes.{tritAt, Row, Reads};
+ghost use Rattle.trits.specs.Refusal.{codeOf};
 ghost use Rattle.packing.specs.Packed.{bytesFor, packedRow, packedRefusal};
 ghost use Rattle.checker.specs.Verdict.{timesKey};
 ghost use Rattle.checker.specs.Held.{sound, rowTrits, rowWords, heldKey};
@@ -63,13 +63,20 @@ pub fn judge(tested: Outcome, weight: u64, w: u64) -> Verdict
             if weight == w {
                 return Verdict::Yes(weight);
             }
-            Verdict::No(weight)
+            Verdict::No(weight) // another weight
         }
     }
 }
 
 // The first refusal that the state, the key number or the length of a plane makes.
-fn test_call(held: Held, number: u64, ones: usize, twos: usize, work_ones: usize, work_twos: usize) -> Outcome
+fn test_call(
+    held: Held,
+    number: u64,
+    ones: usize,
+    twos: usize,
+    work_ones: usize,
+    work_twos: usize,
+) -> Outcome
     ensures { λ r. ⌜ codeOf r ≡ callRefusal held number ones twos «work_ones» «work_twos» ⌝ }
 {
     if held.begun == 0 {
@@ -102,7 +109,15 @@ fn test_call(held: Held, number: u64, ones: usize, twos: usize, work_ones: usize
 }
 
 // Row i of the key, times a trit, is taken from the word; whether a row was taken, as 1 or 0.
-fn take_row(held: Held, ones: &[u64], twos: &[u64], i: usize, t: u8, work_ones: &mut [u64], work_twos: &mut [u64]) -> u64
+fn take_row(
+    held: Held,
+    ones: &[u64],
+    twos: &[u64],
+    i: usize,
+    t: u8,
+    work_ones: &mut [u64],
+    work_twos: &mut [u64],
+) -> u64
     requires { ⌜ Whole held (now ones) (now twos) ⌝ }
     requires { ⌜ Row (now ones) (now twos) ⌝ }
     requires { ⌜ Work held (now «work_ones») (now «work_twos») ⌝ }
@@ -125,7 +140,15 @@ fn take_row(held: Held, ones: &[u64], twos: &[u64], i: usize, t: u8, work_ones: 
 }
 
 // Each row of the key, times its trit of s in planes, is taken from the word; how many rows were taken.
-fn take_rows(held: Held, ones: &[u64], twos: &[u64], s_ones: &[u64], s_twos: &[u64], work_ones: &mut [u64], work_twos: &mut [u64]) -> u64
+fn take_rows(
+    held: Held,
+    ones: &[u64],
+    twos: &[u64],
+    s_ones: &[u64],
+    s_twos: &[u64],
+    work_ones: &mut [u64],
+    work_twos: &mut [u64],
+) -> u64
     requires { ⌜ Whole held (now ones) (now twos) ⌝ }
     requires { ⌜ Row (now ones) (now twos) ⌝ }
     requires { ⌜ Work held (now «work_ones») (now «work_twos») ⌝ }
@@ -146,7 +169,14 @@ fn take_rows(held: Held, ones: &[u64], twos: &[u64], s_ones: &[u64], s_twos: &[u
 }
 
 // Each row of the key, times its trit of a packed s, is taken from the word; how many rows were taken.
-fn take_packed_rows(held: Held, ones: &[u64], twos: &[u64], s: &[u8], work_ones: &mut [u64], work_twos: &mut [u64]) -> u64
+fn take_packed_rows(
+    held: Held,
+    ones: &[u64],
+    twos: &[u64],
+    s: &[u8],
+    work_ones: &mut [u64],
+    work_twos: &mut [u64],
+) -> u64
     requires { ⌜ Whole held (now ones) (now twos) ⌝ }
     requires { ⌜ Row (now ones) (now twos) ⌝ }
     requires { ⌜ Work held (now «work_ones») (now «work_twos») ⌝ }
@@ -167,7 +197,15 @@ fn take_packed_rows(held: Held, ones: &[u64], twos: &[u64], s: &[u8], work_ones:
 }
 
 // The contents of a check in planes: the held rows, y, s.
-fn test_contents(held: Held, ones: &[u64], twos: &[u64], y_ones: &[u64], y_twos: &[u64], s_ones: &[u64], s_twos: &[u64]) -> Outcome
+fn test_contents(
+    held: Held,
+    ones: &[u64],
+    twos: &[u64],
+    y_ones: &[u64],
+    y_twos: &[u64],
+    s_ones: &[u64],
+    s_twos: &[u64],
+) -> Outcome
     requires { ⌜ Whole held (now ones) (now twos) ⌝ }
     requires { ⌜ planesLengths held (length (now «y_ones»)) (length (now «y_twos»)) (length (now «s_ones»)) (length (now «s_twos»)) ≡ 0 ⌝ }
     ensures { λ r. ⌜ codeOf r ≡ planesContents held (now (ones .entry)) (now (twos .entry)) (now («y_ones» .entry)) (now («y_twos» .entry)) (now («s_ones» .entry)) (now («s_twos» .entry)) ⌝ }
@@ -190,7 +228,12 @@ fn test_packed_contents(held: Held, ones: &[u64], twos: &[u64], y: &[u8], s: &[u
     requires { ⌜ Whole held (now ones) (now twos) ⌝ }
     ensures { λ r. ⌜ codeOf r ≡ packedContents held (now (ones .entry)) (now (twos .entry)) (now (y .entry)) (now (s .entry)) ⌝ }
 {
-    let rows = trits::faults::test_planes(ones, twos, held.k as usize, super::state::row_trits(held));
+    let rows = trits::faults::test_planes(
+        ones,
+        twos,
+        held.k as usize,
+        super::state::row_trits(held),
+    );
     if trits::refusal::code(rows) != 0 {
         return rows;
     }
@@ -238,11 +281,29 @@ fn test_packed_lengths(held: Held, y: usize, s: usize) -> Outcome
 }
 
 // The first refusal of a check in planes.
-pub fn test_check(held: Held, number: u64, ones: &[u64], twos: &[u64], y_ones: &[u64], y_twos: &[u64], s_ones: &[u64], s_twos: &[u64], work_ones: &[u64], work_twos: &[u64]) -> Outcome
+pub fn test_check(
+    held: Held,
+    number: u64,
+    ones: &[u64],
+    twos: &[u64],
+    y_ones: &[u64],
+    y_twos: &[u64],
+    s_ones: &[u64],
+    s_twos: &[u64],
+    work_ones: &[u64],
+    work_twos: &[u64],
+) -> Outcome
     ensures { λ r. ⌜ codeOf r ≡ checkRefusal held number (now (ones .entry)) (now (twos .entry)) (now («y_ones» .entry)) (now («y_twos» .entry)) (now («s_ones» .entry)) (now («s_twos» .entry))
         (now («work_ones» .entry)) (now («work_twos» .entry)) ⌝ }
 {
-    let called = test_call(held, number, ones.len(), twos.len(), work_ones.len(), work_twos.len());
+    let called = test_call(
+        held,
+        number,
+        ones.len(),
+        twos.len(),
+        work_ones.len(),
+        work_twos.len(),
+    );
     if trits::refusal::code(called) != 0 {
         return called;
     }
@@ -254,10 +315,26 @@ pub fn test_check(held: Held, number: u64, ones: &[u64], twos: &[u64], y_ones: &
 }
 
 // The first refusal of a packed check.
-pub fn test_packed_check(held: Held, number: u64, ones: &[u64], twos: &[u64], y: &[u8], s: &[u8], work_ones: &[u64], work_twos: &[u64]) -> Outcome
+pub fn test_packed_check(
+    held: Held,
+    number: u64,
+    ones: &[u64],
+    twos: &[u64],
+    y: &[u8],
+    s: &[u8],
+    work_ones: &[u64],
+    work_twos: &[u64],
+) -> Outcome
     ensures { λ r. ⌜ codeOf r ≡ checkPackedRefusal held number (now (ones .entry)) (now (twos .entry)) (now (y .entry)) (now (s .entry)) (now («work_ones» .entry)) (now («work_twos» .entry)) ⌝ }
 {
-    let called = test_call(held, number, ones.len(), twos.len(), work_ones.len(), work_twos.len());
+    let called = test_call(
+        held,
+        number,
+        ones.len(),
+        twos.len(),
+        work_ones.len(),
+        work_twos.len(),
+    );
     if trits::refusal::code(called) != 0 {
         return called;
     }
@@ -269,7 +346,17 @@ pub fn test_packed_check(held: Held, number: u64, ones: &[u64], twos: &[u64], y:
 }
 
 // The weight of the full word of y and s in planes; the working space holds its first part.
-pub fn weigh(held: Held, ones: &[u64], twos: &[u64], y_ones: &[u64], y_twos: &[u64], s_ones: &[u64], s_twos: &[u64], work_ones: &mut [u64], work_twos: &mut [u64]) -> u64
+pub fn weigh(
+    held: Held,
+    ones: &[u64],
+    twos: &[u64],
+    y_ones: &[u64],
+    y_twos: &[u64],
+    s_ones: &[u64],
+    s_twos: &[u64],
+    work_ones: &mut [u64],
+    work_twos: &mut [u64],
+) -> u64
     requires { ⌜ Whole held (now ones) (now twos) ⌝ }
     requires { ⌜ planesLengths held (length (now «y_ones»)) (length (now «y_twos»)) (length (now «s_ones»)) (length (now «s_twos»)) ≡ 0 ⌝ }
     requires { ⌜ planesContents held (now ones) (now twos) (now «y_ones») (now «y_twos») (now «s_ones») (now «s_twos») ≡ 0 ⌝ }
@@ -283,7 +370,15 @@ pub fn weigh(held: Held, ones: &[u64], twos: &[u64], y_ones: &[u64], y_twos: &[u
 }
 
 // The weight of the full word of packed y and s; the working space holds its first part.
-pub fn weigh_packed(held: Held, ones: &[u64], twos: &[u64], y: &[u8], s: &[u8], work_ones: &mut [u64], work_twos: &mut [u64]) -> u64
+pub fn weigh_packed(
+    held: Held,
+    ones: &[u64],
+    twos: &[u64],
+    y: &[u8],
+    s: &[u8],
+    work_ones: &mut [u64],
+    work_twos: &mut [u64],
+) -> u64
     requires { ⌜ Whole held (now ones) (now twos) ⌝ }
     requires { ⌜ packedLengths held (length (now y)) (length (now s)) ≡ 0 ⌝ }
     requires { ⌜ packedContents held (now ones) (now twos) (now y) (now s) ≡ 0 ⌝ }

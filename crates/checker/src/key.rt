@@ -49,7 +49,13 @@ fn test_state(held: Held, ones: usize, twos: usize) -> Outcome
 }
 
 // The first refusal of a row in planes.
-pub fn test_row(held: Held, ones: &[u64], twos: &[u64], row_ones: &[u64], row_twos: &[u64]) -> Outcome
+pub fn test_row(
+    held: Held,
+    ones: &[u64],
+    twos: &[u64],
+    row_ones: &[u64],
+    row_twos: &[u64],
+) -> Outcome
     ensures { λ r. ⌜ codeOf r ≡ storeRefusal held (now (ones .entry)) (now (twos .entry)) (now («row_ones» .entry)) (now («row_twos» .entry)) ⌝ }
 {
     let stated = test_state(held, ones.len(), twos.len());

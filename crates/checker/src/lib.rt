@@ -11,9 +11,9 @@ ghost use Rattle.packing.specs.Calls.{packRefusal, packExit, unpackRefusal, unp
 ghost use Rattle.checker.specs.Held.{rowTrits, rowWords};
 ghost use Rattle.checker.specs.Store.{beginRefusal, beginHeld, storeRefusal, storePackedRefusal, storedHeld, storedPlane};
 ghost use Rattle.checker.specs.Check.{checkRefusal, checkPackedRefusal, checkAnswer, checkPackedAnswer, spaceAtExit, told};
-use state::Held;
-use checking::Verdict;
 use checking::Checked;
+use checking::Verdict;
+use state::Held;
 use trits::refusal::Outcome;
 use trits::refusal::Refusal;
 
@@ -48,7 +48,13 @@ pub fn begin(held: Held, number: u64, n: u64, k: u64, w: u64) -> Stored
 }
 
 // A row in planes becomes the next row of the held key.
-pub fn store_row(held: Held, ones: &mut [u64], twos: &mut [u64], row_ones: &[u64], row_twos: &[u64]) -> Stored
+pub fn store_row(
+    held: Held,
+    ones: &mut [u64],
+    twos: &mut [u64],
+    row_ones: &[u64],
+    row_twos: &[u64],
+) -> Stored
     ensures { λ r. ⌜ codeOf (r .outcome) ≡ storeRefusal held (now (ones .entry)) (now (twos .entry)) (now («row_ones» .entry)) (now («row_twos» .entry)) ⌝ }
     ensures { λ r. ⌜ r .held ≡ storedHeld (storeRefusal held (now (ones .entry)) (now (twos .entry)) (now («row_ones» .entry)) (now («row_twos» .entry))) held ⌝ }
     ensures { λ _. ⌜ now (ones .exit) ≡ storedPlane (storeRefusal held (now (ones .entry)) (now (twos .entry)) (now («row_ones» .entry)) (now («row_twos» .entry))) held (now (ones .entry)) (now («row_ones» .entry)) ⌝ }
@@ -89,7 +95,12 @@ pub fn store_packed_row(held: Held, ones: &mut [u64], twos: &mut [u64], row: &[u
     let words = state::row_words(held);
     let start = held.rows as usize * words;
     let end = start + words;
-    key::write_part(state::row_trits(held), row, &mut ones[start..end], &mut twos[start..end]);
+    key::write_part(
+        state::row_trits(held),
+        row,
+        &mut ones[start..end],
+        &mut twos[start..end],
+    );
     Stored {
         outcome: tested,
         held: key::count_row(held),
@@ -97,7 +108,18 @@ pub fn store_packed_row(held: Held, ones: &mut [u64], twos: &mut [u64], row: &[u
 }
 
 // The check of y and s in planes under the held key.
-pub fn check(held: Held, number: u64, ones: &[u64], twos: &[u64], y_ones: &[u64], y_twos: &[u64], s_ones: &[u64], s_twos: &[u64], work_ones: &mut [u64], work_twos: &mut [u64]) -> Verdict
+pub fn check(
+    held: Held,
+    number: u64,
+    ones: &[u64],
+    twos: &[u64],
+    y_ones: &[u64],
+    y_twos: &[u64],
+    s_ones: &[u64],
+    s_twos: &[u64],
+    work_ones: &mut [u64],
+    work_twos: &mut [u64],
+) -> Verdict
     ensures { λ r. ⌜ told r ≡ checkAnswer held number (now (ones .entry)) (now (twos .entry)) (now («y_ones» .entry)) (now («y_twos» .entry)) (now («s_ones» .entry)) (now («s_twos» .entry))
         (now («work_ones» .entry)) (now («work_twos» .entry)) ⌝ }
     ensures { λ _. ⌜ now («work_ones» .exit) ≡ spaceAtExit (checkRefusal held number (now (ones .entry)) (now (twos .entry)) (now («y_ones» .entry)) (now («y_twos» .entry))
@@ -105,18 +127,48 @@ pub fn check(held: Held, number: u64, ones: &[u64], twos: &[u64], y_ones: &[u64]
     ensures { λ _. ⌜ now («work_twos» .exit) ≡ spaceAtExit (checkRefusal held number (now (ones .entry)) (now (twos .entry)) (now («y_ones» .entry)) (now («y_twos» .entry))
         (now («s_ones» .entry)) (now («s_twos» .entry)) (now («work_ones» .entry)) (now («work_twos» .entry))) (now («work_twos» .entry)) ⌝ }
 {
-    let tested = checking::test_check(held, number, ones, twos, y_ones, y_twos, s_ones, s_twos, work_ones, work_twos);
+    let tested = checking::test_check(
+        held,
+        number,
+        ones,
+        twos,
+        y_ones,
+        y_twos,
+        s_ones,
+        s_twos,
+        work_ones,
+        work_twos,
+    );
     if trits::refusal::code(tested) != 0 {
         return checking::judge(tested, 0, held.w);
     }
-    let weight = checking::weigh(held, ones, twos, y_ones, y_twos, s_ones, s_twos, work_ones, work_twos);
+    let weight = checking::weigh(
+        held,
+        ones,
+        twos,
+        y_ones,
+        y_twos,
+        s_ones,
+        s_twos,
+        work_ones,
+        work_twos,
+    );
     trits::words::zero_words(work_ones);
     trits::words::zero_words(work_twos);
     checking::judge(tested, weight, held.w)
 }
 
 // The check of packed y and s under the held key.
-pub fn check_packed(held: Held, number: u64, ones: &[u64], twos: &[u64], y: &[u8], s: &[u8], work_ones: &mut [u64], work_twos: &mut [u64]) -> Verdict
+pub fn check_packed(
+    held: Held,
+    number: u64,
+    ones: &[u64],
+    twos: &[u64],
+    y: &[u8],
+    s: &[u8],
+    work_ones: &mut [u64],
+    work_twos: &mut [u64],
+) -> Verdict
     ensures { λ r. ⌜ told r ≡ checkPackedAnswer held number (now (ones .entry)) (now (twos .entry)) (now (y .entry)) (now (s .entry)) (now («work_ones» .entry)) (now («work_twos» .entry)) ⌝ }
     ensures { λ _. ⌜ now («work_ones» .exit) ≡ spaceAtExit (checkPackedRefusal held number (now (ones .entry)) (now (twos .entry)) (now (y .entry)) (now (s .entry))
         (now («work_ones» .entry)) (now («work_twos» .entry))) (now («work_ones» .entry)) ⌝ }
@@ -129,7 +181,7 @@ pub fn check_packed(held: Held, number: u64, ones: &[u64], twos: &[u64], y: &[u8
     }
     let weight = checking::weigh_packed(held, ones, twos, y, s, work_ones, work_twos);
     trits::words::zero_words(work_ones);
-    trits::words::zero_words(work_twos);
+    trits::words::zero_words(work_twos); // nothing of y and s stays
     checking::judge(tested, weight, held.w)
 }
 
@@ -155,7 +207,12 @@ pub extern "C" fn wave_begin(held: Held, number: u64, n: u64, k: u64, w: u64) ->
 }
 
 #[no_mangle]
-pub extern "C" fn wave_store_row(held: Held, ones: &mut [u64], twos: &mut [u64], row: &[u8]) -> StoredNumbers
+pub extern "C" fn wave_store_row(
+    held: Held,
+    ones: &mut [u64],
+    twos: &mut [u64],
+    row: &[u8],
+) -> StoredNumbers
     ensures { λ r. ⌜ r .refusal ≡ storePackedRefusal held (now (ones .entry)) (now (twos .entry)) (now (row .entry)) ⌝ }
     ensures { λ r. ⌜ r .held ≡ storedHeld (storePackedRefusal held (now (ones .entry)) (now (twos .entry)) (now (row .entry))) held ⌝ }
     ensures { λ _. ⌜ now (ones .exit) ≡ storedPlane (storePackedRefusal held (now (ones .entry)) (now (twos .entry)) (now (row .entry))) held (now (ones .entry))
@@ -173,7 +230,16 @@ pub extern "C" fn wave_store_row(held: Held, ones: &mut [u64], twos: &mut [u64],
 }
 
 #[no_mangle]
-pub extern "C" fn wave_check(held: Held, number: u64, ones: &[u64], twos: &[u64], y: &[u8], s: &[u8], work_ones: &mut [u64], work_twos: &mut [u64]) -> Checked
+pub extern "C" fn wave_check(
+    held: Held,
+    number: u64,
+    ones: &[u64],
+    twos: &[u64],
+    y: &[u8],
+    s: &[u8],
+    work_ones: &mut [u64],
+    work_twos: &mut [u64],
+) -> Checked
     ensures { λ r. ⌜ r ≡ checkPackedAnswer held number (now (ones .entry)) (now (twos .entry)) (now (y .entry)) (now (s .entry)) (now («work_ones» .entry)) (now («work_twos» .entry)) ⌝ }
     ensures { λ _. ⌜ now («work_ones» .exit) ≡ spaceAtExit (checkPackedRefusal held number (now (ones .entry)) (now (twos .entry)) (now (y .entry)) (now (s .entry))
         (now («work_ones» .entry)) (now («work_twos» .entry))) (now («work_ones» .entry)) ⌝ }
@@ -201,7 +267,12 @@ pub extern "C" fn wave_unpack(m: usize, bytes: &[u8], ones: &mut [u64], twos: &m
 }
 
 #[no_mangle]
-pub extern "C" fn wave_from_stream(m: usize, bytes: &[u8], ones: &mut [u64], twos: &mut [u64]) -> u64
+pub extern "C" fn wave_from_stream(
+    m: usize,
+    bytes: &[u8],
+    ones: &mut [u64],
+    twos: &mut [u64],
+) -> u64
     ensures { λ r. ⌜ r ≡ streamRefusal m (now (bytes .entry)) (now (ones .entry)) (now (twos .entry)) ⌝ }
     ensures { λ _. ⌜ now (ones .exit) ≡ streamOnes m (now (bytes .entry)) (now (ones .entry)) (now (twos .entry)) ⌝ }
     ensures { λ _. ⌜ now (twos .exit) ≡ streamTwos m (now (bytes .entry)) (now (ones .entry)) (now (twos .entry)) ⌝ }

@@ -58,9 +58,10 @@ same-length-4 c = search needs
 returns-2 : tie.Need-returns-2
 unfolding checkPackedAnswer
 returns-2 c =
-    let z = (sym (c .before .before .before .before .before .before .before .before .before .before .before .before .before .before .before .before .before .before .test-packed-check .ensures) ∙ sym (c .before .before .before .before .before .before .before .before .before .before .before .before .before .before .before .before .before .code .ensures) ∙ c .before .before .before .before .before .before .before .before .before .before .before .before .before .before .before .before .if1 .left) in
-    (c .judge2 .ensures ∙ ap₂ (λ (x y : ℕ). answered x y ((c .before .before .before .before .before .before .before .before .before .before .before .before .before .before .before .before .before .before .before .before .before .before .before .before .before .before .before .args .held) .w)) (c .before .before .before .before .before .before .before .before .before .before .before .before .before .before .before .before .before .before .test-packed-check .ensures) (c .before .before .before .before .before .before .before .before .before .before .before .before .before .weigh-packed .ensures),
-    (space-zero _ z (omega arith) (c .before .before .before .before .before .before .before .zero-words .ensures), space-zero _ z (omega arith) (c .before .before .before .zero-words2 .ensures)))
+    let z = (sym (c .before .before .before .before .before .before .before .before .before .before .before .before .before .before .before .before .before .before .test-packed-check .ensures) ∙ sym (c .before .before .before .before .before .before .before .before .before .before .before .before .before .before .before .before .before .code .ensures) ∙ c .before .before .before .before .before .before .before .before .before .before .before .before .before .before .before .before .if1 .left) in (
+      c .judge2 .ensures ∙ ap₂ (λ (x y : ℕ). answered x y ((c .before .before .before .before .before .before .before .before .before .before .before .before .before .before .before .before .before .before .before .before .before .before .before .before .before .before .before .args .held) .w)) (c .before .before .before .before .before .before .before .before .before .before .before .before .before .before .before .before .before .before .test-packed-check .ensures) (c .before .before .before .before .before .before .before .before .before .before .before .before .before .weigh-packed .ensures),
+      (space-zero _ z (omega arith) (c .before .before .before .before .before .before .before .zero-words .ensures), space-zero _ z (omega arith) (c .before .before .before .zero-words2 .ensures)),
+    )
 
 pub check-packed-spec : {M : Type 1} → statement M
 check-packed-spec =

@@ -132,10 +132,16 @@ returns-2 c =
     let a = c .before .before .before .before .before .before .before .before .before .before .before .before .before .before .before .before .before .before .args .held .rows * w in
     let d : a + w - a ≡ w = omega arith in
     let g = c .before .before .before .before .before .write-part .ensures in
-    let v = (packedRow (rowTrits (c .before .before .before .before .before .before .before .before .before .before .before .before .before .before .before .before .before .before .args .held)) (now (c .before .before .before .before .before .before .before .before .before .before .before .before .before .before .before .before .before .before .args .row))) in
-    (c .before .before .before .before .before .before .before .before .before .before .before .before .test-packed-row .ensures, (c .count-row .ensures ∙ held-new _ _ z,
-    (plane-lent _ _ _ z e (d ∙ c .before .before .before .before .before .before .before .before .before .row-words .ensures ∙ sym (length-ones v (rowWords (c .before .before .before .before .before .before .before .before .before .before .before .before .before .before .before .before .before .before .args .held)))) (g .ones-are ∙ ap (λ (m : ℕ). onesOf (packedRow m (now (c .before .before .before .before .before .before .before .before .before .before .before .before .before .before .before .before .before .before .args .row))) (wordsFor m)) (c .before .before .before .before .before .before .before .before .row-trits .ensures)),
-    plane-lent _ _ _ z e (d ∙ c .before .before .before .before .before .before .before .before .before .row-words .ensures ∙ sym (length-twos v (rowWords (c .before .before .before .before .before .before .before .before .before .before .before .before .before .before .before .before .before .before .args .held)))) (g .twos-are ∙ ap (λ (m : ℕ). twosOf (packedRow m (now (c .before .before .before .before .before .before .before .before .before .before .before .before .before .before .before .before .before .before .args .row))) (wordsFor m)) (c .before .before .before .before .before .before .before .before .row-trits .ensures)))))
+    let v = (packedRow (rowTrits (c .before .before .before .before .before .before .before .before .before .before .before .before .before .before .before .before .before .before .args .held)) (now (c .before .before .before .before .before .before .before .before .before .before .before .before .before .before .before .before .before .before .args .row))) in (
+      c .before .before .before .before .before .before .before .before .before .before .before .before .test-packed-row .ensures,
+      (
+        c .count-row .ensures ∙ held-new _ _ z,
+        (
+          plane-lent _ _ _ z e (d ∙ c .before .before .before .before .before .before .before .before .before .row-words .ensures ∙ sym (length-ones v (rowWords (c .before .before .before .before .before .before .before .before .before .before .before .before .before .before .before .before .before .before .args .held)))) (g .ones-are ∙ ap (λ (m : ℕ). onesOf (packedRow m (now (c .before .before .before .before .before .before .before .before .before .before .before .before .before .before .before .before .before .before .args .row))) (wordsFor m)) (c .before .before .before .before .before .before .before .before .row-trits .ensures)),
+          plane-lent _ _ _ z e (d ∙ c .before .before .before .before .before .before .before .before .before .row-words .ensures ∙ sym (length-twos v (rowWords (c .before .before .before .before .before .before .before .before .before .before .before .before .before .before .before .before .before .before .args .held)))) (g .twos-are ∙ ap (λ (m : ℕ). twosOf (packedRow m (now (c .before .before .before .before .before .before .before .before .before .before .before .before .before .before .before .before .before .before .args .row))) (wordsFor m)) (c .before .before .before .before .before .before .before .before .row-trits .ensures)),
+        ),
+      ),
+    )
 
 pub store-packed-row-spec : {M : Type 1} → statement M
 store-packed-row-spec =

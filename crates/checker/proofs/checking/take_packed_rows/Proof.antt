@@ -64,9 +64,11 @@ loop-less c =
 
 loop-again : tie.Need-loop-again Inv-loop μ-loop
 loop-again c =
-    let x = (packed-trit (now (c .before .before .before .before .before .before .before .before .before .before .before .before .before .before .before .before .args .s)) (c .before .before .before .before .before .before .before .before .before .before .before .before .before .before .before .before .args .held .k) (c .before .before .before .before .before .before .before .before .before .before .loop .i) (c .before .before .before .before .before .before .before .trit .result) (omega arith) (c .before .before .before .before .before .before .before .trit .ensures)) in
-    (omega arith, turn-weight (packedRow (c .before .before .before .before .before .before .before .before .before .before .before .before .before .before .before .before .args .held .k) (now (c .before .before .before .before .before .before .before .before .before .before .before .before .before .before .before .before .args .s))) (c .before .before .before .before .before .before .before .before .before .before .loop .i) (tritOf (c .before .before .before .before .before .before .before .trit .result)) x (c .before .before .before .before .before .before .before .before .before .before .loop .inv .1) (c .before .before .before .before .take-row .ensures .0),
-    turn-reads (tritAt (now (c .before .before .before .before .before .before .before .before .before .before .before .before .before .before .before .before .args .work-ones)) (now (c .before .before .before .before .before .before .before .before .before .before .before .before .before .before .before .before .args .work-twos))) (heldKey (c .before .before .before .before .before .before .before .before .before .before .before .before .before .before .before .before .args .held) (now (c .before .before .before .before .before .before .before .before .before .before .before .before .before .before .before .before .args .ones)) (now (c .before .before .before .before .before .before .before .before .before .before .before .before .before .before .before .before .args .twos))) (packedRow (c .before .before .before .before .before .before .before .before .before .before .before .before .before .before .before .before .args .held .k) (now (c .before .before .before .before .before .before .before .before .before .before .before .before .before .before .before .before .args .s))) (c .before .before .before .before .before .before .before .before .before .before .loop .i) (tritOf (c .before .before .before .before .before .before .before .trit .result)) x (c .before .before .before .before .before .before .before .before .before .before .loop .inv .2 .size) (c .before .before .before .before .before .before .before .before .before .before .loop .inv .2) (c .before .before .before .before .take-row .ensures .1))
+    let x = (packed-trit (now (c .before .before .before .before .before .before .before .before .before .before .before .before .before .before .before .before .args .s)) (c .before .before .before .before .before .before .before .before .before .before .before .before .before .before .before .before .args .held .k) (c .before .before .before .before .before .before .before .before .before .before .loop .i) (c .before .before .before .before .before .before .before .trit .result) (omega arith) (c .before .before .before .before .before .before .before .trit .ensures)) in (
+      omega arith,
+      turn-weight (packedRow (c .before .before .before .before .before .before .before .before .before .before .before .before .before .before .before .before .args .held .k) (now (c .before .before .before .before .before .before .before .before .before .before .before .before .before .before .before .before .args .s))) (c .before .before .before .before .before .before .before .before .before .before .loop .i) (tritOf (c .before .before .before .before .before .before .before .trit .result)) x (c .before .before .before .before .before .before .before .before .before .before .loop .inv .1) (c .before .before .before .before .take-row .ensures .0),
+      turn-reads (tritAt (now (c .before .before .before .before .before .before .before .before .before .before .before .before .before .before .before .before .args .work-ones)) (now (c .before .before .before .before .before .before .before .before .before .before .before .before .before .before .before .before .args .work-twos))) (heldKey (c .before .before .before .before .before .before .before .before .before .before .before .before .before .before .before .before .args .held) (now (c .before .before .before .before .before .before .before .before .before .before .before .before .before .before .before .before .args .ones)) (now (c .before .before .before .before .before .before .before .before .before .before .before .before .before .before .before .before .args .twos))) (packedRow (c .before .before .before .before .before .before .before .before .before .before .before .before .before .before .before .before .args .held .k) (now (c .before .before .before .before .before .before .before .before .before .before .before .before .before .before .before .before .args .s))) (c .before .before .before .before .before .before .before .before .before .before .loop .i) (tritOf (c .before .before .before .before .before .before .before .trit .result)) x (c .before .before .before .before .before .before .before .before .before .before .loop .inv .2 .size) (c .before .before .before .before .before .before .before .before .before .before .loop .inv .2) (c .before .before .before .before .take-row .ensures .1),
+    )
 
 same-length : tie.Need-same-length Inv-loop μ-loop
 same-length c =

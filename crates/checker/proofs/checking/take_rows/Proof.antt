@@ -55,9 +55,11 @@ loop-less c =
 
 loop-again : tie.Need-loop-again Inv-loop μ-loop
 loop-again c =
-    let x = (ap tritOf (c .before .before .before .before .before .before .before .trit-at .ensures) ∙ trit-number (tritAt (now (c .before .before .before .before .before .before .before .before .before .before .before .before .before .before .before .before .args .s-ones)) (now (c .before .before .before .before .before .before .before .before .before .before .before .before .before .before .before .before .args .s-twos)) (c .before .before .before .before .before .before .before .before .before .loop .i))) in
-    (omega arith, turn-weight (tritAt (now (c .before .before .before .before .before .before .before .before .before .before .before .before .before .before .before .before .args .s-ones)) (now (c .before .before .before .before .before .before .before .before .before .before .before .before .before .before .before .before .args .s-twos))) (c .before .before .before .before .before .before .before .before .before .loop .i) (tritOf (c .before .before .before .before .before .before .before .trit-at .result)) x (c .before .before .before .before .before .before .before .before .before .loop .inv .1) (c .before .before .before .before .take-row .ensures .0),
-    turn-reads (tritAt (now (c .before .before .before .before .before .before .before .before .before .before .before .before .before .before .before .before .args .work-ones)) (now (c .before .before .before .before .before .before .before .before .before .before .before .before .before .before .before .before .args .work-twos))) (heldKey (c .before .before .before .before .before .before .before .before .before .before .before .before .before .before .before .before .args .held) (now (c .before .before .before .before .before .before .before .before .before .before .before .before .before .before .before .before .args .ones)) (now (c .before .before .before .before .before .before .before .before .before .before .before .before .before .before .before .before .args .twos))) (tritAt (now (c .before .before .before .before .before .before .before .before .before .before .before .before .before .before .before .before .args .s-ones)) (now (c .before .before .before .before .before .before .before .before .before .before .before .before .before .before .before .before .args .s-twos))) (c .before .before .before .before .before .before .before .before .before .loop .i) (tritOf (c .before .before .before .before .before .before .before .trit-at .result)) x (c .before .before .before .before .before .before .before .before .before .loop .inv .2 .size) (c .before .before .before .before .before .before .before .before .before .loop .inv .2) (c .before .before .before .before .take-row .ensures .1))
+    let x = (ap tritOf (c .before .before .before .before .before .before .before .trit-at .ensures) ∙ trit-number (tritAt (now (c .before .before .before .before .before .before .before .before .before .before .before .before .before .before .before .before .args .s-ones)) (now (c .before .before .before .before .before .before .before .before .before .before .before .before .before .before .before .before .args .s-twos)) (c .before .before .before .before .before .before .before .before .before .loop .i))) in (
+      omega arith,
+      turn-weight (tritAt (now (c .before .before .before .before .before .before .before .before .before .before .before .before .before .before .before .before .args .s-ones)) (now (c .before .before .before .before .before .before .before .before .before .before .before .before .before .before .before .before .args .s-twos))) (c .before .before .before .before .before .before .before .before .before .loop .i) (tritOf (c .before .before .before .before .before .before .before .trit-at .result)) x (c .before .before .before .before .before .before .before .before .before .loop .inv .1) (c .before .before .before .before .take-row .ensures .0),
+      turn-reads (tritAt (now (c .before .before .before .before .before .before .before .before .before .before .before .before .before .before .before .before .args .work-ones)) (now (c .before .before .before .before .before .before .before .before .before .before .before .before .before .before .before .before .args .work-twos))) (heldKey (c .before .before .before .before .before .before .before .before .before .before .before .before .before .before .before .before .args .held) (now (c .before .before .before .before .before .before .before .before .before .before .before .before .before .before .before .before .args .ones)) (now (c .before .before .before .before .before .before .before .before .before .before .before .before .before .before .before .before .args .twos))) (tritAt (now (c .before .before .before .before .before .before .before .before .before .before .before .before .before .before .before .before .args .s-ones)) (now (c .before .before .before .before .before .before .before .before .before .before .before .before .before .before .before .before .args .s-twos))) (c .before .before .before .before .before .before .before .before .before .loop .i) (tritOf (c .before .before .before .before .before .before .before .trit-at .result)) x (c .before .before .before .before .before .before .before .before .before .loop .inv .2 .size) (c .before .before .before .before .before .before .before .before .before .loop .inv .2) (c .before .before .before .before .take-row .ensures .1),
+    )
 
 same-length : tie.Need-same-length Inv-loop μ-loop
 same-length c =

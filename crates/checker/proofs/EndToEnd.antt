@@ -128,3 +128,15 @@ module _ (number n k w : ℕ) (z : sizesFit number n k w ≡ true) (rows : ℕ �
     pub answer : checkPackedAnswer (heldAt k) number (s .ones) (s .twos) y t wo wt ≡ answered 0 (fullWeight (n - k) k key (packedRow (n - k) y) (packedRow k t)) w
     unfolding checkPackedAnswer
     answer = ap₂ (λ (a b : ℕ). answered a b w) accepted weight-is
+
+  -- begin, offer the k rows, check: whatever was held before and whatever the planes had, the answer is that of the rows offered
+  pub loaded : (h : Held) (ones twos y t wo wt : List ℕ) → length ones ≡ k * wordsFor (n - k) → length twos ≡ k * wordsFor (n - k) → length y ≡ bytesFor (n - k) → length t ≡ bytesFor k
+      → badByte y ≡ false → badByte t ≡ false → length wo ≡ wordsFor (n - k) → length wt ≡ wordsFor (n - k)
+      → let s = offerAll rows k (record { held = beginHeld h number n k w; ones = ones; twos = twos }) in
+      checkPackedAnswer (s .held) number (s .ones) (s .twos) y t wo wt ≡ answered 0 (fullWeight (n - k) k key (packedRow (n - k) y) (packedRow k t)) w
+  loaded h ones twos y t wo wt p q yl tl yg tg ol pl =
+      let g = offered ones twos p q k (le-refl k) in
+      let s = offerAll rows k (record { held = heldAt 0; ones = ones; twos = twos }) in
+      ap (λ (x : Held). let u = offerAll rows k (record { held = x; ones = ones; twos = twos }) in checkPackedAnswer (u .held) number (u .ones) (u .twos) y t wo wt) (begun h .1)
+      ∙ ap (λ (x : Held). checkPackedAnswer x number (s .ones) (s .twos) y t wo wt) (g .held-is)
+      ∙ answer s g y t wo wt yl tl yg tg ol pl

@@ -1,6 +1,6 @@
 -- The full word of y and s is the one word that has the syndrome y and extends s, under any key; so its weight is the answer. Assumes nothing.
 use mathlib.Core.Path.{_≡_, refl, sym, ap, ap₂, _∙_, subst}
-use mathlib.Core.Bool.{Bool, true, false}
+use mathlib.Core.Bool.{Bool, true, false, cond}
 use mathlib.Core.Logic.{_↔_}
 use Prim.Native.Nat.{ℕ, zero, suc, _+_, _-_, _<_}
 use native.Mathlib.Omega.{arith}
@@ -36,6 +36,13 @@ module _ (m k : ℕ) (R : Key) (y s : ℕ → Trit) where
       let e : (m + i) - m ≡ i = omega arith in
       rw (le-ltb (m + i) m (omega arith), e)
 
+  -- the weight reads k rows of the key
+  pub weight-cong : (Q : Key) → ((i q : ℕ) → i < k → R i q ≡ Q i q) → fullWeight m k R y s ≡ fullWeight m k Q y s
+  unfolding fullWeight fullWord
+  weight-cong Q g =
+      sum-cong (m + k) (λ q. nonZero (fullWord m k R y s q)) (λ q. nonZero (fullWord m k Q y s q))
+      (λ q h. ap (λ (x : Trit). nonZero (cond (ltb q m) (subT (y q) x) (s (q - m)))) (times-key-cong k R Q s s q (λ i l. refl) (λ i l. g i q l)))
+
   pub full-extends : Extends m k (fullWord m k R y s) s
   full-extends i l = full-high i
 
@@ -68,3 +75,15 @@ module _ (m k : ℕ) (R : Key) (y s : ℕ → Trit) where
   pub yes-weight : (w : ℕ) → (saysYes m k w R y s ≡ true) ↔ (fullWeight m k R y s ≡ w)
   unfolding saysYes
   yes-weight w = (eqb-true (fullWeight m k R y s) w, eq-eqb (fullWeight m k R y s) w)
+
+  -- yes exactly when some word of weight w that has the syndrome extends s
+  pub verifier : (w : ℕ) → (saysYes m k w R y s ≡ true) ↔ ((e : ℕ → Trit) × (weightV e (m + k) ≡ w) × HasSyndrome m k R e y × Extends m k e s)
+  unfolding fullWeight
+  verifier w = (
+    (λ h. (fullWord m k R y s, yes-weight w .0 h, full-syndrome, full-extends)),
+    λ (e, h, a, b). yes-weight w .1 (weight-of e a b ∙ h),
+  )
+
+  -- no two words of one syndrome extend the same signature
+  pub extends-once : (e f : ℕ → Trit) → HasSyndrome m k R e y → Extends m k e s → HasSyndrome m k R f y → Extends m k f s → (q : ℕ) → q < m + k → e q ≡ f q
+  extends-once e f a b c d q h = full-unique e a b q h ∙ sym (full-unique f c d q h)

@@ -1,16 +1,15 @@
--- The verdict: yes exactly when some word of weight w that has the syndrome extends s, and it is one word; what a draw releases is accepted; a build ends. Assumes nothing.
-use mathlib.Core.Path.{_≡_, refl, sym, ap, _∙_}
-use mathlib.Core.Logic.{_↔_}
+-- Under a key that a build released: what a draw releases is accepted; and a build ends. Assumes nothing.
+use mathlib.Core.Path.{_≡_, refl, ap, _∙_}
 use mathlib.Core.Bool.{true}
 use mathlib.Core.List.{List}
-use Prim.Native.Nat.{ℕ, _+_, _<_}
+use Prim.Native.Nat.{ℕ}
 use lib.ListN.{take}
 use Rattle.trits.specs.Trit.{weightV}
 use Rattle.matrix.specs.Linear.{Vector}
 use Rattle.matrix.specs.Orders.{Order}
 use Rattle.matrix.proofs.Greedy.{Kept}
-use Rattle.checker.specs.Verdict.{Key, fullWord, fullWeight, saysYes, HasSyndrome, Extends}
-use Rattle.checker.proofs.FullWord.{full-syndrome, full-extends, full-unique, weight-of, yes-weight}
+use Rattle.checker.specs.Verdict.{Key, fullWeight, saysYes}
+use Rattle.checker.proofs.FullWord.{weight-of, yes-weight}
 use Rattle.signer.specs.Sizes.{Sizes, places, dim, codim, sizesFit}
 use Rattle.signer.specs.Secret.{Secret, secretMatrix}
 use Rattle.signer.specs.Build.{arranged}
@@ -18,22 +17,6 @@ use Rattle.signer.specs.Draw.{signature}
 use Rattle.signer.proofs.Ranges.{codim-dim, build-passed, build-ends}
 use Rattle.wave.specs.Demand.{sized, Released, Releases}
 use Rattle.wave.proofs.Reach.{reach}
-
--- ---- for any key at all
-
-module _ (m k : ℕ) (R : Key) (y s : Vector) where
-  pub verifier : (w : ℕ) → (saysYes m k w R y s ≡ true) ↔ ((e : Vector) × (weightV e (m + k) ≡ w) × HasSyndrome m k R e y × Extends m k e s)
-  unfolding fullWeight
-  verifier w = (
-    (λ h. (fullWord m k R y s, yes-weight m k R y s w .0 h, full-syndrome m k R y s, full-extends m k R y s)),
-    λ (e, h, a, b). yes-weight m k R y s w .1 (weight-of m k R y s e a b ∙ h),
-  )
-
-  -- no two words of one syndrome extend the same signature
-  pub extends-once : (e f : Vector) → HasSyndrome m k R e y → Extends m k e s → HasSyndrome m k R f y → Extends m k f s → (q : ℕ) → q < m + k → e q ≡ f q
-  extends-once e f a b c d q h = full-unique m k R y s e a b q h ∙ sym (full-unique m k R y s f c d q h)
-
--- ---- for a key that a build released
 
 module _ (z : Sizes) (s : Secret) (start p : List ℕ) (R : Key) (re : Released z s start p R) where
   -- the signature of a word that a draw releases is accepted, with weight w

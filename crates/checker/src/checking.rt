@@ -6,7 +6,7 @@ ghost use lib.ListN.{length};
 ghost use Rattle.trits.specs.Trit.{subT, mulT, nonZero, zipV, weightV, tritOf};
 ghost use Rattle.trits.specs.Planes.{tritAt, Row, Reads};
 ghost use Rattle.trits.specs.Refusal.{codeOf};
-ghost use Rattle.packing.specs.Packed.{bytesFor, packedRow, packedRefusal};
+ghost use Rattle.packing.specs.Packed.{bytesFor, byteTable, packedRow, packedRefusal};
 ghost use Rattle.checker.specs.Verdict.{timesKey};
 ghost use Rattle.checker.specs.Held.{sound, rowTrits, rowWords, heldKey};
 ghost use Rattle.checker.specs.Check.{callRefusal, planesLengths, planesContents, packedLengths, packedContents, checkRefusal, checkPackedRefusal, heldWeight, told, answered};
@@ -169,6 +169,35 @@ fn take_rows(
 }
 
 // Each row of the key, times its trit of a packed s, is taken from the word; how many rows were taken.
+fn take_by_table(
+    held: Held,
+    ones: &[u64],
+    twos: &[u64],
+    s: &[u8],
+    work_ones: &mut [u64],
+    work_twos: &mut [u64],
+    table: &[u8; 1215],
+) -> u64
+    requires { ⌜ Whole held (now ones) (now twos) ⌝ }
+    requires { ⌜ Row (now ones) (now twos) ⌝ }
+    requires { ⌜ Work held (now «work_ones») (now «work_twos») ⌝ }
+    requires { ⌜ (length (now s) ≡ bytesFor (held .k)) × (packedRefusal (now s) ≡ 0) × (now table ≡ byteTable) ⌝ }
+    ensures { λ r. ⌜ r ≡ weightV (packedRow (held .k) (now (s .entry))) (held .k) ⌝ }
+    ensures { λ _. ⌜ Reads (now («work_ones» .exit)) (now («work_twos» .exit)) (length (now («work_ones» .entry)))
+        (zipV subT (tritAt (now («work_ones» .entry)) (now («work_twos» .entry))) (timesKey (held .k) (heldKey held (now (ones .entry)) (now (twos .entry))) (packedRow (held .k) (now (s .entry))))) ⌝ }
+{
+    let k = held.k as usize;
+    let mut taken: u64 = 0;
+    let mut i = 0;
+    while i < k {
+        let t = packing::table::trit(table, s[i / 5], i % 5);
+        taken += take_row(held, ones, twos, i, t, work_ones, work_twos);
+        i += 1;
+    }
+    taken
+}
+
+// The same; the byte table is made once.
 fn take_packed_rows(
     held: Held,
     ones: &[u64],
@@ -185,15 +214,8 @@ fn take_packed_rows(
     ensures { λ _. ⌜ Reads (now («work_ones» .exit)) (now («work_twos» .exit)) (length (now («work_ones» .entry)))
         (zipV subT (tritAt (now («work_ones» .entry)) (now («work_twos» .entry))) (timesKey (held .k) (heldKey held (now (ones .entry)) (now (twos .entry))) (packedRow (held .k) (now (s .entry))))) ⌝ }
 {
-    let k = held.k as usize;
-    let mut taken: u64 = 0;
-    let mut i = 0;
-    while i < k {
-        let t = packing::table::trit(s[i / 5], i % 5);
-        taken += take_row(held, ones, twos, i, t, work_ones, work_twos);
-        i += 1;
-    }
-    taken
+    let table = packing::table::byte_table();
+    take_by_table(held, ones, twos, s, work_ones, work_twos, &table)
 }
 
 // The contents of a check in planes: the held rows, y, s.

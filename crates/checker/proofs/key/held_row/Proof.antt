@@ -3,7 +3,9 @@
 use Prim.Native.Nat.{ℕ}
 use mathlib.Core.Path.{sym, ap, _∙_}
 use borrow.Author.Needs.{needs}
+use native.Mathlib.Omega.{arith}
 use denote.Ref.{now}
+use Rattle.checker.proofs.Sizes.{sizes}
 use Rattle.checker.proofs.Stretch.{row-unsound, row-missing, row-stored}
 use Rattle.trits.specs.Rows.{rowPart}
 use Rattle.checker.proofs.key.held_row.Statement.{statement}
@@ -24,7 +26,9 @@ row-words-requires c κs =
     (sym (c .before .before .is-sound .ensures) ∙ c .before .if1 .taken)
 
 row-part-requires : tie.Need-row-part-requires
-row-part-requires c κs = search needs
+row-part-requires c κs =
+    let z = sizes (c .before .before .before .before .before .args .held) (sym (c .before .before .before .is-sound .ensures) ∙ c .before .before .if1 .taken) in
+    omega (arith, c .row-words .ensures)
 
 returns-2 : tie.Need-returns-2
 returns-2 c =

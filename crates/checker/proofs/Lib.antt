@@ -1,4 +1,4 @@
--- The laws of the module's half: the full word, sizes, rows, the product, tests that passed, answers, rows stored.
+-- The laws of the module's half: the full word; sizes, rows, the product, tests that passed, answers, rows stored; then what a host may rely on; last, computed cases.
 pub mod FullWord
 pub mod Sizes
 pub mod Stretch
@@ -7,6 +7,7 @@ pub mod Passed
 pub mod Answers
 pub mod Storing
 pub mod Loader
-pub mod Verdicts
 pub mod Filled
 pub mod EndToEnd
+pub mod Verdicts
+mod Cases

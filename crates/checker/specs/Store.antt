@@ -14,8 +14,9 @@ use Rattle.checker.specs.Held.{sizesFit, sound, rowTrits, rowWords, keyW
 abbrev pub heldAtExit : ℕ → Held → Held → Held
 heldAtExit refusal new old = cond (eqb refusal 0) new old
 
--- ---- beginning: the new key replaces the held one, whatever that was, and only a size can be refused
+-- ---- beginning: the new key replaces the held one, whatever that was
 
+-- only a size can be refused
 unfoldable pub beginRefusal : ℕ → ℕ → ℕ → ℕ → ℕ
 beginRefusal number n k w = demand (sizesFit number n k w) 1 0
 
@@ -23,6 +24,7 @@ beginRefusal number n k w = demand (sizesFit number n k w) 1 0
 unfoldable pub begunHeld : ℕ → ℕ → ℕ → ℕ → Held
 begunHeld number n k w = record { begun = 1; number = number; n = n; k = k; w = w; rows = 0 }
 
+-- the state after a beginning
 unfoldable pub beginHeld : Held → ℕ → ℕ → ℕ → ℕ → Held
 beginHeld h number n k w = heldAtExit (beginRefusal number n k w) (begunHeld number n k w) h
 

@@ -192,6 +192,7 @@ pub struct StoredNumbers {
     pub held: Held, // the state after the call
 }
 
+// `begin` for C.
 #[no_mangle]
 pub extern "C" fn wave_begin(held: Held, number: u64, n: u64, k: u64, w: u64) -> StoredNumbers
     ensures { λ r. ⌜ r .refusal ≡ beginRefusal number n k w ⌝ }
@@ -206,6 +207,7 @@ pub extern "C" fn wave_begin(held: Held, number: u64, n: u64, k: u64, w: u64) ->
     }
 }
 
+// `store_packed_row` for C.
 #[no_mangle]
 pub extern "C" fn wave_store_row(
     held: Held,
@@ -229,6 +231,7 @@ pub extern "C" fn wave_store_row(
     }
 }
 
+// `check_packed` for C.
 #[no_mangle]
 pub extern "C" fn wave_check(
     held: Held,
@@ -249,6 +252,7 @@ pub extern "C" fn wave_check(
     checking::tell(check_packed(held, number, ones, twos, y, s, work_ones, work_twos))
 }
 
+// `pack` for C.
 #[no_mangle]
 pub extern "C" fn wave_pack(m: usize, ones: &[u64], twos: &[u64], bytes: &mut [u8]) -> u64
     ensures { λ r. ⌜ r ≡ packRefusal m (now (ones .entry)) (now (twos .entry)) (now (bytes .entry)) ⌝ }
@@ -257,6 +261,7 @@ pub extern "C" fn wave_pack(m: usize, ones: &[u64], twos: &[u64], bytes: &mut [u
     trits::refusal::code(packing::pack(m, ones, twos, bytes))
 }
 
+// `unpack` for C.
 #[no_mangle]
 pub extern "C" fn wave_unpack(m: usize, bytes: &[u8], ones: &mut [u64], twos: &mut [u64]) -> u64
     ensures { λ r. ⌜ r ≡ unpackRefusal m (now (bytes .entry)) (now (ones .entry)) (now (twos .entry)) ⌝ }
@@ -266,6 +271,7 @@ pub extern "C" fn wave_unpack(m: usize, bytes: &[u8], ones: &mut [u64], twos: &m
     trits::refusal::code(packing::unpack(m, bytes, ones, twos))
 }
 
+// `from_stream` for C.
 #[no_mangle]
 pub extern "C" fn wave_from_stream(
     m: usize,

@@ -10,7 +10,7 @@ use Rattle.trits.specs.Rows.{rowPart, putWords, rowsPastEnd}
 use Rattle.trits.specs.Refusal.{first, planesRefusal}
 use Rattle.packing.specs.Packed.{digitOf, packedAt, packedRow, badByte, packedRefusal}
 use Rattle.checker.specs.declared.state.Held.{Held}
-use Rattle.checker.specs.Verdict.{timesKey, fullWord, fullWeight}
+use Rattle.verdict.specs.Verdict.{timesKey, fullWord, fullWeight}
 use Rattle.checker.specs.Held.{sizesFit, sound, heldRow, heldKey}
 use Rattle.checker.specs.Store.{beginRefusal, begunHeld, beginHeld, rowRefusal, storePackedRefusal, nextHeld, storedHeld, storedPlane}
 use Rattle.checker.specs.Load.{offer, offerAll}

@@ -15,13 +15,13 @@ use Rattle.trits.proofs.Reading.{length-ones, length-twos}
 use Rattle.packing.specs.Packed.{bytesFor, packedRow, badByte}
 use Rattle.packing.proofs.Turned.{bytes-good}
 use Rattle.checker.specs.declared.state.Held.{Held}
-use Rattle.checker.specs.Verdict.{Key, fullWeight}
+use Rattle.verdict.specs.Verdict.{Key, fullWeight}
 use Rattle.checker.specs.Held.{sizesFit, sound, heldKey}
 use Rattle.checker.specs.Store.{beginRefusal, begunHeld, beginHeld, rowRefusal, storePackedRefusal, nextHeld, storedHeld, storedPlane}
 use Rattle.checker.specs.Load.{Kept, offer, offerAll}
 use Rattle.checker.specs.Check.{callRefusal, packedLengths, packedContents, checkPackedRefusal, heldWeight, answered, checkPackedAnswer}
 use Rattle.checker.specs.Steps.{Whole}
-use Rattle.checker.proofs.FullWord.{weight-cong}
+use Rattle.verdict.proofs.FullWord.{weight-cong}
 use Rattle.checker.proofs.Passed.{stored-packed-passed}
 use Rattle.checker.proofs.Answers.{held-new}
 use Rattle.checker.proofs.Storing.{plane-put}

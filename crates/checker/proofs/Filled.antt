@@ -19,7 +19,7 @@ use Rattle.trits.proofs.Parts.{getD-mid}
 use Rattle.trits.proofs.Matrix.{row-le, one-row-past, part-there}
 use Rattle.packing.specs.Packed.{packedRow}
 use Rattle.checker.specs.declared.state.Held.{Held}
-use Rattle.checker.specs.Verdict.{Key}
+use Rattle.verdict.specs.Verdict.{Key}
 use Rattle.checker.specs.Held.{rowTrits, rowWords, keyWords, heldRow, heldKey}
 use Rattle.checker.specs.Store.{storeRefusal, storePackedRefusal, nextHeld, storedPlane}
 use Rattle.checker.specs.Steps.{Whole}

@@ -1,5 +1,4 @@
--- The laws of the module's half: the full word; sizes, rows, the product, tests that passed, answers, rows stored; then what a host may rely on; last, computed cases.
-pub mod FullWord
+-- The laws of the module's half: sizes, rows, the product, tests that passed, answers, rows stored; then what a host may rely on; last, computed cases.
 pub mod Sizes
 pub mod Stretch
 pub mod Product

@@ -19,7 +19,7 @@ use Rattle.trits.proofs.Tests.{both-apart, past-zero}
 use Rattle.trits.proofs.Counts.{weight-le}
 use Rattle.packing.specs.Packed.{bytesFor, packedRefusal}
 use Rattle.checker.specs.declared.state.Held.{Held}
-use Rattle.checker.specs.Verdict.{timesKey}
+use Rattle.verdict.specs.Verdict.{timesKey}
 use Rattle.checker.specs.Held.{sound, rowTrits, rowWords, keyWords, heldKey}
 use Rattle.checker.specs.Store.{rowRefusal, storeRefusal, storePackedRefusal}
 use Rattle.checker.specs.Check.{callRefusal, planesLengths, planesContents, packedLengths, packedContents, checkRefusal, checkPackedRefusal, heldWeight}

@@ -12,8 +12,8 @@ use Rattle.trits.proofs.Arithmetic.{law1, law2, law3}
 use Rattle.trits.proofs.Counts.{sum-cong, sum-add}
 use Rattle.trits.proofs.Ends.{upto-in, upto-out, weight-ended}
 use Rattle.packing.specs.Packed.{digitOf, packedAt, packedRow}
-use Rattle.checker.specs.Verdict.{Key, timesKey, fullWord, fullWeight}
-use Rattle.checker.proofs.FullWord.{full-low, full-high}
+use Rattle.verdict.specs.Verdict.{Key, timesKey, fullWord, fullWeight}
+use Rattle.verdict.proofs.FullWord.{full-low, full-high}
 
 -- one row times a trit
 module _ (u r : ℕ → Trit) (t : ℕ) where

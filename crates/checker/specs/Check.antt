@@ -12,7 +12,7 @@ use Rattle.checker.specs.declared.state.Held.{Held}
 use Rattle.checker.specs.declared.checking.Checked.{Checked}
 use Rattle.checker.specs.declared.checking.Verdict.{Verdict}
 use Rattle.checker.specs.declared.checking.Verdict.the-variants.{Yes, No, Refused}
-use Rattle.checker.specs.Verdict.{fullWeight}
+use Rattle.verdict.specs.Verdict.{fullWeight}
 use Rattle.checker.specs.Held.{sound, rowTrits, rowWords, keyWords, heldKey}
 
 -- ---- refusals

@@ -6,7 +6,7 @@ use lib.Dec.{eqb, leb, ltb}
 use Rattle.trits.specs.Planes.{tritAt, wordsFor}
 use Rattle.trits.specs.Rows.{rowPart}
 use Rattle.checker.specs.declared.state.Held.{Held}
-use Rattle.checker.specs.Verdict.{Key}
+use Rattle.verdict.specs.Verdict.{Key}
 
 -- the largest key number
 abbrev pub mostKeyNumber : ℕ

@@ -7,7 +7,7 @@ ghost use Rattle.trits.specs.Trit.{subT, mulT, nonZero, zipV, weightV, tritOf};
 ghost use Rattle.trits.specs.Planes.{tritAt, Row, Reads};
 ghost use Rattle.trits.specs.Refusal.{codeOf};
 ghost use Rattle.packing.specs.Packed.{bytesFor, byteTable, packedRow, packedRefusal};
-ghost use Rattle.checker.specs.Verdict.{timesKey};
+ghost use Rattle.verdict.specs.Verdict.{timesKey};
 ghost use Rattle.checker.specs.Held.{sound, rowTrits, rowWords, heldKey};
 ghost use Rattle.checker.specs.Check.{callRefusal, planesLengths, planesContents, packedLengths, packedContents, checkRefusal, checkPackedRefusal, heldWeight, told, answered};
 ghost use Rattle.checker.specs.Steps.{Whole, Work};

@@ -15,7 +15,7 @@ use Rattle.matrix.specs.Orders.{isOrder}
 use Rattle.matrix.specs.Digits.{vector, digits, matrix, digitRows}
 use Rattle.matrix.proofs.Field.{set-not}
 use Rattle.matrix.proofs.Places.{elem-at}
-use Rattle.checker.specs.Verdict.{Key, timesKey, fullWord, fullWeight, saysYes}
+use Rattle.verdict.specs.Verdict.{Key, timesKey, fullWord, fullWeight, saysYes}
 use Rattle.signer.specs.Sizes.{Sizes, sizesFit}
 use Rattle.signer.specs.Secret.{Secret, noZero, secretMatrix}
 use Rattle.signer.specs.Build.{arrange, arranged, rowOfR, buildFits, buildRefusal, keyOrder, keyRow}

@@ -20,8 +20,8 @@ use Rattle.matrix.proofs.Greedy.{Kept, bool-cases, pivots-kept, pivots-elem, ra
 use Rattle.matrix.proofs.Orders.{order-good}
 use Rattle.matrix.proofs.Counts.{Disjoint, without-in, without-out, without-distinct, without-length, range-order, fill-own}
 use Rattle.matrix.proofs.Solutions.{solve-is}
-use Rattle.checker.specs.Verdict.{Key, HasSyndrome}
-use Rattle.checker.proofs.FullWord.{syndrome-cong}
+use Rattle.verdict.specs.Verdict.{Key, HasSyndrome}
+use Rattle.verdict.proofs.FullWord.{syndrome-cong}
 use Rattle.signer.specs.Sizes.{Sizes, half, places, dim, ru, rv, codim, gapV, gapU, sizesFit}
 use Rattle.signer.specs.Secret.{Secret, join, leftOf, rightOf, uOf, vOf, whole, secretMatrix}
 use Rattle.signer.specs.Build.{arranged, keyOrder, keyRow}

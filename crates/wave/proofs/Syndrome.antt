@@ -15,7 +15,7 @@ use Rattle.matrix.proofs.Dimension.{Injective}
 use Rattle.matrix.proofs.Places.{picked, fill-at}
 use Rattle.matrix.proofs.Greedy.{kept-injective}
 use Rattle.matrix.proofs.Orders.{order-good, dot-order}
-use Rattle.checker.specs.Verdict.{Key, timesKey, syndrome, HasSyndrome}
+use Rattle.verdict.specs.Verdict.{Key, timesKey, syndrome, HasSyndrome}
 use Rattle.signer.specs.Secret.{join}
 use Rattle.signer.specs.Build.{Arrangement, rowOfR}
 use Rattle.signer.specs.Draw.{placed}

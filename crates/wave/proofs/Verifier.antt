@@ -8,8 +8,8 @@ use Rattle.trits.specs.Trit.{weightV}
 use Rattle.matrix.specs.Linear.{Vector}
 use Rattle.matrix.specs.Orders.{Order}
 use Rattle.matrix.proofs.Greedy.{Kept}
-use Rattle.checker.specs.Verdict.{Key, fullWeight, saysYes}
-use Rattle.checker.proofs.FullWord.{weight-of, yes-weight}
+use Rattle.verdict.specs.Verdict.{Key, fullWeight, saysYes}
+use Rattle.verdict.proofs.FullWord.{weight-of, yes-weight}
 use Rattle.signer.specs.Sizes.{Sizes, places, dim, codim, sizesFit}
 use Rattle.signer.specs.Secret.{Secret, secretMatrix}
 use Rattle.signer.specs.Build.{arranged}

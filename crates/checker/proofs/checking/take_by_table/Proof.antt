@@ -13,7 +13,7 @@ use Rattle.packing.specs.Packed.{packedRow}
 use Rattle.packing.proofs.Digits.{digit-lt}
 use Rattle.packing.proofs.Keeping.{bytes-small}
 use Rattle.packing.proofs.Turned.{bytes-passed}
-use Rattle.checker.specs.Verdict.{timesKey}
+use Rattle.verdict.specs.Verdict.{timesKey}
 use Rattle.checker.specs.Held.{heldKey}
 use Rattle.checker.proofs.Sizes.{sizes}
 use Rattle.checker.proofs.Product.{taken-none, turn-reads, turn-weight, packed-trit}

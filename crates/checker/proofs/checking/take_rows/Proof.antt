@@ -10,7 +10,7 @@ use Rattle.trits.specs.Planes.{tritAt, Reads}
 use Rattle.trits.proofs.Reading.{reads-to}
 use Rattle.trits.proofs.Counts.{weight-le}
 use Rattle.packing.proofs.Digits.{number-lt, trit-number}
-use Rattle.checker.specs.Verdict.{timesKey}
+use Rattle.verdict.specs.Verdict.{timesKey}
 use Rattle.checker.specs.Held.{heldKey}
 use Rattle.checker.proofs.Sizes.{sizes}
 use Rattle.checker.proofs.Product.{taken-none, turn-reads, turn-weight}

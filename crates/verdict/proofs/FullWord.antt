@@ -9,7 +9,7 @@ use lib.Dec.{ltb}
 use Rattle.trits.specs.Trit.{Trit, addT, subT, mulT, nonZero, dotV, weightV}
 use Rattle.trits.proofs.Arithmetic.{law2}
 use Rattle.trits.proofs.Counts.{sum-cong}
-use Rattle.checker.specs.Verdict.{Key, timesKey, fullWord, fullWeight, saysYes, syndrome, HasSyndrome, Extends}
+use Rattle.verdict.specs.Verdict.{Key, timesKey, fullWord, fullWeight, saysYes, syndrome, HasSyndrome, Extends}
 
 -- s·R-transposed reads k trits of s and k rows
 pub times-key-cong : (k : ℕ) (R Q : Key) (s t : ℕ → Trit) (j : ℕ) → ((i : ℕ) → i < k → s i ≡ t i) → ((i : ℕ) → i < k → R i j ≡ Q i j) → timesKey k R s j ≡ timesKey k Q t j

@@ -1,0 +1,2 @@
+-- The laws of the full word, and the verifier.
+pub mod FullWord

@@ -29,15 +29,6 @@ room-2 c = field-room (now (c .before .before .before .before .before .args .lin
 room-3 : (c : tie.Else3) → c .before .find-tab3 .result + 1 ≤ length (now (c .before .before .before .before .before .before .before .args .line))
 room-3 c = field-room (now (c .before .before .before .before .before .before .before .args .line)) _ _ (c .before .find-tab3 .ensures) (room-2 (c .before .before)) (c .if3 .left)
 
-room-1 : (c : tie.Else1) → c .before .find-tab .result + 1 ≤ length (now (c .before .before .before .args .line))
-room-1 c = field-room (now (c .before .before .before .args .line)) 2 _ (c .before .find-tab .ensures) (c .before .before .before .pre) (c .if1 .left)
-
-room-2 : (c : tie.Else2) → c .before .find-tab2 .result + 1 ≤ length (now (c .before .before .before .before .before .args .line))
-room-2 c = field-room (now (c .before .before .before .before .before .args .line)) _ _ (c .before .find-tab2 .ensures) (room-1 (c .before .before)) (c .if2 .left)
-
-room-3 : (c : tie.Else3) → c .before .find-tab3 .result + 1 ≤ length (now (c .before .before .before .before .before .before .before .args .line))
-room-3 c = field-room (now (c .before .before .before .before .before .before .before .args .line)) _ _ (c .before .find-tab3 .ensures) (room-2 (c .before .before)) (c .if3 .left)
-
 add-find-tab : tie.Need-add-find-tab
 add-find-tab c =
     omega (arith, room-1 c)

@@ -1,14 +1,59 @@
 -- Refusals: what a chain of tests that ended in 0 has shown, and what a buffer is at exit. Assumes nothing.
-use mathlib.Core.Path.{_≡_, refl, sym, ap}
+use mathlib.Core.Path.{_≡_, refl, sym, ap, _∙_}
 use mathlib.Core.Bool.{Bool, true, false, cond}
 use mathlib.Core.List.{List}
 use Prim.Native.Nat.{ℕ, _<_}
+use native.Mathlib.Decide.{ℕ-discrete}
 use native.Mathlib.Omega.{arith}
 use borrow.Author.Tests.{eq-eqb, ne-eqb}
 use lib.Dec.{lit<}
 use Rattle.trits.specs.Planes.{bothSet}
 use Rattle.trits.specs.Rows.{rowsPastEnd}
-use Rattle.trits.specs.Refusal.{refuse, demand, atExit, planesRefusal}
+use Rattle.trits.specs.Refusal.{numberOf, refuse, demand, first, atExit, planesRefusal}
+use Rattle.trits.specs.declared.refusal.Refusal.{Refusal}
+use Rattle.trits.specs.declared.refusal.Refusal.the-variants.{Size, Length, BothPlanes, PastEnd, PackedByte, StreamEnd, NoPermutation, ZeroTrit, RankU, RankV, Line, FirstPartV, FirstPartU, Weight, NoKey, WholeKey, OtherKey}
+
+-- ---- the number of a refusal is never 0
+
+pub number-positive : (r : Refusal) → 0 < numberOf r
+number-positive Size = lit< tt
+number-positive Length = lit< tt
+number-positive BothPlanes = lit< tt
+number-positive PastEnd = lit< tt
+number-positive PackedByte = lit< tt
+number-positive StreamEnd = lit< tt
+number-positive NoPermutation = lit< tt
+number-positive ZeroTrit = lit< tt
+number-positive RankU = lit< tt
+number-positive RankV = lit< tt
+number-positive Line = lit< tt
+number-positive FirstPartV = lit< tt
+number-positive FirstPartU = lit< tt
+number-positive Weight = lit< tt
+number-positive NoKey = lit< tt
+number-positive WholeKey = lit< tt
+number-positive OtherKey = lit< tt
+
+-- ---- one group of tests after another
+
+-- the first group refuses
+pub first-stops : {x a : ℕ} (b : ℕ) → x ≡ a → (x ≡ 0 → ⊥) → x ≡ first a b
+unfolding first
+first-stops {x} {a} b e h = e ∙ sym (ap (λ (t : Bool). cond t b a) (ne-eqb a 0 (λ z. h (e ∙ z))))
+
+-- the first group refuses nothing
+pub first-goes : {x y a b : ℕ} → x ≡ a → x ≡ 0 → y ≡ b → y ≡ first a b
+unfolding first
+first-goes {x} {y} {a} {b} e z f = f ∙ sym (ap (λ (t : Bool). cond t b a) (eq-eqb a 0 (sym e ∙ z)))
+
+-- neither refuses
+pub passed-first : (a b : ℕ) → first a b ≡ 0 → (a ≡ 0) × (b ≡ 0)
+unfolding first
+passed-first a b z = by (ℕ-discrete a 0)
+  where
+    by : Dec (a ≡ 0) → (a ≡ 0) × (b ≡ 0)
+    by (yes q) = (q, sym (ap (λ (t : Bool). cond t b a) (eq-eqb a 0 q)) ∙ z)
+    by (no f) = absurd (f (sym (ap (λ (t : Bool). cond t b a) (ne-eqb a 0 f)) ∙ z))
 
 -- ---- a chain of tests that ended in 0
 

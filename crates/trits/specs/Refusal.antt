@@ -45,6 +45,10 @@ refuse test n rest = cond test n rest
 abbrev pub demand : Bool → ℕ → ℕ → ℕ
 demand test n rest = cond test rest n
 
+-- one group of tests after another: the first refusal, and where the first group refuses nothing the second decides
+unfoldable pub first : ℕ → ℕ → ℕ
+first a b = cond (eqb a 0) b a
+
 -- "a refusal returns its number alone; state and output stay": what a lent buffer is at exit
 abbrev pub atExit : ℕ → List ℕ → List ℕ → List ℕ
 atExit refusal new old = cond (eqb refusal 0) new old

@@ -1,0 +1,100 @@
+/*
+ * The module's half of the ternary Wave signatures: hold a public key and check signatures.
+ *
+ * Trits stand in two planes of 64-bit words, ones and twos, least significant bit first: trit 1 sets its bit in the
+ * ones plane, trit 2 in the twos plane. A row of m trits takes WAVE_WORDS(m) words in each plane; the rows of a key
+ * follow each other, each beginning a new word. Packed, m trits take WAVE_BYTES(m) bytes, five trits to a byte, the
+ * first trit times 1, then times 3, 9, 27, 81; trits past m in the last byte are ignored on reading and written as 0.
+ *
+ * Every buffer is a pointer and its number of elements (words or bytes, not the size in bytes). Every length must be
+ * exactly what the sizes say. No two buffers of one call may overlap where one of them is written. The caller owns
+ * all memory; nothing is allocated or kept between calls.
+ *
+ * Refusals are numbers, 0 for none: 1 a size outside its range, 2 a wrong length, 3 a bit set in both planes, 4 a bit
+ * set past a row's length, 5 a packed byte above 242, 6 the stream ends too soon, 20 no key begun or rows missing at a
+ * check, 21 a row offered to a whole key, 22 another key number than the held one. A call tests in the order given with
+ * it and returns the first refusal that applies; a refused call leaves the state and every buffer as they were.
+ */
+#ifndef WAVE_CHECKER_H
+#define WAVE_CHECKER_H
+
+#include <stddef.h>
+#include <stdint.h>
+
+#ifdef __cplusplus
+extern "C" {
+#endif
+
+/* The words of one plane, and the packed bytes, of a row of m trits. */
+#define WAVE_WORDS(m) (((size_t)(m) + 63) / 64)
+#define WAVE_BYTES(m) (((size_t)(m) + 4) / 5)
+
+/*
+ * The state of the module. All zero: no key begun. begun is 0 or 1; number, n, k and w are those of the key begun, and
+ * rows counts the rows stored. The state goes in by value and comes back by value: keep the one that comes back.
+ */
+typedef struct { uint64_t begun, number, n, k, w, rows; } wave_held;
+
+/* What a beginning or a row comes to: the refusal or 0, and the state after the call (the same one after a refusal). */
+typedef struct { uint64_t refusal; wave_held held; } wave_stored;
+
+/* What a check comes to: the refusal or 0; yes is 1 for yes and 0 for all else; the weight of the full word. After a
+ * refusal yes and weight are 0. "No" is no refusal. */
+typedef struct { uint64_t refusal, yes, weight; } wave_checked;
+
+/*
+ * Begins a key, which replaces the held one whatever the old state is. number is 0 to 255, n is even from 4 to 16,384,
+ * k is 2 to n-2, w is 1 to n; otherwise 1, and the old key stays. No row is stored yet, and no word of a buffer is
+ * touched: what the planes of the key hold means nothing until rows are stored.
+ */
+wave_stored wave_begin(wave_held held, uint64_t number, uint64_t n, uint64_t k, uint64_t w);
+
+/*
+ * Stores a packed row of n-k trits as the next row of the key. ones and twos are the planes of the whole key, each of
+ * k * WAVE_WORDS(n-k) words; row has WAVE_BYTES(n-k) bytes. The words of that row are filled in both planes, bits past
+ * its length 0, and no other word changes.
+ * Order of refusals: 20 (no key begun), 1 (a state out of its ranges), 21, 2, 5.
+ */
+wave_stored wave_store_row(wave_held held, uint64_t *ones, size_t ones_words, uint64_t *twos, size_t twos_words,
+                           const uint8_t *row, size_t row_bytes);
+
+/*
+ * Checks the signature s on the syndrome y under the held key: the full word is (y - s times the key, s), the answer
+ * its weight, and yes exactly when that is w. y has WAVE_BYTES(n-k) bytes, s has WAVE_BYTES(k) bytes, and ones and twos
+ * are the planes of the whole key, as for wave_store_row. work_ones and work_twos are working space of WAVE_WORDS(n-k)
+ * words each; they may hold anything, are untouched after a refusal, and are all zero after every verdict.
+ * Order of refusals: 20 (no key begun), 1 (a state out of its ranges), 20 (rows missing), 22, 2, then the contents of the
+ * key (3, then 4, each over all of it), of y (5) and of s (5).
+ */
+wave_checked wave_check(wave_held held, uint64_t number, const uint64_t *ones, size_t ones_words,
+                        const uint64_t *twos, size_t twos_words, const uint8_t *y, size_t y_bytes,
+                        const uint8_t *s, size_t s_bytes, uint64_t *work_ones, size_t work_ones_words,
+                        uint64_t *work_twos, size_t work_twos_words);
+
+/*
+ * Packs a row of m trits (0 to 16,384): planes of WAVE_WORDS(m) words each become WAVE_BYTES(m) bytes.
+ * Order of refusals: 1, 2, 3, 4. bytes stays after a refusal.
+ */
+uint64_t wave_pack(size_t m, const uint64_t *ones, size_t ones_words, const uint64_t *twos, size_t twos_words,
+                   uint8_t *bytes, size_t bytes_count);
+
+/*
+ * Unpacks a row of m trits (0 to 16,384): WAVE_BYTES(m) bytes become planes of WAVE_WORDS(m) words each, bits past m 0.
+ * Order of refusals: 1, 2, 5. The planes stay after a refusal.
+ */
+uint64_t wave_unpack(size_t m, const uint8_t *bytes, size_t bytes_count, uint64_t *ones, size_t ones_words,
+                     uint64_t *twos, size_t twos_words);
+
+/*
+ * Takes m trits (0 to 16,384) from a stream of bytes of any length: bytes of 243 or more are skipped, each other byte
+ * gives five trits, and what follows the m-th trit is not looked at. The planes have WAVE_WORDS(m) words each.
+ * Order of refusals: 1, 2, 6. The planes stay after a refusal.
+ */
+uint64_t wave_from_stream(size_t m, const uint8_t *bytes, size_t bytes_count, uint64_t *ones, size_t ones_words,
+                          uint64_t *twos, size_t twos_words);
+
+#ifdef __cplusplus
+}
+#endif
+
+#endif

@@ -1,6 +1,6 @@
 -- What inner functions work with: where a field ends, numbers too large for any range, and a form as places in its line. Assumes nothing.
 use mathlib.Core.Path.{_≡_}
-use mathlib.Core.Bool.{cond}
+use mathlib.Core.Bool.{cond, true}
 use mathlib.Core.List.{List, [], _∷_, _++_}
 use Prim.Native.Nat.{ℕ, suc, _+_, _-_, _≤_, _<_}
 use lib.Dec.{eqb, leb}
@@ -8,6 +8,7 @@ use lib.ListN.{length, take, drop}
 use Rattle.text.specs.Fields.{fields}
 use Rattle.text.specs.Numbers.{isNumber, value, decimal}
 use Rattle.text.specs.Answers.{dash, refusedWord}
+use Rattle.text.specs.Digits.{isDigits}
 use Rattle.text.specs.Forms.{Line, noForm, keyLine, rowLine, signLine, fourFields}
 use Rattle.text.specs.declared.forms.Form.{Form}
 use Rattle.text.specs.declared.forms.Form.the-variants.{Neither, Key, Row, Sign}
@@ -55,6 +56,13 @@ says line Neither = noForm
 says line (Key number n k w) = keyLine number n k w
 says line Row = rowLine (part 2 (length line) line)
 says line (Sign number formula c d) = signLine number formula (part (c + 1) d line) (part (d + 1) (length line) line)
+
+-- the places that a form gives stand in its line, and have digits
+abbrev pub Placed : List ℕ → Form → Type 0
+Placed line Neither = Unit {0}
+Placed line (Key number n k w) = Unit {0}
+Placed line Row = (2 ≤ length line) × (isDigits (part 2 (length line) line) ≡ true)
+Placed line (Sign number formula c d) = (c < d) × (d < length line) × (isDigits (part (c + 1) d line) ≡ true) × (isDigits (part (d + 1) (length line) line) ≡ true)
 
 -- a line whose sizes, where too large for any range, count as `large`
 unfoldable pub bounded : Line → Line

@@ -4,7 +4,7 @@ ghost use Prim.Native.Nat.{_≤_};
 ghost use lib.ListN.{length, drop};
 ghost use Rattle.text.specs.Fields.{fields};
 ghost use Rattle.text.specs.Forms.{fourFields, oneField, keyOf, rowOf, signOf, formOf, lineOf};
-ghost use Rattle.text.specs.Steps.{Four, EndsOf, says, bounded};
+ghost use Rattle.text.specs.Steps.{Four, EndsOf, says, Placed, bounded};
 use super::fields::find_tab;
 use super::fields::read_number;
 use super::fields::is_digits;
@@ -55,6 +55,7 @@ fn read_sizes(line: &[u8], b: usize, c: usize, d: usize, most_key: u64) -> Form
     requires { ⌜ Four (now line) b c d ⌝ }
     requires { ⌜ «most_key» ≤ 65535 ⌝ }
     ensures { λ r. ⌜ says (now (line .entry)) r ≡ bounded (fourFields (keyOf «most_key») (fields (drop 2 (now (line .entry))))) ⌝ }
+    ensures { λ r. ⌜ Placed (now (line .entry)) r ⌝ }
 {
     let number = read_number(&line[2..b]);
     if number > most_key {
@@ -83,6 +84,7 @@ fn read_signed(line: &[u8], b: usize, c: usize, d: usize, most_key: u64) -> Form
     requires { ⌜ Four (now line) b c d ⌝ }
     requires { ⌜ «most_key» ≤ 65535 ⌝ }
     ensures { λ r. ⌜ says (now (line .entry)) r ≡ bounded (fourFields (signOf «most_key») (fields (drop 2 (now (line .entry))))) ⌝ }
+    ensures { λ r. ⌜ Placed (now (line .entry)) r ⌝ }
 {
     let number = read_number(&line[2..b]);
     if number > most_key {
@@ -108,6 +110,7 @@ fn read_signed(line: &[u8], b: usize, c: usize, d: usize, most_key: u64) -> Form
 fn read_key(line: &[u8], most_key: u64) -> Form
     requires { ⌜ (2 ≤ length (now line)) × («most_key» ≤ 65535) ⌝ }
     ensures { λ r. ⌜ says (now (line .entry)) r ≡ bounded (fourFields (keyOf «most_key») (fields (drop 2 (now (line .entry))))) ⌝ }
+    ensures { λ r. ⌜ Placed (now (line .entry)) r ⌝ }
 {
     let ends = four_fields(line);
     if ends.found == 0 {
@@ -120,6 +123,7 @@ fn read_key(line: &[u8], most_key: u64) -> Form
 fn read_sign(line: &[u8], most_key: u64) -> Form
     requires { ⌜ (2 ≤ length (now line)) × («most_key» ≤ 65535) ⌝ }
     ensures { λ r. ⌜ says (now (line .entry)) r ≡ bounded (fourFields (signOf «most_key») (fields (drop 2 (now (line .entry))))) ⌝ }
+    ensures { λ r. ⌜ Placed (now (line .entry)) r ⌝ }
 {
     let ends = four_fields(line);
     if ends.found == 0 {
@@ -132,6 +136,7 @@ fn read_sign(line: &[u8], most_key: u64) -> Form
 fn read_row(line: &[u8]) -> Form
     requires { ⌜ 2 ≤ length (now line) ⌝ }
     ensures { λ r. ⌜ says (now (line .entry)) r ≡ bounded (oneField rowOf (fields (drop 2 (now (line .entry))))) ⌝ }
+    ensures { λ r. ⌜ Placed (now (line .entry)) r ⌝ }
 {
     let b = find_tab(line, 2);
     if b != line.len() {
@@ -147,6 +152,7 @@ fn read_row(line: &[u8]) -> Form
 fn read_form(line: &[u8], most_key: u64) -> Form
     requires { ⌜ «most_key» ≤ 65535 ⌝ }
     ensures { λ r. ⌜ says (now (line .entry)) r ≡ bounded (formOf «most_key» (fields (now (line .entry)))) ⌝ }
+    ensures { λ r. ⌜ Placed (now (line .entry)) r ⌝ }
 {
     if find_tab(line, 0) != 1 {
         return Form::Neither;
@@ -171,6 +177,7 @@ fn read_form(line: &[u8], most_key: u64) -> Form
 pub fn read_line(line: &[u8], most_key: u64) -> Form
     requires { ⌜ «most_key» ≤ 65535 ⌝ }
     ensures { λ r. ⌜ says (now (line .entry)) r ≡ bounded (lineOf «most_key» (now (line .entry))) ⌝ }
+    ensures { λ r. ⌜ Placed (now (line .entry)) r ⌝ }
 {
     if line.len() > 1024 {
         return Form::Neither;

@@ -14,11 +14,11 @@ find-tab-requires c κs = search needs
 
 returns : tie.Need-returns
 returns c =
-    form-length (c .before .before .before .args .most-key) (now (c .before .before .before .args .line)) _ (c .before .find-tab .ensures) (c .if1 .taken)
+    (form-length (c .before .before .before .args .most-key) (now (c .before .before .before .args .line)) _ (c .before .find-tab .ensures) (c .if1 .taken), tt)
 
 returns-2 : tie.Need-returns-2
 returns-2 c =
-    form-alone (c .before .before .before .before .args .most-key) (now (c .before .before .before .before .args .line)) _ (c .before .before .find-tab .ensures) (c .before .if1 .left) (c .if2 .taken)
+    (form-alone (c .before .before .before .before .args .most-key) (now (c .before .before .before .before .args .line)) _ (c .before .before .find-tab .ensures) (c .before .if1 .left) (c .if2 .taken), tt)
 
 shared-slice-read-letter : tie.Need-shared-slice-read-letter
 shared-slice-read-letter c =
@@ -32,7 +32,7 @@ read-key-requires c κs =
 
 returns-3 : tie.Need-returns-3
 returns-3 c =
-    c .read-key .ensures ∙ form-key (c .before .before .before .before .before .before .before .args .most-key) (now (c .before .before .before .before .before .before .before .args .line)) _ (c .before .before .before .before .before .find-tab .ensures) (c .before .before .before .before .if1 .left) (c .before .before .before .if2 .left) (c .before .if3 .taken)
+    (c .read-key .ensures .0 ∙ form-key (c .before .before .before .before .before .before .before .args .most-key) (now (c .before .before .before .before .before .before .before .args .line)) _ (c .before .before .before .before .before .find-tab .ensures) (c .before .before .before .before .if1 .left) (c .before .before .before .if2 .left) (c .before .if3 .taken), c .read-key .ensures .1)
 
 read-row-requires : tie.Need-read-row-requires
 read-row-requires c κs =
@@ -41,7 +41,7 @@ read-row-requires c κs =
 
 returns-4 : tie.Need-returns-4
 returns-4 c =
-    c .read-row .ensures ∙ form-row (c .before .before .before .before .before .before .before .before .args .most-key) (now (c .before .before .before .before .before .before .before .before .args .line)) _ (c .before .before .before .before .before .before .find-tab .ensures) (c .before .before .before .before .before .if1 .left) (c .before .before .before .before .if2 .left) (c .before .before .if3 .left) (c .before .if4 .taken)
+    (c .read-row .ensures .0 ∙ form-row (c .before .before .before .before .before .before .before .before .args .most-key) (now (c .before .before .before .before .before .before .before .before .args .line)) _ (c .before .before .before .before .before .before .find-tab .ensures) (c .before .before .before .before .before .if1 .left) (c .before .before .before .before .if2 .left) (c .before .before .if3 .left) (c .before .if4 .taken), c .read-row .ensures .1)
 
 read-sign-requires : tie.Need-read-sign-requires
 read-sign-requires c κs =
@@ -50,11 +50,11 @@ read-sign-requires c κs =
 
 returns-5 : tie.Need-returns-5
 returns-5 c =
-    c .read-sign .ensures ∙ form-sign (c .before .before .before .before .before .before .before .before .before .args .most-key) (now (c .before .before .before .before .before .before .before .before .before .args .line)) _ (c .before .before .before .before .before .before .before .find-tab .ensures) (c .before .before .before .before .before .before .if1 .left) (c .before .before .before .before .before .if2 .left) (c .before .before .before .if3 .left) (c .before .before .if4 .left) (c .before .if5 .taken)
+    (c .read-sign .ensures .0 ∙ form-sign (c .before .before .before .before .before .before .before .before .before .args .most-key) (now (c .before .before .before .before .before .before .before .before .before .args .line)) _ (c .before .before .before .before .before .before .before .find-tab .ensures) (c .before .before .before .before .before .before .if1 .left) (c .before .before .before .before .before .if2 .left) (c .before .before .before .if3 .left) (c .before .before .if4 .left) (c .before .if5 .taken), c .read-sign .ensures .1)
 
 returns-6 : tie.Need-returns-6
 returns-6 c =
-    form-none (c .before .before .before .before .before .before .before .before .args .most-key) (now (c .before .before .before .before .before .before .before .before .args .line)) _ (c .before .before .before .before .before .before .find-tab .ensures) (c .before .before .before .before .before .if1 .left) (c .before .before .before .before .if2 .left) (c .before .before .if3 .left) (c .before .if4 .left) (c .if5 .left)
+    (form-none (c .before .before .before .before .before .before .before .before .args .most-key) (now (c .before .before .before .before .before .before .before .before .args .line)) _ (c .before .before .before .before .before .before .find-tab .ensures) (c .before .before .before .before .before .if1 .left) (c .before .before .before .before .if2 .left) (c .before .before .if3 .left) (c .before .if4 .left) (c .if5 .left), tt)
 
 pub read-form-spec : {M : Type 1} → statement M
 read-form-spec =

@@ -13,7 +13,7 @@ find-tab-requires c κs = search needs
 
 returns : tie.Need-returns
 returns c =
-    row-more (now (c .before .before .before .args .line)) _ (c .before .before .before .pre) (c .before .find-tab .ensures) (c .if1 .taken)
+    (row-more (now (c .before .before .before .args .line)) _ (c .before .before .before .pre) (c .before .find-tab .ensures) (c .if1 .taken), tt)
 
 sub-is-digits : tie.Need-sub-is-digits
 sub-is-digits c = search needs
@@ -29,11 +29,11 @@ is-digits-requires c κs = search needs
 
 returns-2 : tie.Need-returns-2
 returns-2 c =
-    row-told (now (c .before .before .before .before .before .before .args .line)) _ (c .before .before .before .before .before .before .pre) (c .before .before .before .before .find-tab .ensures) (c .before .before .before .if1 .left) (sym (c .before .is-digits .ensures) ∙ c .if2 .taken)
+    (row-told (now (c .before .before .before .before .before .before .args .line)) _ (c .before .before .before .before .before .before .pre) (c .before .before .before .before .find-tab .ensures) (c .before .before .before .if1 .left) (sym (c .before .is-digits .ensures) ∙ c .if2 .taken), (c .before .before .before .before .before .before .pre, sym (c .before .is-digits .ensures) ∙ c .if2 .taken))
 
 returns-3 : tie.Need-returns-3
 returns-3 c =
-    row-not (now (c .before .before .before .before .before .before .args .line)) _ (c .before .before .before .before .before .before .pre) (c .before .before .before .before .find-tab .ensures) (c .before .before .before .if1 .left) (sym (c .before .is-digits .ensures) ∙ c .if2 .left)
+    (row-not (now (c .before .before .before .before .before .before .args .line)) _ (c .before .before .before .before .before .before .pre) (c .before .before .before .before .find-tab .ensures) (c .before .before .before .if1 .left) (sym (c .before .is-digits .ensures) ∙ c .if2 .left), tt)
 
 pub read-row-spec : {M : Type 1} → statement M
 read-row-spec =

@@ -13,7 +13,7 @@ four-fields-requires c κs = search needs
 returns : tie.Need-returns
 returns c =
     let s = c .before .before .before .before in
-    not-sign (now (s .args .line)) (s .args .most-key) (c .before .before .four-fields .ensures .0 (c .if1 .taken))
+    (not-sign (now (s .args .line)) (s .args .most-key) (c .before .before .four-fields .ensures .0 (c .if1 .taken)), tt)
 
 read-signed-requires : tie.Need-read-signed-requires
 read-signed-requires c κs =

@@ -24,7 +24,7 @@ read-number-requires c κs = search needs
 returns : tie.Need-returns
 returns c =
     let s = c .before .before .before .before in
-    sign-not-1 (s .pre .0) (s .args .most-key) (range-out _ (c .before .read-number .ensures) (s .args .most-key) (s .pre .1) (c .if1 .taken))
+    (sign-not-1 (s .pre .0) (s .args .most-key) (range-out _ (c .before .read-number .ensures) (s .args .most-key) (s .pre .1) (c .if1 .taken)), tt)
 
 add-b1 : tie.Need-add-b1
 add-b1 c = search needs
@@ -45,7 +45,7 @@ returns-2 : tie.Need-returns-2
 returns-2 c =
     let s = c .before .before .before .before .before .before .before in
     let p = range-in _ (c .before .before .before .before .read-number .ensures) (s .args .most-key) (s .pre .1) (c .before .before .before .if1 .left) in
-    sign-not-2 (s .pre .0) (s .args .most-key) (p .0) (range-out _ (c .before .read-number2 .ensures) 65535 (omega arith) (c .if2 .taken))
+    (sign-not-2 (s .pre .0) (s .args .most-key) (p .0) (range-out _ (c .before .read-number2 .ensures) 65535 (omega arith) (c .if2 .taken)), tt)
 
 add-c1 : tie.Need-add-c1
 add-c1 c = search needs
@@ -67,7 +67,7 @@ returns-3 c =
     let s = c .before .before .before .before .before .before .before .before .before .before in
     let p = range-in _ (c .before .before .before .before .before .before .before .read-number .ensures) (s .args .most-key) (s .pre .1) (c .before .before .before .before .before .before .if1 .left) in
     let q = range-in _ (c .before .before .before .before .read-number2 .ensures) 65535 (omega arith) (c .before .before .before .if2 .left) in
-    sign-not-3 (s .pre .0) (s .args .most-key) (p .0) (q .0) (sym (c .before .is-digits .ensures) ∙ not-true (c .before .is-digits .result) (c .if3 .taken))
+    (sign-not-3 (s .pre .0) (s .args .most-key) (p .0) (q .0) (sym (c .before .is-digits .ensures) ∙ not-true (c .before .is-digits .result) (c .if3 .taken)), tt)
 
 add-d1 : tie.Need-add-d1
 add-d1 c = search needs
@@ -90,7 +90,7 @@ returns-4 c =
     let p = range-in _ (c .before .before .before .before .before .before .before .before .before .before .read-number .ensures) (s .args .most-key) (s .pre .1) (c .before .before .before .before .before .before .before .before .before .if1 .left) in
     let q = range-in _ (c .before .before .before .before .before .before .before .read-number2 .ensures) 65535 (omega arith) (c .before .before .before .before .before .before .if2 .left) in
     let r = sym (c .before .before .before .before .is-digits .ensures) ∙ not-false (c .before .before .before .before .is-digits .result) (c .before .before .before .if3 .left) in
-    sign-not-4 (s .pre .0) (s .args .most-key) (p .0) (q .0) r (sym (c .before .is-digits2 .ensures) ∙ not-true (c .before .is-digits2 .result) (c .if4 .taken))
+    (sign-not-4 (s .pre .0) (s .args .most-key) (p .0) (q .0) r (sym (c .before .is-digits2 .ensures) ∙ not-true (c .before .is-digits2 .result) (c .if4 .taken)), tt)
 
 returns-5 : tie.Need-returns-5
 returns-5 c =
@@ -99,7 +99,7 @@ returns-5 c =
     let q = range-in _ (c .before .before .before .before .before .before .before .read-number2 .ensures) 65535 (omega arith) (c .before .before .before .before .before .before .if2 .left) in
     let r = sym (c .before .before .before .before .is-digits .ensures) ∙ not-false (c .before .before .before .before .is-digits .result) (c .before .before .before .if3 .left) in
     let t = sym (c .before .is-digits2 .ensures) ∙ not-false (c .before .is-digits2 .result) (c .if4 .left) in
-    sign-told (s .pre .0) (s .args .most-key) (p .0) (q .0) r t (p .1) (q .1)
+    (sign-told (s .pre .0) (s .args .most-key) (p .0) (q .0) r t (p .1) (q .1), (s .pre .0 .c-d, s .pre .0 .d-end, r, t))
 
 pub read-signed-spec : {M : Type 1} → statement M
 read-signed-spec =

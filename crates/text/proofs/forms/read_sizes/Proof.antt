@@ -21,7 +21,7 @@ read-number-requires c κs = search needs
 returns : tie.Need-returns
 returns c =
     let s = c .before .before .before .before in
-    key-not-1 (s .pre .0) (s .args .most-key) (range-out _ (c .before .read-number .ensures) (s .args .most-key) (s .pre .1) (c .if1 .taken))
+    (key-not-1 (s .pre .0) (s .args .most-key) (range-out _ (c .before .read-number .ensures) (s .args .most-key) (s .pre .1) (c .if1 .taken)), tt)
 
 add-b1 : tie.Need-add-b1
 add-b1 c = search needs
@@ -42,7 +42,7 @@ returns-2 : tie.Need-returns-2
 returns-2 c =
     let s = c .before .before .before .before .before .before .before in
     let p = range-in _ (c .before .before .before .before .read-number .ensures) (s .args .most-key) (s .pre .1) (c .before .before .before .if1 .left) in
-    key-not-2 (s .pre .0) (s .args .most-key) (p .0) (number-out _ (c .before .read-number2 .ensures) (c .if2 .taken))
+    (key-not-2 (s .pre .0) (s .args .most-key) (p .0) (number-out _ (c .before .read-number2 .ensures) (c .if2 .taken)), tt)
 
 add-c1 : tie.Need-add-c1
 add-c1 c = search needs
@@ -64,7 +64,7 @@ returns-3 c =
     let s = c .before .before .before .before .before .before .before .before .before .before in
     let p = range-in _ (c .before .before .before .before .before .before .before .read-number .ensures) (s .args .most-key) (s .pre .1) (c .before .before .before .before .before .before .if1 .left) in
     let q = number-in _ (c .before .before .before .before .read-number2 .ensures) (c .before .before .before .if2 .left) in
-    key-not-3 (s .pre .0) (s .args .most-key) (p .0) (q .0) (number-out _ (c .before .read-number3 .ensures) (c .if3 .taken))
+    (key-not-3 (s .pre .0) (s .args .most-key) (p .0) (q .0) (number-out _ (c .before .read-number3 .ensures) (c .if3 .taken)), tt)
 
 add-d1 : tie.Need-add-d1
 add-d1 c = search needs
@@ -87,7 +87,7 @@ returns-4 c =
     let p = range-in _ (c .before .before .before .before .before .before .before .before .before .before .read-number .ensures) (s .args .most-key) (s .pre .1) (c .before .before .before .before .before .before .before .before .before .if1 .left) in
     let q = number-in _ (c .before .before .before .before .before .before .before .read-number2 .ensures) (c .before .before .before .before .before .before .if2 .left) in
     let r = number-in _ (c .before .before .before .before .read-number3 .ensures) (c .before .before .before .if3 .left) in
-    key-not-4 (s .pre .0) (s .args .most-key) (p .0) (q .0) (r .0) (number-out _ (c .before .read-number4 .ensures) (c .if4 .taken))
+    (key-not-4 (s .pre .0) (s .args .most-key) (p .0) (q .0) (r .0) (number-out _ (c .before .read-number4 .ensures) (c .if4 .taken)), tt)
 
 returns-5 : tie.Need-returns-5
 returns-5 c =
@@ -96,7 +96,7 @@ returns-5 c =
     let q = number-in _ (c .before .before .before .before .before .before .before .read-number2 .ensures) (c .before .before .before .before .before .before .if2 .left) in
     let r = number-in _ (c .before .before .before .before .read-number3 .ensures) (c .before .before .before .if3 .left) in
     let t = number-in _ (c .before .read-number4 .ensures) (c .if4 .left) in
-    key-told (s .pre .0) (s .args .most-key) (p .0) (q .0) (r .0) (t .0) (p .1) (q .1) (r .1) (t .1)
+    (key-told (s .pre .0) (s .args .most-key) (p .0) (q .0) (r .0) (t .0) (p .1) (q .1) (r .1) (t .1), tt)
 
 pub read-sizes-spec : {M : Type 1} → statement M
 read-sizes-spec =

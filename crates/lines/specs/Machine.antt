@@ -8,6 +8,7 @@ use Rattle.trits.specs.Planes.{zeroWords}
 use Rattle.text.specs.Forms.{Line, noForm, mostBytes}
 use Rattle.lines.specs.Answer.{Kept, linePrints, lineKept}
 use Rattle.lines.specs.Print.{readLine, noKey}
+use Rattle.checker.specs.declared.state.Held.{Held}
 use Rattle.lines.specs.declared.State.{State}
 
 -- the bytes of the line so far, of which a buffer has at most 1,025, and what is kept from line to line
@@ -16,9 +17,13 @@ pub record Machine : Type 0 where
   pub line : List ℕ
   pub kept : Kept
 
+-- what a state and the lent words keep
+abbrev pub keeping : Held → List ℕ → List ℕ → Kept
+keeping h ones twos = record { held = h; ones = ones; twos = twos }
+
 -- the machine of a state and the lent buffers
 abbrev pub machine : State → List ℕ → List ℕ → List ℕ → Machine
-machine s line ones twos = record { len = s .len; line = line; kept = record { held = s .held; ones = ones; twos = twos } }
+machine s line ones twos = record { len = s .len; line = line; kept = keeping (s .held) ones twos }
 
 -- what the gathered line says: above 1,024 bytes it is none of the forms
 unfoldable pub gathered : Machine → Line
@@ -54,3 +59,7 @@ fed m (b ∷ text) = stepPrints b m ++ fed (stepped b m) text
 -- the machine at the start: no line, no key
 unfoldable pub started : Machine
 started = record { len = 0; line = zeroWords 1025; kept = noKey }
+
+-- the state at the start
+unfoldable pub noLine : State
+noLine = record { len = 0; held = noKey .held }

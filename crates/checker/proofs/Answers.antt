@@ -2,6 +2,7 @@
 use mathlib.Core.Path.{_≡_, sym, ap, _∙_}
 use mathlib.Core.Bool.{Bool, true, false, cond}
 use mathlib.Core.List.{List}
+use mathlib.Core.Logic.{_≢_}
 use Prim.Native.Nat.{ℕ, _<_}
 use native.Mathlib.Omega.{arith}
 use lib.Dec.{eqb}
@@ -15,6 +16,10 @@ use Rattle.checker.specs.declared.state.Held.{Held}
 use Rattle.checker.specs.declared.checking.Checked.{Checked}
 use Rattle.checker.specs.Store.{heldAtExit, nextHeld, storedHeld, storedPlane}
 use Rattle.checker.specs.Check.{answered, spaceAtExit}
+
+-- a number that is not 0 is above it
+pub positive : {k : ℕ} → (k ≡ 0 → ⊥) → 0 < k
+positive {k} f = let n : k ≢ 0 = f in omega arith
 
 -- ---- the verdict
 

@@ -17,12 +17,13 @@ use Rattle.trits.specs.Refusal.{planesRefusal}
 use Rattle.trits.proofs.Refusals.{passed-refuse, passed-demand, passed-first, planes-passed}
 use Rattle.trits.proofs.Matrix.{row-le, one-row-past}
 use Rattle.trits.proofs.Tests.{both-apart, past-zero}
+use Rattle.trits.proofs.Counts.{weight-le}
 use Rattle.packing.specs.Packed.{bytesFor, packedRefusal}
 use Rattle.checker.specs.declared.state.Held.{Held}
 use Rattle.checker.specs.Verdict.{timesKey}
 use Rattle.checker.specs.Held.{sound, rowTrits, rowWords, keyWords, heldKey}
-use Rattle.checker.specs.Store.{rowRefusal}
-use Rattle.checker.specs.Check.{callRefusal, planesLengths, planesContents, packedLengths, packedContents, heldWeight}
+use Rattle.checker.specs.Store.{rowRefusal, storeRefusal, storePackedRefusal}
+use Rattle.checker.specs.Check.{callRefusal, planesLengths, planesContents, packedLengths, packedContents, checkRefusal, checkPackedRefusal, heldWeight}
 use Rattle.checker.specs.Steps.{Whole}
 use Rattle.checker.proofs.Sizes.{Sizes, sizes}
 use Rattle.checker.proofs.Stretch.{row-past}
@@ -50,6 +51,25 @@ room h ones twos e =
     let ne : h .rows ≢ h .k = eqb-false _ _ (c .0) in
     let l : h .rows < h .k = omega (arith, s .counted) in
     record { is-sound = b .0; all = s; more = l; ones-are = eqb-true _ _ (d .0); twos-are = eqb-true _ _ (f .0); within = row-le (rowWords h) {i = h .rows} {m = h .k} l }
+
+-- a row in planes passed
+pub stored-passed : (h : Held) (ones twos rowOnes rowTwos : List ℕ) → storeRefusal h ones twos rowOnes rowTwos ≡ 0
+    → Room h (length ones) (length twos) × (length rowOnes ≡ rowWords h) × (length rowTwos ≡ rowWords h) × (planesRefusal rowOnes rowTwos 1 (rowTrits h) ≡ 0)
+unfolding storeRefusal
+stored-passed h ones twos ro rt e =
+    let a = passed-first (rowRefusal h (length ones) (length twos)) _ e in
+    let b = passed-demand (eqb (length ro) (rowWords h)) 2 _ (lit< tt) (a .1) in
+    let c = passed-demand (eqb (length rt) (rowWords h)) 2 _ (lit< tt) (b .1) in
+    (room h (length ones) (length twos) (a .0), eqb-true _ _ (b .0), eqb-true _ _ (c .0), c .1)
+
+-- a packed row passed
+pub stored-packed-passed : (h : Held) (ones twos row : List ℕ) → storePackedRefusal h ones twos row ≡ 0
+    → Room h (length ones) (length twos) × (length row ≡ bytesFor (rowTrits h)) × (packedRefusal row ≡ 0)
+unfolding storePackedRefusal
+stored-packed-passed h ones twos row e =
+    let a = passed-first (rowRefusal h (length ones) (length twos)) _ e in
+    let b = passed-demand (eqb (length row) (bytesFor (rowTrits h))) 2 _ (lit< tt) (a .1) in
+    (room h (length ones) (length twos) (a .0), eqb-true _ _ (b .0), b .1)
 
 -- ---- a check
 
@@ -119,6 +139,25 @@ packed-contents h ones twos y s e =
     let b = passed-first (packedRefusal y) (packedRefusal s) (a .1) in
     (a .0, b .0, b .1)
 
+-- a check in planes passed
+pub check-passed : (h : Held) (number : ℕ) (ones twos yOnes yTwos sOnes sTwos workOnes workTwos : List ℕ) → checkRefusal h number ones twos yOnes yTwos sOnes sTwos workOnes workTwos ≡ 0
+    → Called h number (length ones) (length twos) (length workOnes) (length workTwos) × (planesLengths h (length yOnes) (length yTwos) (length sOnes) (length sTwos) ≡ 0)
+    × (planesContents h ones twos yOnes yTwos sOnes sTwos ≡ 0)
+unfolding checkRefusal
+check-passed h number ones twos yo yt so st wo wt e =
+    let a = passed-first (callRefusal h number (length ones) (length twos) (length wo) (length wt)) _ e in
+    let b = passed-first (planesLengths h (length yo) (length yt) (length so) (length st)) (planesContents h ones twos yo yt so st) (a .1) in
+    (called h number (length ones) (length twos) (length wo) (length wt) (a .0), b .0, b .1)
+
+-- a packed check passed
+pub check-packed-passed : (h : Held) (number : ℕ) (ones twos y s workOnes workTwos : List ℕ) → checkPackedRefusal h number ones twos y s workOnes workTwos ≡ 0
+    → Called h number (length ones) (length twos) (length workOnes) (length workTwos) × (packedLengths h (length y) (length s) ≡ 0) × (packedContents h ones twos y s ≡ 0)
+unfolding checkPackedRefusal
+check-packed-passed h number ones twos y s wo wt e =
+    let a = passed-first (callRefusal h number (length ones) (length twos) (length wo) (length wt)) _ e in
+    let b = passed-first (packedLengths h (length y) (length s)) (packedContents h ones twos y s) (a .1) in
+    (called h number (length ones) (length twos) (length wo) (length wt) (a .0), b .0, b .1)
+
 -- planes that were not refused can be read
 pub readable : {ones twos : List ℕ} (rows m : ℕ) → planesRefusal ones twos rows m ≡ 0 → length twos ≡ length ones
     → ((j : ℕ) → Fits w64 (getD ones j 0)) → ((j : ℕ) → Fits w64 (getD twos j 0)) → Row ones twos
@@ -142,3 +181,7 @@ weighed {h} {ones} {twos} {o} {t} {p} {q} {a} {c} {d} y s w z yz r e g ec ed =
     let past = planes-passed ones twos (h .k) (rowTrits h) z .1 in
     ap₂ (λ (x y : ℕ). x + y) (ec ∙ ap₂ (λ (x : ℕ → Trit) (y : ℕ). weightV x (64 * y)) f l) ed
     ∙ full-weight (rowTrits h) (h .k) R y s (64 * rowWords h) (omega arith) yz (λ i q i<k b. row-past w i i<k past q b)
+
+-- the weight of a row is at most its places
+pub at-most : {p q : List ℕ} {n c : ℕ} {v : ℕ → Trit} → Reads p q n v → c ≡ weightV (tritAt p q) (64 * length p) → c ≤ 64 * n
+at-most {p} {q} r e = omega (arith, e, weight-le (tritAt p q) (64 * length p), r .size)

@@ -10,7 +10,7 @@ use Rattle.trits.specs.Trit.{Trit, t0, t2, addT, subT, mulT, zipV, dotV, sumTo,
 use Rattle.trits.specs.Planes.{tritAt, Reads}
 use Rattle.trits.proofs.Arithmetic.{law1, law2, law3}
 use Rattle.trits.proofs.Counts.{sum-cong, sum-add}
-use Rattle.trits.proofs.Ends.{upto-in, weight-ended}
+use Rattle.trits.proofs.Ends.{upto-in, upto-out, weight-ended}
 use Rattle.packing.specs.Packed.{digitOf, packedAt, packedRow}
 use Rattle.checker.specs.Verdict.{Key, timesKey, fullWord, fullWeight}
 use Rattle.checker.proofs.FullWord.{full-low, full-high}
@@ -62,6 +62,10 @@ turn-weight s i {a} {c} x e p q = ap₂ (λ (y z : ℕ). y + z) p (q ∙ ap nonZ
 pub packed-trit : (bytes : List ℕ) (m i d : ℕ) → i < m → d ≡ digitOf (getD bytes (i / 5) 0) (i % 5) → tritOf d ≡ packedRow m bytes i
 unfolding packedRow packedAt
 packed-trit bytes m i d l e = ap tritOf e ∙ sym (upto-in (packedAt bytes) m i l)
+
+pub packed-out : (bytes : List ℕ) (m q : ℕ) → m ≤ q → packedRow m bytes q ≡ t0
+unfolding packedRow
+packed-out bytes m q l = upto-out (packedAt bytes) m q l
 
 -- a place where every row is 0
 dot-zero : (s r : ℕ → Trit) (k : ℕ) → ((i : ℕ) → i < k → r i ≡ t0) → dotV s r k ≡ t0

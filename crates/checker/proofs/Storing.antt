@@ -26,5 +26,5 @@ module _ (h : Held) (plane row : List ℕ) {r : ℕ} where
   unfolding storedPlane
   plane-put z = exit-new _ _ z
 
-  pub plane-lent : {k : ℕ} {ys : List ℕ} → r ≡ 0 → k ≡ length row → ys ≡ row → putMid (h .rows * rowWords h) k plane ys ≡ storedPlane r h plane row
-  plane-lent {k} {ys} z e f = put-words (h .rows * rowWords h) k plane ys row e f ∙ plane-put z
+  pub plane-lent : {a k : ℕ} {ys : List ℕ} → r ≡ 0 → a ≡ h .rows * rowWords h → k ≡ length row → ys ≡ row → putMid a k plane ys ≡ storedPlane r h plane row
+  plane-lent {a} {k} {ys} z q e f = put-words a k plane ys row e f ∙ ap (λ (x : ℕ). putWords x plane row) q ∙ plane-put z

@@ -89,7 +89,7 @@ pub fn store_packed_row(held: Held, ones: &mut [u64], twos: &mut [u64], row: &[u
     let words = state::row_words(held);
     let start = held.rows as usize * words;
     let end = start + words;
-    packing::write::write_packed(state::row_trits(held), row, &mut ones[start..end], &mut twos[start..end]);
+    key::write_part(state::row_trits(held), row, &mut ones[start..end], &mut twos[start..end]);
     Stored {
         outcome: tested,
         held: key::count_row(held),

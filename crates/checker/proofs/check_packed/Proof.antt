@@ -1,14 +1,18 @@
--- `lines::check_packed` meets its contract. Assumes nothing.
+-- A refusal is judged before anything is touched; else the weight is judged, and both planes of the working space are zeroed.
+-- Assumes nothing.
+use Prim.Native.Nat.{ℕ}
+use mathlib.Core.Path.{sym, ap, ap₂, _∙_}
+use native.Mathlib.Omega.{arith}
 use borrow.Author.Needs.{needs}
+use denote.Ref.{now}
+use Rattle.trits.specs.Trit.{number}
+use Rattle.packing.specs.Packed.{packedRow}
+use Rattle.checker.specs.Held.{rowTrits}
+use Rattle.checker.specs.Check.{heldWeight, answered, checkPackedAnswer}
+use Rattle.checker.proofs.Passed.{whole, check-packed-passed}
+use Rattle.checker.proofs.Answers.{positive, refused-alike, space-kept, space-zero}
 use Rattle.checker.proofs.check_packed.Statement.{statement}
 use Rattle.checker.proofs.check_packed.Tie as tie
-use Rattle.checker.proofs.check_packed.Reads as reads
-use Rattle.checker.proofs.check_packed.Lts as lts
-use Rattle.checker.proofs.checking.judge.Reads as judge-reads
-use Rattle.checker.proofs.checking.test_packed_check.Reads as test-packed-check-reads
-use Rattle.checker.proofs.checking.weigh_packed.Reads as weigh-packed-reads
-use Rattle.trits.proofs.refusal.code.Reads as code-reads
-use Rattle.trits.proofs.words.zero_words.Reads as zero-words-reads
 
 test-packed-check-requires : tie.Need-test-packed-check-requires
 test-packed-check-requires c κs = search needs
@@ -26,10 +30,15 @@ same-length-2 : tie.Need-same-length-2
 same-length-2 c = search needs
 
 returns : tie.Need-returns
-returns c = ?
+unfolding checkPackedAnswer
+returns c =
+    let l = positive (λ z. c .before .if1 .taken (c .before .before .code .ensures ∙ z)) in
+    (c .judge .ensures ∙ refused-alike 0 (heldWeight (c .before .before .before .before .before .before .before .before .before .before .before .before .args .held) (now (c .before .before .before .before .before .before .before .before .before .before .before .before .args .ones)) (now (c .before .before .before .before .before .before .before .before .before .before .before .before .args .twos)) (packedRow (rowTrits (c .before .before .before .before .before .before .before .before .before .before .before .before .args .held)) (now (c .before .before .before .before .before .before .before .before .before .before .before .before .args .y))) (packedRow ((c .before .before .before .before .before .before .before .before .before .before .before .before .args .held) .k) (now (c .before .before .before .before .before .before .before .before .before .before .before .before .args .s)))) ((c .before .before .before .before .before .before .before .before .before .before .before .before .args .held) .w) l ∙ ap (λ (x : ℕ). answered x (heldWeight (c .before .before .before .before .before .before .before .before .before .before .before .before .args .held) (now (c .before .before .before .before .before .before .before .before .before .before .before .before .args .ones)) (now (c .before .before .before .before .before .before .before .before .before .before .before .before .args .twos)) (packedRow (rowTrits (c .before .before .before .before .before .before .before .before .before .before .before .before .args .held)) (now (c .before .before .before .before .before .before .before .before .before .before .before .before .args .y))) (packedRow ((c .before .before .before .before .before .before .before .before .before .before .before .before .args .held) .k) (now (c .before .before .before .before .before .before .before .before .before .before .before .before .args .s)))) ((c .before .before .before .before .before .before .before .before .before .before .before .before .args .held) .w)) (c .before .before .before .test-packed-check .ensures), (space-kept _ (c .before .before .before .test-packed-check .ensures) l, space-kept _ (c .before .before .before .test-packed-check .ensures) l))
 
 weigh-packed-requires : tie.Need-weigh-packed-requires
-weigh-packed-requires c κs = ?
+weigh-packed-requires c κs =
+    let p = check-packed-passed (c .before .before .before .before .before .before .before .before .before .before .before .before .before .args .held) (c .before .before .before .before .before .before .before .before .before .before .before .before .before .args .number) (now (c .before .before .before .before .before .before .before .before .before .before .before .before .before .args .ones)) (now (c .before .before .before .before .before .before .before .before .before .before .before .before .before .args .twos)) (now (c .before .before .before .before .before .before .before .before .before .before .before .before .before .args .y)) (now (c .before .before .before .before .before .before .before .before .before .before .before .before .before .args .s)) (now (c .before .before .before .before .before .before .before .before .before .before .before .before .before .args .work-ones)) (now (c .before .before .before .before .before .before .before .before .before .before .before .before .before .args .work-twos)) (sym (c .before .before .before .before .test-packed-check .ensures) ∙ sym (c .before .before .before .code .ensures) ∙ c .before .before .if1 .left) in
+    (whole (p .0), (p .1, (p .2, (p .0 .work-ones, p .0 .work-twos))))
 
 zero-words-requires : tie.Need-zero-words-requires
 zero-words-requires c κs = search needs
@@ -47,7 +56,11 @@ same-length-4 : tie.Need-same-length-4
 same-length-4 c = search needs
 
 returns-2 : tie.Need-returns-2
-returns-2 c = ?
+unfolding checkPackedAnswer
+returns-2 c =
+    let z = (sym (c .before .before .before .before .before .before .before .before .before .before .before .before .before .before .before .before .before .before .test-packed-check .ensures) ∙ sym (c .before .before .before .before .before .before .before .before .before .before .before .before .before .before .before .before .before .code .ensures) ∙ c .before .before .before .before .before .before .before .before .before .before .before .before .before .before .before .before .if1 .left) in
+    (c .judge2 .ensures ∙ ap₂ (λ (x y : ℕ). answered x y ((c .before .before .before .before .before .before .before .before .before .before .before .before .before .before .before .before .before .before .before .before .before .before .before .before .before .before .before .args .held) .w)) (c .before .before .before .before .before .before .before .before .before .before .before .before .before .before .before .before .before .before .test-packed-check .ensures) (c .before .before .before .before .before .before .before .before .before .before .before .before .before .weigh-packed .ensures),
+    (space-zero _ z (omega arith) (c .before .before .before .before .before .before .before .zero-words .ensures), space-zero _ z (omega arith) (c .before .before .before .zero-words2 .ensures)))
 
 pub check-packed-spec : {M : Type 1} → statement M
 check-packed-spec =

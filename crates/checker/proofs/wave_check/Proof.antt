@@ -1,11 +1,9 @@
--- `lines::wave_check` meets its contract. Assumes nothing.
+-- The verdict of `check_packed`, told in numbers.
+-- Assumes nothing.
+use mathlib.Core.Path.{_∙_}
 use borrow.Author.Needs.{needs}
 use Rattle.checker.proofs.wave_check.Statement.{statement}
 use Rattle.checker.proofs.wave_check.Tie as tie
-use Rattle.checker.proofs.wave_check.Reads as reads
-use Rattle.checker.proofs.wave_check.Lts as lts
-use Rattle.checker.proofs.check_packed.Reads as check-packed-reads
-use Rattle.checker.proofs.checking.tell.Reads as tell-reads
 
 check-packed-requires : tie.Need-check-packed-requires
 check-packed-requires c κs = search needs
@@ -20,7 +18,9 @@ same-length-2 : tie.Need-same-length-2
 same-length-2 c = search needs
 
 returns : tie.Need-returns
-returns c = ?
+returns c =
+    let e = c .before .before .before .before .before .check-packed .ensures in
+    (c .tell .ensures ∙ e .0, (e .1 .0, e .1 .1))
 
 pub wave-check-spec : {M : Type 1} → statement M
 wave-check-spec =

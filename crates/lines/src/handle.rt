@@ -2,7 +2,7 @@
 ghost use mathlib.Core.Path.{_≡_};
 ghost use mathlib.Core.Bool.{true};
 ghost use Prim.Native.Nat.{_≤_};
-ghost use lib.ListN.{length};
+ghost use lib.ListN.{length, take};
 ghost use Rattle.trits.specs.Rows.{putWords};
 ghost use Rattle.text.specs.Digits.{isDigits};
 ghost use Rattle.text.specs.Forms.{keyLine, rowLine, signLine};
@@ -161,4 +161,14 @@ pub fn handle(line: &[u8], held: Held, ones: &mut [u64], twos: &mut [u64], out: 
             Handled { held: held, count: handle_sign(number, formula, &line[c1..d], &line[d1..], held, ones, twos, out) }
         }
     }
+}
+
+// The line that the first bytes of a buffer are.
+pub fn handle_front(buffer: &[u8], len: usize, held: Held, ones: &mut [u64], twos: &mut [u64], out: &mut [u8]) -> Handled
+    requires { ⌜ (len ≤ 1024) × (length (now buffer) ≡ 1025) × (length (now ones) ≡ 382) × (length (now twos) ≡ 382) × (96 ≤ length (now out)) ⌝ }
+    ensures { λ r. ⌜ keeping (r .held) (now (ones .exit)) (now (twos .exit)) ≡ lineKept (keeping held (now (ones .entry)) (now (twos .entry))) (readLine (take len (now (buffer .entry)))) ⌝ }
+    ensures { λ r. ⌜ r .count ≡ length (linePrints (keeping held (now (ones .entry)) (now (twos .entry))) (readLine (take len (now (buffer .entry))))) ⌝ }
+    ensures { λ _. ⌜ now (out .exit) ≡ putWords 0 (now (out .entry)) (linePrints (keeping held (now (ones .entry)) (now (twos .entry))) (readLine (take len (now (buffer .entry))))) ⌝ }
+{
+    handle(&buffer[0..len], held, ones, twos, out)
 }

@@ -1,22 +1,19 @@
 -- What is lent to the checker: the words of a key and of a row, and digits as planes. Assumes nothing.
-use mathlib.Core.Path.{_≡_, refl, sym, ap, _∙_}
-use mathlib.Core.Bool.{true, false}
+use mathlib.Core.Path.{_≡_, refl, ap, _∙_}
 use mathlib.Core.List.{List, [], _∷_, _++_}
 use Prim.Native.Nat.{ℕ, zero, suc, _+_, _-_, _*_, _/_, _≤_, _<_, _^_}
 use native.Mathlib.Nat.{not-suc-le-zero, le-of-suc-le-suc}
 use native.Mathlib.Omega.{arith}
 use borrow.Author.Tests.{eq-eqb, ne-eqb, le-leb, lt-leb}
 use lib.ListN.{length, getD, take, drop, length-take, length-drop}
-use Rattle.trits.specs.Trit.{Trit}
 use Rattle.trits.specs.Planes.{tabulate, onesOf, twosOf, onesWord, twosWord, wordsFor, zeroWords, Reads}
 use Rattle.trits.proofs.Reading.{reads-holds}
 use Rattle.text.specs.Digits.{digitRow}
 use Rattle.checker.specs.declared.state.Held.{Held}
-use Rattle.checker.specs.declared.checking.Checked.{Checked}
 use Rattle.checker.specs.Held.{rowTrits, rowWords, keyWords}
 use Rattle.checker.specs.Store.{storeRefusal, storedHeld, storedPlane}
 use Rattle.checker.specs.Check.{checkAnswer}
-use Rattle.lines.specs.Answer.{Kept, mostPlaces, asked, keyPart, afterKey, offeredOnes, offeredTwos, digitsRefusal, rowPlane, rowKept, signAnswer}
+use Rattle.lines.specs.Answer.{asked, keyPart, afterKey, offeredOnes, offeredTwos, digitsRefusal, rowPlane, rowKept, signAnswer}
 use Rattle.lines.specs.Machine.{keeping}
 
 -- ---- words that a state asks for

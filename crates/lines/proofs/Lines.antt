@@ -1,13 +1,12 @@
 -- What a line prints and keeps: refusals, sizes too large for any range, and a text byte by byte. Assumes nothing.
 use mathlib.Core.Path.{_≡_, refl, sym, ap, _∙_}
-use mathlib.Core.Bool.{Bool, true, false, _&&_, cond}
-use mathlib.Core.List.{List, [], _∷_, _++_}
-use Prim.Native.Nat.{ℕ, zero, suc, _+_, _-_, _%_, _≤_, _<_}
+use mathlib.Core.Bool.{_&&_}
+use mathlib.Core.List.{List, []}
+use Prim.Native.Nat.{ℕ, _-_, _%_, _≤_, _<_}
 use native.Mathlib.Decide.{decLt, ℕ-discrete}
 use native.Mathlib.Omega.{arith}
 use borrow.Author.Tests.{eq-eqb, ne-eqb, le-leb, lt-leb, lt-ltb, le-ltb, leb-true, ltb-false}
 use lib.Dec.{eqb, leb, ltb, lit<}
-use lib.ListN.{length, take, drop}
 use Rattle.trits.specs.Rows.{putWords}
 use Rattle.trits.proofs.Refusals.{passed-refuse, passed-demand}
 use Rattle.text.specs.Forms.{Line, noForm, keyLine, rowLine, signLine}
@@ -17,9 +16,9 @@ use Rattle.text.proofs.Numbers.{value-small, value-large}
 use Rattle.checker.specs.declared.state.Held.{Held}
 use Rattle.checker.specs.declared.checking.Checked.{Checked}
 use Rattle.checker.specs.Held.{mostKeyNumber, sizesFit}
-use Rattle.checker.specs.Store.{beginRefusal, begunHeld, beginHeld, heldAtExit}
+use Rattle.checker.specs.Store.{beginRefusal, beginHeld}
 use Rattle.checker.proofs.Sizes.{and-both}
-use Rattle.lines.specs.Answer.{Kept, mostPlaces, keyRefusal, keyHeld, refusalPrints, signPrints, linePrints, lineKept}
+use Rattle.lines.specs.Answer.{Kept, keyRefusal, keyHeld, refusalPrints, signPrints, linePrints, lineKept}
 
 -- nothing printed leaves the buffer
 pub none-put : (l : List ℕ) → l ≡ putWords 0 l []

@@ -1,5 +1,5 @@
 -- What a whole text prints ("Held key and lines of text"). Assumes nothing.
-use mathlib.Core.Bool.{Bool, true, false, cond}
+use mathlib.Core.Bool.{cond}
 use mathlib.Core.List.{List, [], _∷_, _++_}
 use Prim.Native.Nat.{ℕ}
 use lib.Dec.{eqb}
@@ -8,7 +8,6 @@ use Rattle.trits.specs.Planes.{zeroWords}
 use Rattle.text.specs.Fields.{split}
 use Rattle.text.specs.Forms.{Line, lineOf}
 use Rattle.text.specs.Answers.{header}
-use Rattle.checker.specs.declared.state.Held.{Held}
 use Rattle.checker.specs.Held.{mostKeyNumber}
 use Rattle.lines.specs.Answer.{Kept, linePrints, lineKept}
 

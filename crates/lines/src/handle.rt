@@ -5,8 +5,6 @@ ghost use Prim.Native.Nat.{_≤_};
 ghost use lib.ListN.{length, take};
 ghost use Rattle.trits.specs.Rows.{putWords};
 ghost use Rattle.text.specs.Digits.{isDigits};
-ghost use Rattle.text.specs.Forms.{keyLine, rowLine, signLine};
-ghost use Rattle.checker.specs.Held.{rowTrits};
 ghost use Rattle.lines.specs.Answer.{keyRefusal, keyHeld, digitsRefusal, rowKept, signAnswer, signPrints, refusalPrints, linePrints, lineKept};
 ghost use Rattle.lines.specs.Print.{readLine};
 ghost use Rattle.lines.specs.Machine.{keeping};

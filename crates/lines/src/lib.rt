@@ -4,7 +4,6 @@ mod handle; // one line
 
 ghost use mathlib.Core.Path.{_≡_};
 ghost use lib.ListN.{length};
-ghost use Prim.Native.Nat.{_≤_};
 ghost use Rattle.trits.specs.Rows.{putWords};
 ghost use Rattle.text.specs.Answers.{header};
 ghost use Rattle.lines.specs.Answer.{linePrints};

@@ -94,12 +94,12 @@ split-last mark (b ∷ l) h = by (eqb b mark) h (split-last mark l)
     by false h f = ap (onto b) (f (omega (arith, h)))
 
 -- there is always a part
-pub some-field : (l : List ℕ) → (first : List ℕ) × (rest : List (List ℕ)) × (fields l ≡ first ∷ rest)
-some-field l = by (decLt (before 9 l) (length l))
+pub some-part : (mark : ℕ) (l : List ℕ) → (first : List ℕ) × (rest : List (List ℕ)) × (split mark l ≡ first ∷ rest)
+some-part mark l = by (decLt (before mark l) (length l))
   where
-    by : Dec (before 9 l < length l) → (first : List ℕ) × (rest : List (List ℕ)) × (fields l ≡ first ∷ rest)
-    by (yes h) = (_, _, split-more 9 l h)
-    by (no h) = (_, _, split-last 9 l (omega (arith, before-le 9 l)))
+    by : Dec (before mark l < length l) → (first : List ℕ) × (rest : List (List ℕ)) × (split mark l ≡ first ∷ rest)
+    by (yes h) = (_, _, split-more mark l h)
+    by (no h) = (_, _, split-last mark l (omega (arith, before-le mark l)))
 
 -- the same from a place of a line on
 module _ (line : List ℕ) (a e : ℕ) (h : e ≡ a + before 9 (drop a line)) where

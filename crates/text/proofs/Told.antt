@@ -14,7 +14,7 @@ use Rattle.text.specs.Numbers.{isNumber, value, inRange}
 use Rattle.text.specs.Digits.{isDigits}
 use Rattle.text.specs.Forms.{noForm, keyLine, rowLine, signLine, oneField, fourFields, keyOf, rowOf, signOf, isLetter, formOf, lineOf, mostFormula}
 use Rattle.text.specs.Steps.{before, part, atMostLarge, readNumber, Four, NotFour, bounded}
-use Rattle.text.proofs.Parting.{some-field, field-within, field-room, field-more, field-last}
+use Rattle.text.proofs.Parting.{some-part, field-within, field-room, field-more, field-last}
 use Rattle.text.proofs.Numbers.{value-small, value-large, number-read, number-not}
 
 -- ---- numbers
@@ -92,7 +92,7 @@ module _ (line : List ℕ) (b c d e : ℕ) (h : 2 ≤ length line) (hb : b ≡ 2
         pub more-fields : (e ≡ length line → ⊥) → NotFour line
         unfolding fourFields
         more-fields ne = λ f.
-            let q = some-field (drop (e + 1) line) in
+            let q = some-part 9 (drop (e + 1) line) in
             ap (fourFields f) (front (field-more line (d + 1) e he (field-room line (c + 1) d hd (field-room line (b + 1) c hc (field-room line 2 b hb h nb) nc) nd) ne ∙ ap (λ (x : List (List ℕ)). part (d + 1) e line ∷ x) (q .2)))
 
         pub four-fields : e ≡ length line → Four line b c d
@@ -171,7 +171,7 @@ module _ (line : List ℕ) (b : ℕ) (h : 2 ≤ length line) (hb : b ≡ 2 + bef
   pub row-more : (b ≡ length line → ⊥) → noForm ≡ bounded (oneField rowOf (fields (drop 2 line)))
   unfolding oneField bounded
   row-more nb =
-      let q = some-field (drop (b + 1) line) in
+      let q = some-part 9 (drop (b + 1) line) in
       sym (ap (λ (x : List (List ℕ)). bounded (oneField rowOf x)) (field-more line 2 b hb h nb ∙ ap (λ (x : List (List ℕ)). part 2 b line ∷ x) (q .2)))
 
   pub row-told : b ≡ length line → isDigits (part 2 (length line) line) ≡ true → rowLine (part 2 (length line) line) ≡ bounded (oneField rowOf (fields (drop 2 line)))

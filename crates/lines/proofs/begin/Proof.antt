@@ -6,9 +6,6 @@ use Rattle.lines.specs.Machine.{noLine}
 use Rattle.lines.specs.Print.{noKey}
 use Rattle.lines.proofs.begin.Statement.{statement}
 use Rattle.lines.proofs.begin.Tie as tie
-use Rattle.lines.proofs.begin.Reads as reads
-use Rattle.lines.proofs.begin.Lts as lts
-use Rattle.text.proofs.answers.put_header.Reads as put-header-reads
 
 put-header-requires : tie.Need-put-header-requires
 put-header-requires c κs = search needs

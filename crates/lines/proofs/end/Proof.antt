@@ -10,9 +10,6 @@ use Rattle.trits.specs.Rows.{putWords}
 use Rattle.lines.proofs.Bytes.{end-none, end-some}
 use Rattle.lines.proofs.end.Statement.{statement}
 use Rattle.lines.proofs.end.Tie as tie
-use Rattle.lines.proofs.end.Reads as reads
-use Rattle.lines.proofs.end.Lts as lts
-use Rattle.lines.proofs.end_line.Reads as end-line-reads
 
 returns : tie.Need-returns
 returns c =

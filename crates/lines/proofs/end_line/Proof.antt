@@ -11,10 +11,6 @@ use Rattle.text.specs.Forms.{Line}
 use Rattle.lines.proofs.Bytes.{gathered-long, gathered-short, ended-as}
 use Rattle.lines.proofs.end_line.Statement.{statement}
 use Rattle.lines.proofs.end_line.Tie as tie
-use Rattle.lines.proofs.end_line.Reads as reads
-use Rattle.lines.proofs.end_line.Lts as lts
-use Rattle.lines.proofs.handle.handle_front.Reads as handle-front-reads
-use Rattle.text.proofs.answers.put_line_refused.Reads as put-line-refused-reads
 
 put-line-refused-requires : tie.Need-put-line-refused-requires
 put-line-refused-requires c κs = search needs

@@ -10,9 +10,6 @@ use Rattle.trits.specs.Rows.{putWords}
 use Rattle.lines.proofs.Bytes.{step-end, step-none, step-more, step-full}
 use Rattle.lines.proofs.step.Statement.{statement}
 use Rattle.lines.proofs.step.Tie as tie
-use Rattle.lines.proofs.step.Reads as reads
-use Rattle.lines.proofs.step.Lts as lts
-use Rattle.lines.proofs.end_line.Reads as end-line-reads
 
 end-line-requires : tie.Need-end-line-requires
 end-line-requires c κs = search needs

@@ -5,10 +5,6 @@ use borrow.Author.Needs.{needs}
 use Rattle.lines.proofs.Lines.{key-long, key-short}
 use Rattle.lines.proofs.handle.begin_key.Statement.{statement}
 use Rattle.lines.proofs.handle.begin_key.Tie as tie
-use Rattle.lines.proofs.handle.begin_key.Reads as reads
-use Rattle.lines.proofs.handle.begin_key.Lts as lts
-use Rattle.checker.proofs.begin.Reads as begin-reads
-use Rattle.trits.proofs.refusal.code.Reads as code-reads
 
 returns : tie.Need-returns
 returns c =

@@ -9,14 +9,6 @@ use Rattle.lines.proofs.Lent.{take-zeros, front-part, part-key, sign-an
 use Rattle.trits.specs.Planes.{zeroWords, tabulate}
 use Rattle.lines.proofs.handle.check_digits.Statement.{statement}
 use Rattle.lines.proofs.handle.check_digits.Tie as tie
-use Rattle.lines.proofs.handle.check_digits.Reads as reads
-use Rattle.lines.proofs.handle.check_digits.Lts as lts
-use Rattle.checker.proofs.check.Reads as check-reads
-use Rattle.checker.proofs.checking.tell.Reads as tell-reads
-use Rattle.lines.proofs.offer.key_words.Reads as key-words-reads
-use Rattle.lines.proofs.offer.offer.Reads as offer-reads
-use Rattle.lines.proofs.offer.row_trits.Reads as row-trits-reads
-use Rattle.lines.proofs.offer.row_words.Reads as row-words-reads
 
 row-trits-requires : tie.Need-row-trits-requires
 row-trits-requires c κs = search needs

@@ -17,13 +17,6 @@ use Rattle.text.specs.declared.forms.Form.{Form}
 use Rattle.text.specs.declared.forms.Form.the-variants.{Sign, Row}
 use Rattle.lines.proofs.handle.handle.Statement.{statement}
 use Rattle.lines.proofs.handle.handle.Tie as tie
-use Rattle.lines.proofs.handle.handle.Reads as reads
-use Rattle.lines.proofs.handle.handle.Lts as lts
-use Rattle.lines.proofs.handle.handle_key.Reads as handle-key-reads
-use Rattle.lines.proofs.handle.handle_row.Reads as handle-row-reads
-use Rattle.lines.proofs.handle.handle_sign.Reads as handle-sign-reads
-use Rattle.lines.proofs.handle.print_refusal.Reads as print-refusal-reads
-use Rattle.text.proofs.forms.read_line.Reads as read-line-reads
 
 read-line-requires : tie.Need-read-line-requires
 read-line-requires c κs = search needs

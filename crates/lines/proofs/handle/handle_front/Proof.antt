@@ -13,9 +13,6 @@ use Rattle.lines.proofs.Lent.{front-part}
 use Rattle.trits.specs.Rows.{putWords}
 use Rattle.lines.proofs.handle.handle_front.Statement.{statement}
 use Rattle.lines.proofs.handle.handle_front.Tie as tie
-use Rattle.lines.proofs.handle.handle_front.Reads as reads
-use Rattle.lines.proofs.handle.handle_front.Lts as lts
-use Rattle.lines.proofs.handle.handle.Reads as handle-reads
 
 sub-handle : tie.Need-sub-handle
 sub-handle c = search needs

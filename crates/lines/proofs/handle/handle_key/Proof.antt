@@ -8,10 +8,6 @@ use Rattle.lines.specs.Answer.{refusalPrints}
 use Rattle.trits.specs.Rows.{putWords}
 use Rattle.lines.proofs.handle.handle_key.Statement.{statement}
 use Rattle.lines.proofs.handle.handle_key.Tie as tie
-use Rattle.lines.proofs.handle.handle_key.Reads as reads
-use Rattle.lines.proofs.handle.handle_key.Lts as lts
-use Rattle.lines.proofs.handle.begin_key.Reads as begin-key-reads
-use Rattle.lines.proofs.handle.print_refusal.Reads as print-refusal-reads
 
 begin-key-requires : tie.Need-begin-key-requires
 begin-key-requires c κs = search needs

@@ -8,10 +8,6 @@ use Rattle.lines.specs.Answer.{refusalPrints}
 use Rattle.trits.specs.Rows.{putWords}
 use Rattle.lines.proofs.handle.handle_row.Statement.{statement}
 use Rattle.lines.proofs.handle.handle_row.Tie as tie
-use Rattle.lines.proofs.handle.handle_row.Reads as reads
-use Rattle.lines.proofs.handle.handle_row.Lts as lts
-use Rattle.lines.proofs.handle.print_refusal.Reads as print-refusal-reads
-use Rattle.lines.proofs.handle.store_digits.Reads as store-digits-reads
 
 store-digits-requires : tie.Need-store-digits-requires
 store-digits-requires c κs = search needs

@@ -8,10 +8,6 @@ use Rattle.lines.specs.Answer.{signPrints}
 use Rattle.trits.specs.Rows.{putWords}
 use Rattle.lines.proofs.handle.handle_sign.Statement.{statement}
 use Rattle.lines.proofs.handle.handle_sign.Tie as tie
-use Rattle.lines.proofs.handle.handle_sign.Reads as reads
-use Rattle.lines.proofs.handle.handle_sign.Lts as lts
-use Rattle.lines.proofs.handle.check_digits.Reads as check-digits-reads
-use Rattle.lines.proofs.handle.print_sign.Reads as print-sign-reads
 
 check-digits-requires : tie.Need-check-digits-requires
 check-digits-requires c κs = search needs

@@ -8,9 +8,6 @@ use Rattle.lines.proofs.Lines.{none-put, printed-none, printed-refusal}
 use Rattle.trits.specs.Rows.{putWords}
 use Rattle.lines.proofs.handle.print_refusal.Statement.{statement}
 use Rattle.lines.proofs.handle.print_refusal.Tie as tie
-use Rattle.lines.proofs.handle.print_refusal.Reads as reads
-use Rattle.lines.proofs.handle.print_refusal.Lts as lts
-use Rattle.text.proofs.answers.put_line_refused.Reads as put-line-refused-reads
 
 returns : tie.Need-returns
 returns c =

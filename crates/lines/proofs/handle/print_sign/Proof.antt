@@ -8,10 +8,6 @@ use Rattle.lines.proofs.Lines.{sign-verdict, sign-refused}
 use Rattle.trits.specs.Rows.{putWords}
 use Rattle.lines.proofs.handle.print_sign.Statement.{statement}
 use Rattle.lines.proofs.handle.print_sign.Tie as tie
-use Rattle.lines.proofs.handle.print_sign.Reads as reads
-use Rattle.lines.proofs.handle.print_sign.Lts as lts
-use Rattle.text.proofs.answers.put_sign_refused.Reads as put-sign-refused-reads
-use Rattle.text.proofs.answers.put_verdict.Reads as put-verdict-reads
 
 put-verdict-requires : tie.Need-put-verdict-requires
 put-verdict-requires c κs = search needs

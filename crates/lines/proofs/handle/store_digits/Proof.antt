@@ -9,13 +9,6 @@ use Rattle.lines.proofs.Lent.{front-part, part-key, part-after, row-ref
 use Rattle.trits.specs.Planes.{zeroWords, tabulate}
 use Rattle.lines.proofs.handle.store_digits.Statement.{statement}
 use Rattle.lines.proofs.handle.store_digits.Tie as tie
-use Rattle.lines.proofs.handle.store_digits.Reads as reads
-use Rattle.lines.proofs.handle.store_digits.Lts as lts
-use Rattle.checker.proofs.store_row.Reads as store-row-reads
-use Rattle.lines.proofs.offer.key_words.Reads as key-words-reads
-use Rattle.lines.proofs.offer.offer.Reads as offer-reads
-use Rattle.lines.proofs.offer.row_trits.Reads as row-trits-reads
-use Rattle.trits.proofs.refusal.code.Reads as code-reads
 
 row-trits-requires : tie.Need-row-trits-requires
 row-trits-requires c κs = search needs

@@ -6,8 +6,6 @@ use Rattle.lines.proofs.Lent.{asked-long, asked-over, asked-all, most-w
 use Rattle.checker.specs.Held.{keyWords}
 use Rattle.lines.proofs.offer.key_words.Statement.{statement}
 use Rattle.lines.proofs.offer.key_words.Tie as tie
-use Rattle.lines.proofs.offer.key_words.Reads as reads
-use Rattle.lines.proofs.offer.key_words.Lts as lts
 
 returns : tie.Need-returns
 returns c =

@@ -11,9 +11,6 @@ use Rattle.trits.specs.Planes.{zeroWords}
 use Rattle.trits.proofs.Lists.{length-zeros}
 use Rattle.lines.proofs.offer.offer.Statement.{statement}
 use Rattle.lines.proofs.offer.offer.Tie as tie
-use Rattle.lines.proofs.offer.offer.Reads as reads
-use Rattle.lines.proofs.offer.offer.Lts as lts
-use Rattle.text.proofs.digits.put_digits.Reads as put-digits-reads
 
 returns : tie.Need-returns
 returns c =

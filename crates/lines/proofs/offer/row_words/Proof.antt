@@ -6,8 +6,6 @@ use Rattle.lines.proofs.Lent.{asked-long, asked-over, asked-all}
 use Rattle.checker.specs.Held.{rowWords}
 use Rattle.lines.proofs.offer.row_words.Statement.{statement}
 use Rattle.lines.proofs.offer.row_words.Tie as tie
-use Rattle.lines.proofs.offer.row_words.Reads as reads
-use Rattle.lines.proofs.offer.row_words.Lts as lts
 
 returns : tie.Need-returns
 returns c =

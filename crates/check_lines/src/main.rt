@@ -2,13 +2,17 @@
 use libc::STDIN_FILENO;
 use libc::STDOUT_FILENO;
 use lines::State;
-use lines::Next;
 
-// What a call put into the buffer is printed.
-fn print(out: &[u8], count: usize) {
+// The first bytes of a buffer are printed.
+fn print_front(out: &[u8], count: usize) {
     if count <= out.len() {
         io::write_all(STDOUT_FILENO, &out[0..count]);
     }
+}
+
+// What a call put into the buffer is printed.
+fn print(out: &[u8; 96], count: usize) {
+    print_front(out, count);
 }
 
 // A chunk of the input, byte by byte.

@@ -1,0 +1,6 @@
+-- The laws behind the functions' proofs: fields, numbers, forms, bytes written.
+pub mod Parting
+pub mod Numbers
+pub mod Rows
+pub mod Told
+pub mod Written

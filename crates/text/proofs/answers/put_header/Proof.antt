@@ -1,0 +1,25 @@
+-- The bytes of the header are written whole.
+-- Assumes nothing.
+use borrow.Author.Needs.{needs}
+use Rattle.text.specs.Steps.{before}
+use Rattle.text.specs.Answers.{header, printed}
+use Rattle.text.proofs.answers.put_header.Statement.{statement}
+use Rattle.text.proofs.answers.put_header.Tie as tie
+
+slice-aggregate-put-bytes : tie.Need-slice-aggregate-put-bytes
+slice-aggregate-put-bytes c = search needs
+
+put-bytes-requires : tie.Need-put-bytes-requires
+put-bytes-requires c κs = search needs
+
+same-length : tie.Need-same-length
+same-length c = search needs
+
+returns : tie.Need-returns
+unfolding header printed
+returns c =
+    c .before .before .put-bytes .ensures
+
+pub put-header-spec : {M : Type 1} → statement M
+put-header-spec =
+    tie.close (tie.spec slice-aggregate-put-bytes put-bytes-requires same-length returns)

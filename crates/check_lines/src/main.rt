@@ -16,7 +16,14 @@ fn print(out: &[u8; 96], count: usize) {
 }
 
 // A chunk of the input, byte by byte.
-fn chunk(bytes: &[u8], line: &mut [u8; 1025], ones: &mut [u64; 382], twos: &mut [u64; 382], out: &mut [u8; 96], start: State) -> State {
+fn chunk(
+    bytes: &[u8],
+    line: &mut [u8; 1025],
+    ones: &mut [u64; 382],
+    twos: &mut [u64; 382],
+    out: &mut [u8; 96],
+    start: State,
+) -> State {
     let mut state = start;
     let mut i = 0;
     while i < bytes.len() {
@@ -34,19 +41,37 @@ pub struct Moved {
     pub state: State,
 }
 
-fn read_some(line: &mut [u8; 1025], ones: &mut [u64; 382], twos: &mut [u64; 382], out: &mut [u8; 96], state: State) -> Moved {
+fn read_some(
+    line: &mut [u8; 1025],
+    ones: &mut [u64; 382],
+    twos: &mut [u64; 382],
+    out: &mut [u8; 96],
+    state: State,
+) -> Moved {
     let mut buf = io::buffer();
     let got = libc::read(STDIN_FILENO, &mut buf);
     if got <= 0 {
-        return Moved { more: 0, state: state };
+        return Moved {
+            more: 0,
+            state: state,
+        };
     }
     let n = io::count(got, &buf);
     let next = chunk(&buf[..n], line, ones, twos, out, state);
-    Moved { more: 1, state: next }
+    Moved {
+        more: 1,
+        state: next,
+    }
 }
 
 // All of the input.
-fn read_all(line: &mut [u8; 1025], ones: &mut [u64; 382], twos: &mut [u64; 382], out: &mut [u8; 96], start: State) -> State {
+fn read_all(
+    line: &mut [u8; 1025],
+    ones: &mut [u64; 382],
+    twos: &mut [u64; 382],
+    out: &mut [u8; 96],
+    start: State,
+) -> State {
     let mut state = start;
     let mut turns = u64::MAX;
     while turns > 0 {

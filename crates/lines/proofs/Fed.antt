@@ -92,7 +92,7 @@ module _ {m : Machine} {p : List ℕ} (g : Gathers m p) where
           let e = step-more m b f (omega (arith, w .0)) in
           let room : m .len < length (m .line) = omega (arith, w .0, g .size) in
           let t : take (m .len + 1) (set (m .line) (m .len) b) ≡ p ++ (b ∷ []) =
-              ap (λ (j : ℕ). take j (set (m .line) (m .len) b)) (add-one (m .len)) ∙ take-suc-set (m .line) (m .len) b room ∙ ap (λ (x : List ℕ). x ++ (b ∷ [])) (w .1) in
+          ap (λ (j : ℕ). take j (set (m .line) (m .len) b)) (add-one (m .len)) ∙ take-suc-set (m .line) (m .len) b room ∙ ap (λ (x : List ℕ). x ++ (b ∷ [])) (w .1) in
           let g′ : Gathers (record { len = m .len + 1; line = set (m .line) (m .len) b; kept = m .kept }) (p ++ (b ∷ [])) = record {
             size = length-set (m .line) (m .len) b ∙ g .size;
             within = λ h. (omega (arith, w .0, more), t);

@@ -69,8 +69,7 @@ module _ (m : ℕ) (digits : List ℕ) where
   offered {o} {t} w e q l r ho ht =
       let v = digitRow digits in
       let a = reads-holds o t 16 v r ho ht in
-      let z : w ≡ wordsFor m = q ∙ ap wordsFor e in
-      (
+      let z : w ≡ wordsFor m = q ∙ ap wordsFor e in (
         rw (eq-eqb (length digits) m e) (ap (take w) (a .ones-are) ∙ take-tabulate w 16 (onesWord v) l ∙ ap (tabulate (onesWord v)) z),
         rw (eq-eqb (length digits) m e) (ap (take w) (a .twos-are) ∙ take-tabulate w 16 (twosWord v) l ∙ ap (tabulate (twosWord v)) z),
       )

@@ -8,12 +8,12 @@ ghost use Rattle.text.specs.Digits.{isDigits};
 ghost use Rattle.lines.specs.Answer.{keyRefusal, keyHeld, digitsRefusal, rowKept, signAnswer, signPrints, refusalPrints, linePrints, lineKept};
 ghost use Rattle.lines.specs.Print.{readLine};
 ghost use Rattle.lines.specs.Machine.{keeping};
-use super::offer::row_trits;
-use super::offer::row_words;
 use super::offer::key_words;
 use super::offer::offer;
-use checker::state::Held;
+use super::offer::row_trits;
+use super::offer::row_words;
 use checker::checking::Checked;
+use checker::state::Held;
 use text::forms::Form;
 
 // What a P or a K line comes to: a refusal's number or 0, and the state after it.
@@ -34,12 +34,18 @@ fn begin_key(held: Held, number: u64, n: u64, k: u64, w: u64) -> Changed
     ensures { λ r. ⌜ r .held ≡ keyHeld held number n k w ⌝ }
 {
     if n > 256 {
-        return Changed { refusal: 1, held: held };
+        return Changed {
+            refusal: 1,
+            held: held,
+        };
     }
     let stored = checker::begin(held, number, n, k, w);
     let outcome = stored.outcome;
     let after = stored.held;
-    Changed { refusal: trits::refusal::code(outcome), held: after }
+    Changed {
+        refusal: trits::refusal::code(outcome),
+        held: after,
+    }
 }
 
 // A row of digits is stored.
@@ -53,10 +59,19 @@ fn store_digits(held: Held, ones: &mut [u64], twos: &mut [u64], digits: &[u8]) -
     let mut row_twos = [0u64; 16];
     let count = offer(digits, row_trits(held), &mut row_ones, &mut row_twos);
     let words = key_words(held);
-    let stored = checker::store_row(held, &mut ones[0..words], &mut twos[0..words], &row_ones[0..count], &row_twos[0..count]);
+    let stored = checker::store_row(
+        held,
+        &mut ones[0..words],
+        &mut twos[0..words],
+        &row_ones[0..count],
+        &row_twos[0..count],
+    );
     let outcome = stored.outcome;
     let after = stored.held;
-    Changed { refusal: trits::refusal::code(outcome), held: after }
+    Changed {
+        refusal: trits::refusal::code(outcome),
+        held: after,
+    }
 }
 
 // A signature of digits is checked.
@@ -76,7 +91,18 @@ fn check_digits(held: Held, number: u64, ones: &[u64], twos: &[u64], y: &[u8], s
     let mut work_twos = [0u64; 16];
     let row = row_words(held);
     let words = key_words(held);
-    let verdict = checker::check(held, number, &ones[0..words], &twos[0..words], &y_ones[0..y_count], &y_twos[0..y_count], &s_ones[0..s_count], &s_twos[0..s_count], &mut work_ones[0..row], &mut work_twos[0..row]);
+    let verdict = checker::check(
+        held,
+        number,
+        &ones[0..words],
+        &twos[0..words],
+        &y_ones[0..y_count],
+        &y_twos[0..y_count],
+        &s_ones[0..s_count],
+        &s_twos[0..s_count],
+        &mut work_ones[0..row],
+        &mut work_twos[0..row],
+    );
     checker::checking::tell(verdict)
 }
 
@@ -113,11 +139,20 @@ fn handle_key(number: u64, n: u64, k: u64, w: u64, held: Held, out: &mut [u8]) -
 {
     let changed = begin_key(held, number, n, k, w);
     let after = changed.held;
-    Handled { held: after, count: print_refusal(changed.refusal, out) }
+    Handled {
+        held: after,
+        count: print_refusal(changed.refusal, out),
+    }
 }
 
 // A K line.
-fn handle_row(digits: &[u8], held: Held, ones: &mut [u64], twos: &mut [u64], out: &mut [u8]) -> Handled
+fn handle_row(
+    digits: &[u8],
+    held: Held,
+    ones: &mut [u64],
+    twos: &mut [u64],
+    out: &mut [u8],
+) -> Handled
     requires { ⌜ isDigits (now digits) ≡ true ⌝ }
     requires { ⌜ (length (now digits) ≤ 1024) × (length (now ones) ≡ 382) × (length (now twos) ≡ 382) × (96 ≤ length (now out)) ⌝ }
     ensures { λ r. ⌜ keeping (r .held) (now (ones .exit)) (now (twos .exit)) ≡ rowKept (keeping held (now (ones .entry)) (now (twos .entry))) (now (digits .entry)) ⌝ }
@@ -126,11 +161,23 @@ fn handle_row(digits: &[u8], held: Held, ones: &mut [u64], twos: &mut [u64], out
 {
     let changed = store_digits(held, ones, twos, digits);
     let after = changed.held;
-    Handled { held: after, count: print_refusal(changed.refusal, out) }
+    Handled {
+        held: after,
+        count: print_refusal(changed.refusal, out),
+    }
 }
 
 // An S line.
-fn handle_sign(number: u64, formula: u64, y: &[u8], s: &[u8], held: Held, ones: &[u64], twos: &[u64], out: &mut [u8]) -> usize
+fn handle_sign(
+    number: u64,
+    formula: u64,
+    y: &[u8],
+    s: &[u8],
+    held: Held,
+    ones: &[u64],
+    twos: &[u64],
+    out: &mut [u8],
+) -> usize
     requires { ⌜ isDigits (now y) ≡ true ⌝ }
     requires { ⌜ isDigits (now s) ≡ true ⌝ }
     requires { ⌜ (length (now y) ≤ 1024) × (length (now s) ≤ 1024) × (length (now ones) ≡ 382) × (length (now twos) ≡ 382) × (96 ≤ length (now out)) ⌝ }
@@ -142,7 +189,13 @@ fn handle_sign(number: u64, formula: u64, y: &[u8], s: &[u8], held: Held, ones: 
 }
 
 // Any line.
-pub fn handle(line: &[u8], held: Held, ones: &mut [u64], twos: &mut [u64], out: &mut [u8]) -> Handled
+pub fn handle(
+    line: &[u8],
+    held: Held,
+    ones: &mut [u64],
+    twos: &mut [u64],
+    out: &mut [u8],
+) -> Handled
     requires { ⌜ (length (now line) ≤ 1024) × (length (now ones) ≡ 382) × (length (now twos) ≡ 382) × (96 ≤ length (now out)) ⌝ }
     ensures { λ r. ⌜ keeping (r .held) (now (ones .exit)) (now (twos .exit)) ≡ lineKept (keeping held (now (ones .entry)) (now (twos .entry))) (readLine (now (line .entry))) ⌝ }
     ensures { λ r. ⌜ r .count ≡ length (linePrints (keeping held (now (ones .entry)) (now (twos .entry))) (readLine (now (line .entry)))) ⌝ }
@@ -150,19 +203,41 @@ pub fn handle(line: &[u8], held: Held, ones: &mut [u64], twos: &mut [u64], out: 
 {
     let form = text::forms::read_line(line, 255);
     match form {
-        Form::Neither => Handled { held: held, count: print_refusal(11, out) },
+        Form::Neither => Handled {
+            held: held,
+            count: print_refusal(11, out),
+        },
         Form::Key(number, n, k, w) => handle_key(number, n, k, w, held, out),
         Form::Row => handle_row(&line[2..], held, ones, twos, out),
         Form::Sign(number, formula, c, d) => {
             let c1 = c + 1;
             let d1 = d + 1;
-            Handled { held: held, count: handle_sign(number, formula, &line[c1..d], &line[d1..], held, ones, twos, out) }
+            Handled {
+                held: held,
+                count: handle_sign(
+                    number,
+                    formula,
+                    &line[c1..d],
+                    &line[d1..],
+                    held,
+                    ones,
+                    twos,
+                    out,
+                ),
+            }
         }
     }
 }
 
 // The line that the first bytes of a buffer are.
-pub fn handle_front(buffer: &[u8], len: usize, held: Held, ones: &mut [u64], twos: &mut [u64], out: &mut [u8]) -> Handled
+pub fn handle_front(
+    buffer: &[u8],
+    len: usize,
+    held: Held,
+    ones: &mut [u64],
+    twos: &mut [u64],
+    out: &mut [u8],
+) -> Handled
     requires { ⌜ (len ≤ 1024) × (length (now buffer) ≡ 1025) × (length (now ones) ≡ 382) × (length (now twos) ≡ 382) × (96 ≤ length (now out)) ⌝ }
     ensures { λ r. ⌜ keeping (r .held) (now (ones .exit)) (now (twos .exit)) ≡ lineKept (keeping held (now (ones .entry)) (now (twos .entry))) (readLine (take len (now (buffer .entry)))) ⌝ }
     ensures { λ r. ⌜ r .count ≡ length (linePrints (keeping held (now (ones .entry)) (now (twos .entry))) (readLine (take len (now (buffer .entry))))) ⌝ }

@@ -29,13 +29,29 @@ pub fn begin(out: &mut [u8; 96]) -> Next
     ensures { λ _. ⌜ now (out .exit) ≡ putWords 0 (now (out .entry)) header ⌝ }
 {
     let count = text::answers::put_header(out);
-    let held = Held { begun: 0, number: 0, n: 0, k: 0, w: 0, rows: 0 };
+    let held = Held {
+        begun: 0,
+        number: 0,
+        n: 0,
+        k: 0,
+        w: 0,
+        rows: 0,
+    };
     let state = State { len: 0, held: held };
-    Next { state: state, count: count }
+    Next {
+        state: state,
+        count: count,
+    }
 }
 
 // The line has ended.
-fn end_line(state: State, line: &[u8; 1025], ones: &mut [u64; 382], twos: &mut [u64; 382], out: &mut [u8; 96]) -> Next
+fn end_line(
+    state: State,
+    line: &[u8; 1025],
+    ones: &mut [u64; 382],
+    twos: &mut [u64; 382],
+    out: &mut [u8; 96],
+) -> Next
     ensures { λ r. ⌜ machine (r .state) (now (line .entry)) (now (ones .exit)) (now (twos .exit)) ≡ ended (machine state (now (line .entry)) (now (ones .entry)) (now (twos .entry))) ⌝ }
     ensures { λ r. ⌜ r .count ≡ length (linePrints (machine state (now (line .entry)) (now (ones .entry)) (now (twos .entry)) .kept) (gathered (machine state (now (line .entry)) (now (ones .entry)) (now (twos .entry))))) ⌝ }
     ensures { λ _. ⌜ now (out .exit) ≡ putWords 0 (now (out .entry)) (linePrints (machine state (now (line .entry)) (now (ones .entry)) (now (twos .entry)) .kept) (gathered (machine state (now (line .entry)) (now (ones .entry)) (now (twos .entry))))) ⌝ }
@@ -45,16 +61,32 @@ fn end_line(state: State, line: &[u8; 1025], ones: &mut [u64; 382], twos: &mut [
     if len > 1024 {
         let count = text::answers::put_line_refused(out, 11);
         let next = State { len: 0, held: held };
-        return Next { state: next, count: count };
+        return Next {
+            state: next,
+            count: count,
+        };
     }
     let done = handle::handle_front(line, len, held, ones, twos, out);
     let after = done.held;
-    let next = State { len: 0, held: after };
-    Next { state: next, count: done.count }
+    let next = State {
+        len: 0,
+        held: after,
+    };
+    Next {
+        state: next,
+        count: done.count,
+    }
 }
 
 // One byte of the text.
-pub fn step(state: State, byte: u8, line: &mut [u8; 1025], ones: &mut [u64; 382], twos: &mut [u64; 382], out: &mut [u8; 96]) -> Next
+pub fn step(
+    state: State,
+    byte: u8,
+    line: &mut [u8; 1025],
+    ones: &mut [u64; 382],
+    twos: &mut [u64; 382],
+    out: &mut [u8; 96],
+) -> Next
     ensures { λ r. ⌜ machine (r .state) (now (line .exit)) (now (ones .exit)) (now (twos .exit)) ≡ stepped byte (machine state (now (line .entry)) (now (ones .entry)) (now (twos .entry))) ⌝ }
     ensures { λ r. ⌜ r .count ≡ length (stepPrints byte (machine state (now (line .entry)) (now (ones .entry)) (now (twos .entry)))) ⌝ }
     ensures { λ _. ⌜ now (out .exit) ≡ putWords 0 (now (out .entry)) (stepPrints byte (machine state (now (line .entry)) (now (ones .entry)) (now (twos .entry)))) ⌝ }
@@ -66,20 +98,38 @@ pub fn step(state: State, byte: u8, line: &mut [u8; 1025], ones: &mut [u64; 382]
     if len < 1025 {
         line[len] = byte;
         let held = state.held;
-        let next = State { len: len + 1, held: held };
-        return Next { state: next, count: 0 };
+        let next = State {
+            len: len + 1,
+            held: held,
+        };
+        return Next {
+            state: next,
+            count: 0,
+        };
     }
-    Next { state: state, count: 0 }
+    Next {
+        state: state,
+        count: 0,
+    }
 }
 
 // The end of the text.
-pub fn end(state: State, line: &[u8; 1025], ones: &mut [u64; 382], twos: &mut [u64; 382], out: &mut [u8; 96]) -> Next
+pub fn end(
+    state: State,
+    line: &[u8; 1025],
+    ones: &mut [u64; 382],
+    twos: &mut [u64; 382],
+    out: &mut [u8; 96],
+) -> Next
     ensures { λ r. ⌜ machine (r .state) (now (line .entry)) (now (ones .exit)) (now (twos .exit)) ≡ finished (machine state (now (line .entry)) (now (ones .entry)) (now (twos .entry))) ⌝ }
     ensures { λ r. ⌜ r .count ≡ length (endPrints (machine state (now (line .entry)) (now (ones .entry)) (now (twos .entry)))) ⌝ }
     ensures { λ _. ⌜ now (out .exit) ≡ putWords 0 (now (out .entry)) (endPrints (machine state (now (line .entry)) (now (ones .entry)) (now (twos .entry)))) ⌝ }
 {
     if state.len == 0 {
-        return Next { state: state, count: 0 };
+        return Next {
+            state: state,
+            count: 0,
+        };
     }
     end_line(state, line, ones, twos, out)
 }

@@ -33,7 +33,7 @@ module _ (l : List ℕ) (i : ℕ) where
   unfolding before
   found-none h = ap (before 9) (drop-of-length-le l {i = i} h)
 
--- ---- bytes in a range
+  -- ---- bytes in a range
 
   module _ (low high : ℕ) where
     pub all-below : i < length l → getD l i 0 < low → allBetween low high (drop i l) ≡ false

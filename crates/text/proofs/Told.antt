@@ -74,19 +74,19 @@ module _ (line : List ℕ) (b c d e : ℕ) (h : 2 ≤ length line) (hb : b ≡ 2
       pub three-fields : d ≡ length line → NotFour line
       unfolding fourFields
       three-fields z = λ f. ap (fourFields f) (
-        field-more line 2 b hb h nb
-        ∙ ap (λ (x : List (List ℕ)). part 2 b line ∷ x) (
+          field-more line 2 b hb h nb
+          ∙ ap (λ (x : List (List ℕ)). part 2 b line ∷ x) (
           field-more line (b + 1) c hc (field-room line 2 b hb h nb) nc ∙ ap (λ (x : List (List ℕ)). part (b + 1) c line ∷ x) (field-last line (c + 1) d hd (field-room line (b + 1) c hc (field-room line 2 b hb h nb) nc) z)
-        )
-      )
+          )
+          )
 
       module _ (nd : d ≡ length line → ⊥) (he : e ≡ d + 1 + before 9 (drop (d + 1) line)) where
         front : {rest : List (List ℕ)} → fields (drop (d + 1) line) ≡ rest → fields (drop 2 line) ≡ part 2 b line ∷ part (b + 1) c line ∷ part (c + 1) d line ∷ rest
         front q =
             field-more line 2 b hb h nb
             ∙ ap (λ (x : List (List ℕ)). part 2 b line ∷ x) (
-              field-more line (b + 1) c hc (field-room line 2 b hb h nb) nc
-              ∙ ap (λ (x : List (List ℕ)). part (b + 1) c line ∷ x) (field-more line (c + 1) d hd (field-room line (b + 1) c hc (field-room line 2 b hb h nb) nc) nd ∙ ap (λ (x : List (List ℕ)). part (c + 1) d line ∷ x) q)
+            field-more line (b + 1) c hc (field-room line 2 b hb h nb) nc
+            ∙ ap (λ (x : List (List ℕ)). part (b + 1) c line ∷ x) (field-more line (c + 1) d hd (field-room line (b + 1) c hc (field-room line 2 b hb h nb) nc) nd ∙ ap (λ (x : List (List ℕ)). part (c + 1) d line ∷ x) q)
             )
 
         pub more-fields : (e ≡ length line → ⊥) → NotFour line

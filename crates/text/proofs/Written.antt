@@ -38,8 +38,8 @@ module _ (l : List ℕ) (a : ℕ) (x : List ℕ) where
       let d : drop b m ≡ drop (a + length x) l = ap (drop b) q ∙ drop-at p (drop (a + length x) l) b n in
       let w : a + length x + length y ≡ a + length (x ++ y) = omega (arith, length-append x y) in
       let z : drop (b + length y) m ≡ drop (a + length (x ++ y)) l =
-          sym (drop-drop (length y) b m) ∙ ap (drop (length y)) d ∙ drop-drop (length y) (a + length x) l
-          ∙ ap (λ (j : ℕ). drop j l) w in
+      sym (drop-drop (length y) b m) ∙ ap (drop (length y)) d ∙ drop-drop (length y) (a + length x) l
+      ∙ ap (λ (j : ℕ). drop j l) w in
       g ∙ ap₂ (λ (u v : List ℕ). u ++ (y ++ v)) t z
       ∙ append-assoc (take a l) x (y ++ drop (a + length (x ++ y)) l)
       ∙ ap (λ (u : List ℕ). take a l ++ u) (sym (append-assoc x y (drop (a + length (x ++ y)) l)))
@@ -158,7 +158,7 @@ module _ (l : List ℕ) (h : 96 ≤ length l) where
     unfolding signRefused printed refusedEnd
     sign-wrote refusal hr f g =
         wrote-front l (signRefused key formula refusal) (wrote-as l 0 (pair-front key formula (refusedEnd refusal)) (
-          wrote-then l 0 (pair key formula) (refusedEnd refusal) (omega (arith, f .0, refused-length refusal)) (omega (arith, f .0), f .1) g
+        wrote-then l 0 (pair key formula) (refusedEnd refusal) (omega (arith, f .0, refused-length refusal)) (omega (arith, f .0), f .1) g
         ))
 
     pub verdict-wrote : (weight : ℕ) (t : Bool) → length (decimal weight) ≤ 20 → {a b c r : ℕ} {m n o p : List ℕ} → ((a ≡ length (pair key formula)) × (a ≤ 42)) × (m ≡ putWords 0 l (pair key formula))

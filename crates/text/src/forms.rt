@@ -6,8 +6,8 @@ ghost use Rattle.text.specs.Fields.{fields};
 ghost use Rattle.text.specs.Forms.{fourFields, oneField, keyOf, rowOf, signOf, formOf, lineOf};
 ghost use Rattle.text.specs.Steps.{Four, EndsOf, says, Placed, bounded};
 use super::fields::find_tab;
-use super::fields::read_number;
 use super::fields::is_digits;
+use super::fields::read_number;
 
 // What a line says, its digit fields given as places of the line.
 pub enum Form {
@@ -30,7 +30,12 @@ fn four_fields(line: &[u8]) -> Ends
     requires { ⌜ 2 ≤ length (now line) ⌝ }
     ensures { λ r. ⌜ EndsOf (now (line .entry)) r ⌝ }
 {
-    let none = Ends { found: 0, number: 0, middle: 0, third: 0 };
+    let none = Ends {
+        found: 0,
+        number: 0,
+        middle: 0,
+        third: 0,
+    };
     let b = find_tab(line, 2);
     if b == line.len() {
         return none;
@@ -47,7 +52,12 @@ fn four_fields(line: &[u8]) -> Ends
     if e != line.len() {
         return none;
     }
-    Ends { found: 1, number: b, middle: c, third: d }
+    Ends {
+        found: 1,
+        number: b,
+        middle: c,
+        third: d,
+    }
 }
 
 // The four fields of a P line.

@@ -1,9 +1,9 @@
-# make run: the main job on a sample; make test: the gate; make bench: the table of the benchmark.
+# make run: the line program on the paper's example; make test: the gate; make bench: the table of the benchmark.
 .PHONY: run test bench
 
 run:
-	rt check cases
-	target/bin/cases
+	rt check check_lines
+	target/bin/check_lines <crates/check_lines/stdin
 
 test:
 	.ci/run

@@ -2,14 +2,7 @@
 use mathlib.Core.Bool.{Bool, _&&_}
 use Prim.Native.Nat.{ℕ, _+_, _-_, _/_, _%_}
 use lib.Dec.{eqb, leb}
-
--- n places, k_U and k_V, the gap g, the weight w
-pub record Sizes : Type 0 where
-  pub n : ℕ
-  pub ku : ℕ
-  pub kv : ℕ
-  pub g : ℕ
-  pub w : ℕ
+pub use Rattle.signer.specs.declared.sizes.Sizes.{Sizes}
 
 -- N, the number of pairs
 abbrev pub half : Sizes → ℕ

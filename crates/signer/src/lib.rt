@@ -1,1 +1,2 @@
-// The editor's half: the build of a key and one draw. So far definitions and laws.
+// The editor's half: the build of a key and one draw.
+pub mod sizes; // the sizes, and their test

@@ -16,7 +16,8 @@ use Rattle.matrix.specs.Digits.{vector, digits, matrix, digitRows}
 use Rattle.matrix.proofs.Field.{set-not}
 use Rattle.matrix.proofs.Places.{elem-at}
 use Rattle.verdict.specs.Verdict.{Key, timesKey, fullWord, fullWeight, saysYes}
-use Rattle.signer.specs.Sizes.{Sizes, sizesFit}
+use Rattle.signer.specs.declared.sizes.Sizes.{Sizes}
+use Rattle.signer.specs.Sizes.{sizesFit}
 use Rattle.signer.specs.Secret.{Secret, noZero, secretMatrix}
 use Rattle.signer.specs.Build.{arrange, arranged, rowOfR, buildFits, buildRefusal, keyOrder, keyRow}
 use Rattle.signer.specs.Draw.{Choices, choicesFit, placed, pivotsV, suppliedV, drawV, pivotsU, suppliedU, drawU, drawn, drawRefusal, signature}

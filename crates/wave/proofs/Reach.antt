@@ -22,7 +22,8 @@ use Rattle.matrix.proofs.Counts.{Disjoint, without-in, without-out, without-dis
 use Rattle.matrix.proofs.Solutions.{solve-is}
 use Rattle.verdict.specs.Verdict.{Key, HasSyndrome}
 use Rattle.verdict.proofs.FullWord.{syndrome-cong}
-use Rattle.signer.specs.Sizes.{Sizes, half, places, dim, ru, rv, codim, gapV, gapU, sizesFit}
+use Rattle.signer.specs.declared.sizes.Sizes.{Sizes}
+use Rattle.signer.specs.Sizes.{half, places, dim, ru, rv, codim, gapV, gapU, sizesFit}
 use Rattle.signer.specs.Secret.{Secret, join, leftOf, rightOf, uOf, vOf, whole, secretMatrix}
 use Rattle.signer.specs.Build.{arranged, keyOrder, keyRow}
 use Rattle.signer.specs.Draw.{Choices, placed, pivotsV, suppliedV, drawV, firstU, pivotsU, lastU, forced, suppliedU, drawU, drawn}

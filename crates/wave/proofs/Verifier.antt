@@ -10,7 +10,8 @@ use Rattle.matrix.specs.Orders.{Order}
 use Rattle.matrix.proofs.Greedy.{Kept}
 use Rattle.verdict.specs.Verdict.{Key, fullWeight, saysYes}
 use Rattle.verdict.proofs.FullWord.{weight-of, yes-weight}
-use Rattle.signer.specs.Sizes.{Sizes, places, dim, codim, sizesFit}
+use Rattle.signer.specs.declared.sizes.Sizes.{Sizes}
+use Rattle.signer.specs.Sizes.{places, dim, codim, sizesFit}
 use Rattle.signer.specs.Secret.{Secret, secretMatrix}
 use Rattle.signer.specs.Build.{arranged}
 use Rattle.signer.specs.Draw.{signature}

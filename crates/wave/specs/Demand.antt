@@ -8,7 +8,8 @@ use Rattle.trits.specs.Trit.{isSet, weightV}
 use Rattle.matrix.specs.Linear.{Vector, elem, without, range, rank}
 use Rattle.matrix.specs.Orders.{Distinct}
 use Rattle.verdict.specs.Verdict.{Key, HasSyndrome}
-use Rattle.signer.specs.Sizes.{Sizes, half, places, dim, ru, codim, gapU}
+use Rattle.signer.specs.declared.sizes.Sizes.{Sizes}
+use Rattle.signer.specs.Sizes.{half, places, dim, ru, codim, gapU}
 use Rattle.signer.specs.Secret.{Secret}
 use Rattle.signer.specs.Build.{buildFits, buildRefusal, keyOrder, keyRow}
 use Rattle.signer.specs.Draw.{Choices, choicesFit, placed, drawn, drawRefusal}

@@ -1,0 +1,109 @@
+/* The build of a key in plain C: ranks, the secret matrix, the column rule, and the rows of R. Its input is taken to be right. */
+#include "build_c.h"
+#include <string.h>
+
+static int at(const uint64_t *o, const uint64_t *t, size_t p) {
+    return o[p / 64] >> p % 64 & 1 ? 1 : t[p / 64] >> p % 64 & 1 ? 2 : 0;
+}
+
+static void add(uint64_t *restrict o, uint64_t *restrict t, const uint64_t *restrict so, const uint64_t *restrict st, size_t w) {
+    for (size_t k = 0; k < w; k++) {
+        uint64_t a = o[k], b = t[k], c = so[k], d = st[k], x = (a | d) ^ (b | c);
+        o[k] = (b | d) ^ x;
+        t[k] = (a | c) ^ x;
+    }
+}
+
+static void mul(uint64_t *restrict o, uint64_t *restrict t, const uint64_t *restrict so, const uint64_t *restrict st, size_t w) {
+    for (size_t k = 0; k < w; k++) {
+        uint64_t a = o[k], b = t[k], c = so[k], d = st[k];
+        o[k] = (a & c) | (b & d);
+        t[k] = (a & d) | (b & c);
+    }
+}
+
+static void swap_words(uint64_t *a, uint64_t *b, size_t w) {
+    for (size_t k = 0; k < w; k++) {
+        uint64_t x = a[k];
+        a[k] = b[k];
+        b[k] = x;
+    }
+}
+
+static int step(uint64_t *o, uint64_t *t, size_t rows, size_t w, size_t c, size_t j) {
+    size_t p = j;
+    while (p < rows && !at(o, t, 64 * p * w + c)) p++;
+    if (p == rows) return 0;
+    swap_words(o + j * w, o + p * w, w);
+    swap_words(t + j * w, t + p * w, w);
+    if (at(o, t, 64 * j * w + c) == 2) swap_words(o + j * w, t + j * w, w);
+    for (size_t i = 0; i < rows; i++) {
+        if (i == j) continue;
+        int x = at(o, t, 64 * i * w + c);
+        if (x == 1) add(o + i * w, t + i * w, t + j * w, o + j * w, w);
+        if (x == 2) add(o + i * w, t + i * w, o + j * w, t + j * w, w);
+    }
+    return 1;
+}
+
+static size_t rank(const uint64_t *o, const uint64_t *t, size_t rows, size_t w, size_t n, uint64_t *wo, uint64_t *wt) {
+    size_t count = 0;
+    memcpy(wo, o, 8 * rows * w);
+    memcpy(wt, t, 8 * rows * w);
+    for (size_t c = 0; c < n; c++) count += step(wo, wt, rows, w, c, count);
+    return count;
+}
+
+uint64_t c_build(wave_sizes z, const uint64_t *hu_ones, const uint64_t *hu_twos, const uint64_t *hv_ones, const uint64_t *hv_twos, const uint64_t *b_ones,
+                 const uint64_t *b_twos, const uint64_t *c_ones, const uint64_t *c_twos, const uint16_t *start, uint16_t *p, uint64_t *key_ones, uint64_t *key_twos,
+                 uint64_t *work_ones, uint64_t *work_twos) {
+    size_t half = z.n / 2, hw = (half + 63) / 64, w = 2 * hw, ru = half - z.ku, rv = half - z.kv, rows = ru + rv, k = z.ku + z.kv, kw = (rows + 63) / 64;
+    uint64_t answer = 0;
+    if (rank(hu_ones, hu_twos, ru, hw, half, work_ones, work_twos) != ru) answer = 9;
+    else if (rank(hv_ones, hv_twos, rv, hw, half, work_ones, work_twos) != rv) answer = 10;
+    else {
+        for (size_t i = 0; i < rows; i++) {
+            uint64_t *lo = work_ones + i * w, *lt = work_twos + i * w, *ro = lo + hw, *rt = lt + hw;
+            const uint64_t *ho = i < ru ? hu_ones + i * hw : hv_ones + (i - ru) * hw, *ht = i < ru ? hu_twos + i * hw : hv_twos + (i - ru) * hw;
+            memcpy(lo, ho, 8 * hw);
+            memcpy(lt, ht, 8 * hw);
+            memcpy(ro, ho, 8 * hw);
+            memcpy(rt, ht, 8 * hw);
+            if (i < ru) {
+                mul(lo, lt, b_ones, b_twos, hw);
+                mul(lo, lt, c_ones, c_twos, hw);
+                add(lo, lt, ho, ht, hw);
+                mul(ro, rt, b_ones, b_twos, hw);
+                swap_words(ro, rt, hw);
+            } else {
+                mul(lo, lt, c_ones, c_twos, hw);
+                swap_words(lo, lt, hw);
+            }
+        }
+        memcpy(p, start, 2 * z.n);
+        for (size_t j = 0, left = z.n; j < rows;) {
+            size_t q = p[j], c = q < half ? q : 64 * hw + q - half;
+            left--;
+            if (step(work_ones, work_twos, rows, w, c, j)) j++;
+            else {
+                uint16_t x = p[j];
+                p[j] = p[j + left];
+                p[j + left] = x;
+            }
+        }
+        for (size_t i = 0; i < k; i++) {
+            size_t q = p[rows + i], c = q < half ? q : 64 * hw + q - half;
+            uint64_t *o = key_ones + i * kw, *t = key_twos + i * kw;
+            memset(o, 0, 8 * kw);
+            memset(t, 0, 8 * kw);
+            for (size_t r = 0; r < rows; r++) {
+                int x = at(work_ones, work_twos, 64 * r * w + c);
+                if (x == 1) o[r / 64] |= (uint64_t)1 << r % 64;
+                if (x == 2) t[r / 64] |= (uint64_t)1 << r % 64;
+            }
+        }
+    }
+    memset(work_ones, 0, 8 * rows * w);
+    memset(work_twos, 0, 8 * rows * w);
+    return answer;
+}

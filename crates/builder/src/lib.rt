@@ -1,0 +1,195 @@
+// The build of a key: the call, and its tests.
+pub mod order; // the test of an order, and its copy
+pub mod tests; // lengths and contents
+pub mod ranks; // 9 and 10
+pub mod release; // the work matrix, and the key
+pub mod finish; // ranks, key, working space
+
+ghost use mathlib.Core.Path.{_≡_};
+ghost use lib.ListN.{length};
+ghost use Rattle.trits.specs.Refusal.{codeOf};
+ghost use Rattle.builder.specs.Call.{given, lengthsDiffer, buildAnswer, orderExit, onesExit, twosExit, workExit};
+use signer::sizes::Sizes;
+use trits::refusal::Outcome;
+use trits::refusal::Refusal;
+
+// A key is built from a secret and a starting order.
+pub fn build(
+    z: Sizes,
+    hu_ones: &[u64],
+    hu_twos: &[u64],
+    hv_ones: &[u64],
+    hv_twos: &[u64],
+    b_ones: &[u64],
+    b_twos: &[u64],
+    c_ones: &[u64],
+    c_twos: &[u64],
+    start: &[u16],
+    p: &mut [u16],
+    key_ones: &mut [u64],
+    key_twos: &mut [u64],
+    work_ones: &mut [u64],
+    work_twos: &mut [u64],
+) -> Outcome
+    ensures { λ r. ⌜ codeOf r ≡ buildAnswer z (given (now («hu_ones» .entry)) (now («hu_twos» .entry)) (now («hv_ones» .entry)) (now («hv_twos» .entry))
+        (now («b_ones» .entry)) (now («b_twos» .entry)) (now («c_ones» .entry)) (now («c_twos» .entry)) (now (start .entry)))
+        (lengthsDiffer z (length (now («hu_ones» .entry))) (length (now («hu_twos» .entry))) (length (now («hv_ones» .entry))) (length (now («hv_twos» .entry)))
+        (length (now («b_ones» .entry))) (length (now («b_twos» .entry))) (length (now («c_ones» .entry))) (length (now («c_twos» .entry))) (length (now (start .entry)))
+        (length (now (p .entry))) (length (now («key_ones» .entry))) (length (now («key_twos» .entry))) (length (now («work_ones» .entry))) (length (now («work_twos» .entry)))) ⌝ }
+    ensures { λ _. ⌜ now (p .exit) ≡ orderExit z (given (now («hu_ones» .entry)) (now («hu_twos» .entry)) (now («hv_ones» .entry)) (now («hv_twos» .entry))
+        (now («b_ones» .entry)) (now («b_twos» .entry)) (now («c_ones» .entry)) (now («c_twos» .entry)) (now (start .entry))) (buildAnswer z (given (now («hu_ones» .entry)) (now («hu_twos» .entry)) (now («hv_ones» .entry)) (now («hv_twos» .entry))
+        (now («b_ones» .entry)) (now («b_twos» .entry)) (now («c_ones» .entry)) (now («c_twos» .entry)) (now (start .entry)))
+        (lengthsDiffer z (length (now («hu_ones» .entry))) (length (now («hu_twos» .entry))) (length (now («hv_ones» .entry))) (length (now («hv_twos» .entry)))
+        (length (now («b_ones» .entry))) (length (now («b_twos» .entry))) (length (now («c_ones» .entry))) (length (now («c_twos» .entry))) (length (now (start .entry)))
+        (length (now (p .entry))) (length (now («key_ones» .entry))) (length (now («key_twos» .entry))) (length (now («work_ones» .entry))) (length (now («work_twos» .entry))))) (now (p .entry)) ⌝ }
+    ensures { λ _. ⌜ now («key_ones» .exit) ≡ onesExit z (given (now («hu_ones» .entry)) (now («hu_twos» .entry)) (now («hv_ones» .entry)) (now («hv_twos» .entry))
+        (now («b_ones» .entry)) (now («b_twos» .entry)) (now («c_ones» .entry)) (now («c_twos» .entry)) (now (start .entry))) (buildAnswer z (given (now («hu_ones» .entry)) (now («hu_twos» .entry)) (now («hv_ones» .entry)) (now («hv_twos» .entry))
+        (now («b_ones» .entry)) (now («b_twos» .entry)) (now («c_ones» .entry)) (now («c_twos» .entry)) (now (start .entry)))
+        (lengthsDiffer z (length (now («hu_ones» .entry))) (length (now («hu_twos» .entry))) (length (now («hv_ones» .entry))) (length (now («hv_twos» .entry)))
+        (length (now («b_ones» .entry))) (length (now («b_twos» .entry))) (length (now («c_ones» .entry))) (length (now («c_twos» .entry))) (length (now (start .entry)))
+        (length (now (p .entry))) (length (now («key_ones» .entry))) (length (now («key_twos» .entry))) (length (now («work_ones» .entry))) (length (now («work_twos» .entry))))) (now («key_ones» .entry)) ⌝ }
+    ensures { λ _. ⌜ now («key_twos» .exit) ≡ twosExit z (given (now («hu_ones» .entry)) (now («hu_twos» .entry)) (now («hv_ones» .entry)) (now («hv_twos» .entry))
+        (now («b_ones» .entry)) (now («b_twos» .entry)) (now («c_ones» .entry)) (now («c_twos» .entry)) (now (start .entry))) (buildAnswer z (given (now («hu_ones» .entry)) (now («hu_twos» .entry)) (now («hv_ones» .entry)) (now («hv_twos» .entry))
+        (now («b_ones» .entry)) (now («b_twos» .entry)) (now («c_ones» .entry)) (now («c_twos» .entry)) (now (start .entry)))
+        (lengthsDiffer z (length (now («hu_ones» .entry))) (length (now («hu_twos» .entry))) (length (now («hv_ones» .entry))) (length (now («hv_twos» .entry)))
+        (length (now («b_ones» .entry))) (length (now («b_twos» .entry))) (length (now («c_ones» .entry))) (length (now («c_twos» .entry))) (length (now (start .entry)))
+        (length (now (p .entry))) (length (now («key_ones» .entry))) (length (now («key_twos» .entry))) (length (now («work_ones» .entry))) (length (now («work_twos» .entry))))) (now («key_twos» .entry)) ⌝ }
+    ensures { λ _. ⌜ now («work_ones» .exit) ≡ workExit (buildAnswer z (given (now («hu_ones» .entry)) (now («hu_twos» .entry)) (now («hv_ones» .entry)) (now («hv_twos» .entry))
+        (now («b_ones» .entry)) (now («b_twos» .entry)) (now («c_ones» .entry)) (now («c_twos» .entry)) (now (start .entry)))
+        (lengthsDiffer z (length (now («hu_ones» .entry))) (length (now («hu_twos» .entry))) (length (now («hv_ones» .entry))) (length (now («hv_twos» .entry)))
+        (length (now («b_ones» .entry))) (length (now («b_twos» .entry))) (length (now («c_ones» .entry))) (length (now («c_twos» .entry))) (length (now (start .entry)))
+        (length (now (p .entry))) (length (now («key_ones» .entry))) (length (now («key_twos» .entry))) (length (now («work_ones» .entry))) (length (now («work_twos» .entry))))) (now («work_ones» .entry)) ⌝ }
+    ensures { λ _. ⌜ now («work_twos» .exit) ≡ workExit (buildAnswer z (given (now («hu_ones» .entry)) (now («hu_twos» .entry)) (now («hv_ones» .entry)) (now («hv_twos» .entry))
+        (now («b_ones» .entry)) (now («b_twos» .entry)) (now («c_ones» .entry)) (now («c_twos» .entry)) (now (start .entry)))
+        (lengthsDiffer z (length (now («hu_ones» .entry))) (length (now («hu_twos» .entry))) (length (now («hv_ones» .entry))) (length (now («hv_twos» .entry)))
+        (length (now («b_ones» .entry))) (length (now («b_twos» .entry))) (length (now («c_ones» .entry))) (length (now («c_twos» .entry))) (length (now (start .entry)))
+        (length (now (p .entry))) (length (now («key_ones» .entry))) (length (now («key_twos» .entry))) (length (now («work_ones» .entry))) (length (now («work_twos» .entry))))) (now («work_twos» .entry)) ⌝ }
+{
+    if !signer::sizes::sizes_fit(z) {
+        return Outcome::Refused(Refusal::Size);
+    }
+    if tests::lengths_differ(
+        z,
+        hu_ones.len(),
+        hu_twos.len(),
+        hv_ones.len(),
+        hv_twos.len(),
+        b_ones.len(),
+        b_twos.len(),
+        c_ones.len(),
+        c_twos.len(),
+        start.len(),
+        p.len(),
+        key_ones.len(),
+        key_twos.len(),
+        work_ones.len(),
+        work_twos.len(),
+    ) {
+        return Outcome::Refused(Refusal::Length);
+    }
+    let tested = tests::test_contents(
+        z,
+        hu_ones,
+        hu_twos,
+        hv_ones,
+        hv_twos,
+        b_ones,
+        b_twos,
+        c_ones,
+        c_twos,
+        start,
+    );
+    if trits::refusal::code(tested) != 0 {
+        return tested;
+    }
+    finish::finish(
+        z,
+        hu_ones,
+        hu_twos,
+        hv_ones,
+        hv_twos,
+        b_ones,
+        b_twos,
+        c_ones,
+        c_twos,
+        start,
+        p,
+        key_ones,
+        key_twos,
+        work_ones,
+        work_twos,
+    )
+}
+
+// The same for a host in C: 0, or the number of the refusal.
+#[no_mangle]
+pub extern "C" fn wave_build(
+    z: Sizes,
+    hu_ones: &[u64],
+    hu_twos: &[u64],
+    hv_ones: &[u64],
+    hv_twos: &[u64],
+    b_ones: &[u64],
+    b_twos: &[u64],
+    c_ones: &[u64],
+    c_twos: &[u64],
+    start: &[u16],
+    p: &mut [u16],
+    key_ones: &mut [u64],
+    key_twos: &mut [u64],
+    work_ones: &mut [u64],
+    work_twos: &mut [u64],
+) -> u64
+    ensures { λ r. ⌜ r ≡ buildAnswer z (given (now («hu_ones» .entry)) (now («hu_twos» .entry)) (now («hv_ones» .entry)) (now («hv_twos» .entry))
+        (now («b_ones» .entry)) (now («b_twos» .entry)) (now («c_ones» .entry)) (now («c_twos» .entry)) (now (start .entry)))
+        (lengthsDiffer z (length (now («hu_ones» .entry))) (length (now («hu_twos» .entry))) (length (now («hv_ones» .entry))) (length (now («hv_twos» .entry)))
+        (length (now («b_ones» .entry))) (length (now («b_twos» .entry))) (length (now («c_ones» .entry))) (length (now («c_twos» .entry))) (length (now (start .entry)))
+        (length (now (p .entry))) (length (now («key_ones» .entry))) (length (now («key_twos» .entry))) (length (now («work_ones» .entry))) (length (now («work_twos» .entry)))) ⌝ }
+    ensures { λ _. ⌜ now (p .exit) ≡ orderExit z (given (now («hu_ones» .entry)) (now («hu_twos» .entry)) (now («hv_ones» .entry)) (now («hv_twos» .entry))
+        (now («b_ones» .entry)) (now («b_twos» .entry)) (now («c_ones» .entry)) (now («c_twos» .entry)) (now (start .entry))) (buildAnswer z (given (now («hu_ones» .entry)) (now («hu_twos» .entry)) (now («hv_ones» .entry)) (now («hv_twos» .entry))
+        (now («b_ones» .entry)) (now («b_twos» .entry)) (now («c_ones» .entry)) (now («c_twos» .entry)) (now (start .entry)))
+        (lengthsDiffer z (length (now («hu_ones» .entry))) (length (now («hu_twos» .entry))) (length (now («hv_ones» .entry))) (length (now («hv_twos» .entry)))
+        (length (now («b_ones» .entry))) (length (now («b_twos» .entry))) (length (now («c_ones» .entry))) (length (now («c_twos» .entry))) (length (now (start .entry)))
+        (length (now (p .entry))) (length (now («key_ones» .entry))) (length (now («key_twos» .entry))) (length (now («work_ones» .entry))) (length (now («work_twos» .entry))))) (now (p .entry)) ⌝ }
+    ensures { λ _. ⌜ now («key_ones» .exit) ≡ onesExit z (given (now («hu_ones» .entry)) (now («hu_twos» .entry)) (now («hv_ones» .entry)) (now («hv_twos» .entry))
+        (now («b_ones» .entry)) (now («b_twos» .entry)) (now («c_ones» .entry)) (now («c_twos» .entry)) (now (start .entry))) (buildAnswer z (given (now («hu_ones» .entry)) (now («hu_twos» .entry)) (now («hv_ones» .entry)) (now («hv_twos» .entry))
+        (now («b_ones» .entry)) (now («b_twos» .entry)) (now («c_ones» .entry)) (now («c_twos» .entry)) (now (start .entry)))
+        (lengthsDiffer z (length (now («hu_ones» .entry))) (length (now («hu_twos» .entry))) (length (now («hv_ones» .entry))) (length (now («hv_twos» .entry)))
+        (length (now («b_ones» .entry))) (length (now («b_twos» .entry))) (length (now («c_ones» .entry))) (length (now («c_twos» .entry))) (length (now (start .entry)))
+        (length (now (p .entry))) (length (now («key_ones» .entry))) (length (now («key_twos» .entry))) (length (now («work_ones» .entry))) (length (now («work_twos» .entry))))) (now («key_ones» .entry)) ⌝ }
+    ensures { λ _. ⌜ now («key_twos» .exit) ≡ twosExit z (given (now («hu_ones» .entry)) (now («hu_twos» .entry)) (now («hv_ones» .entry)) (now («hv_twos» .entry))
+        (now («b_ones» .entry)) (now («b_twos» .entry)) (now («c_ones» .entry)) (now («c_twos» .entry)) (now (start .entry))) (buildAnswer z (given (now («hu_ones» .entry)) (now («hu_twos» .entry)) (now («hv_ones» .entry)) (now («hv_twos» .entry))
+        (now («b_ones» .entry)) (now («b_twos» .entry)) (now («c_ones» .entry)) (now («c_twos» .entry)) (now (start .entry)))
+        (lengthsDiffer z (length (now («hu_ones» .entry))) (length (now («hu_twos» .entry))) (length (now («hv_ones» .entry))) (length (now («hv_twos» .entry)))
+        (length (now («b_ones» .entry))) (length (now («b_twos» .entry))) (length (now («c_ones» .entry))) (length (now («c_twos» .entry))) (length (now (start .entry)))
+        (length (now (p .entry))) (length (now («key_ones» .entry))) (length (now («key_twos» .entry))) (length (now («work_ones» .entry))) (length (now («work_twos» .entry))))) (now («key_twos» .entry)) ⌝ }
+    ensures { λ _. ⌜ now («work_ones» .exit) ≡ workExit (buildAnswer z (given (now («hu_ones» .entry)) (now («hu_twos» .entry)) (now («hv_ones» .entry)) (now («hv_twos» .entry))
+        (now («b_ones» .entry)) (now («b_twos» .entry)) (now («c_ones» .entry)) (now («c_twos» .entry)) (now (start .entry)))
+        (lengthsDiffer z (length (now («hu_ones» .entry))) (length (now («hu_twos» .entry))) (length (now («hv_ones» .entry))) (length (now («hv_twos» .entry)))
+        (length (now («b_ones» .entry))) (length (now («b_twos» .entry))) (length (now («c_ones» .entry))) (length (now («c_twos» .entry))) (length (now (start .entry)))
+        (length (now (p .entry))) (length (now («key_ones» .entry))) (length (now («key_twos» .entry))) (length (now («work_ones» .entry))) (length (now («work_twos» .entry))))) (now («work_ones» .entry)) ⌝ }
+    ensures { λ _. ⌜ now («work_twos» .exit) ≡ workExit (buildAnswer z (given (now («hu_ones» .entry)) (now («hu_twos» .entry)) (now («hv_ones» .entry)) (now («hv_twos» .entry))
+        (now («b_ones» .entry)) (now («b_twos» .entry)) (now («c_ones» .entry)) (now («c_twos» .entry)) (now (start .entry)))
+        (lengthsDiffer z (length (now («hu_ones» .entry))) (length (now («hu_twos» .entry))) (length (now («hv_ones» .entry))) (length (now («hv_twos» .entry)))
+        (length (now («b_ones» .entry))) (length (now («b_twos» .entry))) (length (now («c_ones» .entry))) (length (now («c_twos» .entry))) (length (now (start .entry)))
+        (length (now (p .entry))) (length (now («key_ones» .entry))) (length (now («key_twos» .entry))) (length (now («work_ones» .entry))) (length (now («work_twos» .entry))))) (now («work_twos» .entry)) ⌝ }
+{
+    let outcome = build(
+        z,
+        hu_ones,
+        hu_twos,
+        hv_ones,
+        hv_twos,
+        b_ones,
+        b_twos,
+        c_ones,
+        c_twos,
+        start,
+        p,
+        key_ones,
+        key_twos,
+        work_ones,
+        work_twos,
+    );
+    trits::refusal::code(outcome)
+}

@@ -1,0 +1,45 @@
+-- The rows before the pivot's and those after it are all others (`taken-all`).
+-- Assumes nothing.
+use native.Mathlib.Omega.{arith}
+use borrow.Author.Needs.{needs}
+use mathlib.Core.Logic.{inl, inr}
+use Rattle.elimination.proofs.Clears.{column-done}
+use Rattle.elimination.proofs.step.clear_column.Statement.{statement}
+use Rattle.elimination.proofs.step.clear_column.Tie as tie
+
+clear-rows-requires : tie.Need-clear-rows-requires
+clear-rows-requires c κs =
+    let s = c .before .before .before .before in
+    (s .pre .0, ((s .pre .1 .0, s .pre .1 .1, s .pre .1 .2, omega arith, omega arith), inl (omega arith)))
+
+add-clear-rows : tie.Need-add-clear-rows
+add-clear-rows c =
+    omega (arith, c .before .before .before .before .before .before .before .before .before .before .before .pre .1 .2)
+
+clear-rows-requires-2 : tie.Need-clear-rows-requires-2
+clear-rows-requires-2 c κs =
+    let s = c .before .before .before .before .before .before .before .before .before .before .before in
+    let g = c .before .before .before .before .before .before .clear-rows .ensures .rows in
+    (g, ((omega (arith, g .size, s .pre .0 .size), s .pre .1 .1, s .pre .1 .2, omega arith, omega arith), inr (omega arith)))
+
+same-length : tie.Need-same-length
+same-length c = search needs
+
+same-length-2 : tie.Need-same-length-2
+same-length-2 c = search needs
+
+returns : tie.Need-returns
+returns c =
+    let s = c .before .before .before .before .before .before .before .before .before .before .before .before .before .before .before .before in
+    column-done (s .args .at) (s .args .c) (s .pre .0) (c .before .before .before .before .before .before .before .before .before .before .before .clear-rows .ensures) (c .before .before .before .before .clear-rows2 .ensures)
+
+pub clear-column-spec : {M : Type 1} → statement M
+clear-column-spec =
+    tie.close
+    (tie.spec
+    clear-rows-requires
+    add-clear-rows
+    clear-rows-requires-2
+    same-length
+    same-length-2
+    returns)

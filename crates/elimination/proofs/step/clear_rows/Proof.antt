@@ -1,0 +1,75 @@
+-- Each turn clears one row more (`taken-turn`); none of them is the pivot's.
+-- Assumes nothing.
+use Prim.Native.Nat.{_-_, _≤_}
+use native.Mathlib.Omega.{arith}
+use denote.Ref.{now}
+use Rattle.trits.specs.Rows.{matrixAt}
+use Rattle.elimination.specs.Grid.{Grid, takenOut}
+use Rattle.elimination.proofs.Cells.{grid-of}
+use Rattle.elimination.proofs.Clears.{apart-from, taken-none, rows-turn, rows-done}
+use Rattle.elimination.proofs.step.clear_rows.Statement.{statement}
+use Rattle.elimination.proofs.step.clear_rows.Tie as tie
+use Rattle.elimination.proofs.step.clear_rows.Reads as reads
+use Rattle.elimination.proofs.step.clear_rows.Lts as lts
+use Rattle.elimination.proofs.step.clear_row.Reads as clear-row-reads
+
+abbrev Inv-loop : tie.InvT-loop
+Inv-loop ones₀ twos₀ rows w c at from to i₀ ones twos i =
+    ((from ≤ i) × (i ≤ to)) × Grid ones twos rows w (takenOut from i at c (matrixAt w ones₀ twos₀))
+
+abbrev μ-loop : tie.MeasureT-loop
+μ-loop ones₀ twos₀ rows w c at from to i₀ ones twos i = to - i
+
+loop-holds : tie.Need-loop-holds Inv-loop μ-loop
+loop-holds c =
+    let s = c .before .before in
+    let a = s .args in
+    ((omega arith, s .pre .1 .0 .3), grid-of (s .pre .0) (taken-none (a .at) (a .c) (matrixAt (a .w) (now (a .ones)) (now (a .twos))) (a .from)))
+
+clear-row-requires : tie.Need-clear-row-requires Inv-loop μ-loop
+clear-row-requires c κs =
+    let s = c .before .before .before .before .before .before in
+    let l = c .before .before .before .loop in
+    let g = l .inv .1 .rows in
+    (g, (omega (arith, g .size, s .pre .0 .size), s .pre .1 .0 .1, s .pre .1 .0 .2, omega arith, apart-from (s .pre .1 .1) (l .inv .0 .0) (omega arith)))
+
+add-i : tie.Need-add-i Inv-loop μ-loop
+add-i c = omega arith
+
+loop-less : tie.Need-loop-less Inv-loop μ-loop
+loop-less c = omega arith
+
+loop-again : tie.Need-loop-again Inv-loop μ-loop
+loop-again c =
+    let s = c .before .before .before .before .before .before .before .before .before .before .before in
+    let a = s .args in
+    let l = c .before .before .before .before .before .before .before .before .loop in
+    ((omega arith, omega arith), rows-turn (a .at) (a .c) (matrixAt (a .w) (now (a .ones)) (now (a .twos))) (a .from) (l .inv .1) (l .inv .0 .0) (apart-from (s .pre .1 .1) (l .inv .0 .0) (omega arith)) (c .before .before .before .before .clear-row .ensures))
+
+same-length : tie.Need-same-length Inv-loop μ-loop
+same-length c =
+    omega (arith, c .before .loop .inv .1 .rows .size, c .before .before .before .before .pre .0 .size)
+
+same-length-2 : tie.Need-same-length-2 Inv-loop μ-loop
+same-length-2 c =
+    omega (arith, c .before .loop .inv .1 .rows .size, c .before .before .before .before .pre .0 .size, c .before .loop .inv .1 .rows .row .same, c .before .before .before .before .pre .0 .row .same)
+
+returns : tie.Need-returns Inv-loop μ-loop
+returns c =
+    let a = c .before .before .before .before .args in
+    rows-done (a .at) (a .c) (matrixAt (a .w) (now (a .ones)) (now (a .twos))) (a .from) (c .before .loop .inv .1) (a .to) (omega arith)
+
+pub clear-rows-spec : {M : Type 1} → statement M
+clear-rows-spec =
+    tie.close
+    (tie.spec
+    Inv-loop
+    μ-loop
+    loop-holds
+    clear-row-requires
+    add-i
+    loop-less
+    loop-again
+    same-length
+    same-length-2
+    returns)

@@ -1,0 +1,86 @@
+-- A trit that is not 0 is 1, and the row stays, or 2, and the row is negated: both times the row times its trit.
+-- Assumes nothing.
+use native.Mathlib.Omega.{arith}
+use borrow.Author.Needs.{needs}
+use denote.Ref.{now}
+use Rattle.trits.proofs.Matrix.{row-le}
+use Rattle.trits.specs.Rows.{matrixAt}
+use Rattle.elimination.proofs.Cells.{read-two, read-unit, grid-to, grid-of}
+use Rattle.elimination.proofs.Clears.{scaled-one, scaled-two}
+use Rattle.elimination.proofs.step.scale_row.Statement.{statement}
+use Rattle.elimination.proofs.step.scale_row.Tie as tie
+use Rattle.elimination.proofs.step.scale_row.Reads as reads
+use Rattle.elimination.proofs.step.scale_row.Lts as lts
+use Rattle.elimination.proofs.rows.negate.Reads as negate-reads
+use Rattle.trits.proofs.places.trit_at.Reads as trit-at-reads
+
+mul-trit-at : tie.Need-mul-trit-at
+mul-trit-at c =
+    let s = c .before .before .before .before in
+    let a = s .args in
+    omega (arith, row-le (a .w) {i = a .at} {m = a .rows} (s .pre .1 .0 .2), s .pre .0 .size, s .pre .0 .row .same)
+
+mul-trit-at-2 : tie.Need-mul-trit-at-2
+mul-trit-at-2 c =
+    let s = c .before .before .before .before in
+    let a = s .args in
+    omega (arith, row-le (a .w) {i = a .at} {m = a .rows} (s .pre .1 .0 .2), s .pre .0 .size, s .pre .0 .row .same)
+
+add-trit-at : tie.Need-add-trit-at
+add-trit-at c =
+    let s = c .before .before .before .before in
+    let a = s .args in
+    omega (arith, row-le (a .w) {i = a .at} {m = a .rows} (s .pre .1 .0 .2), s .pre .0 .size, s .pre .0 .row .same)
+
+trit-at-requires : tie.Need-trit-at-requires
+trit-at-requires c κs =
+    let s = c .before .before .before .before in
+    let a = s .args in
+    let h = row-le (a .w) {i = a .at} {m = a .rows} (s .pre .1 .0 .2) in
+    (s .pre .0 .row .same, omega (arith, h, s .pre .0 .size))
+
+negate-requires : tie.Need-negate-requires
+negate-requires c κs =
+    (c .before .before .before .before .before .before .before .before .pre .0, c .before .before .before .before .before .before .before .before .pre .1 .0 .2)
+
+same-length : tie.Need-same-length
+same-length c = search needs
+
+same-length-2 : tie.Need-same-length-2
+same-length-2 c = search needs
+
+returns : tie.Need-returns
+returns c =
+    let s = c .before .before .before .before .before .before .before .before .before .before .before .before .before in
+    let a = s .args in
+    let e = read-two (a .w) (now (a .ones)) (now (a .twos)) (a .at) (a .c) _ (s .pre .1 .0 .1) (c .before .before .before .before .before .before .before .before .trit-at .ensures) (c .before .before .before .before .before .before .before .if1 .taken) in
+    grid-to (c .before .before .before .before .negate .ensures) (scaled-two (a .at) (a .c) (matrixAt (a .w) (now (a .ones)) (now (a .twos))) e)
+
+same-length-3 : tie.Need-same-length-3
+same-length-3 c = search needs
+
+same-length-4 : tie.Need-same-length-4
+same-length-4 c = search needs
+
+returns-2 : tie.Need-returns-2
+returns-2 c =
+    let s = c .before .before .before .before .before .before in
+    let a = s .args in
+    let e = read-unit (a .w) (now (a .ones)) (now (a .twos)) (a .at) (a .c) _ (s .pre .1 .0 .1) (c .before .trit-at .ensures) (s .pre .1 .1) (c .if1 .left) in
+    grid-of (s .pre .0) (scaled-one (a .at) (a .c) (matrixAt (a .w) (now (a .ones)) (now (a .twos))) e)
+
+pub scale-row-spec : {M : Type 1} → statement M
+scale-row-spec =
+    tie.close
+    (tie.spec
+    mul-trit-at
+    mul-trit-at-2
+    add-trit-at
+    trit-at-requires
+    negate-requires
+    same-length
+    same-length-2
+    returns
+    same-length-3
+    same-length-4
+    returns-2)

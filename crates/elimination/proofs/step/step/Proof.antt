@@ -1,0 +1,84 @@
+-- The pivot's row comes to its place, is made to have 1 there, and is taken out of the others: the three together are the step (`step-done`).
+-- Assumes nothing.
+use borrow.Author.Needs.{needs}
+use Rattle.matrix.proofs.Steps.{no-pivot}
+use Rattle.elimination.proofs.Cells.{grid-of}
+use Rattle.elimination.proofs.Clears.{chosen, moved-set, step-done}
+use Rattle.trits.specs.Rows.{matrixAt}
+use denote.Ref.{now}
+use native.Mathlib.Omega.{arith}
+use mathlib.Core.Path.{sym, _∙_}
+use Prim.Native.Nat.{_-_}
+use Rattle.elimination.proofs.step.step.Statement.{statement}
+use Rattle.elimination.proofs.step.step.Tie as tie
+
+find-pivot-requires : tie.Need-find-pivot-requires
+find-pivot-requires c κs = search needs
+
+same-length : tie.Need-same-length
+same-length c = search needs
+
+same-length-2 : tie.Need-same-length-2
+same-length-2 c = search needs
+
+returns : tie.Need-returns
+returns c =
+    let s = c .before .before .before .before .before .before in
+    let a = s .args in
+    let n = no-pivot (a .rows) (a .at) (a .c) (matrixAt (a .w) (now (a .ones)) (now (a .twos))) (sym (c .before .find-pivot .ensures) ∙ c .if1 .taken) in
+    (n .0, grid-of (s .pre .0) (n .1))
+
+swap-rows-requires : tie.Need-swap-rows-requires
+swap-rows-requires c κs =
+    let s = c .before .before .before .before .before .before .before .before in
+    let a = s .args in
+    let f = c .before .before .before .find-pivot .ensures in
+    let h = chosen (a .rows) (a .at) (a .c) _ (matrixAt (a .w) (now (a .ones)) (now (a .twos))) (s .pre .1 .2) f (c .before .before .if1 .left) in
+    (s .pre .0, (omega arith, h .1))
+
+scale-row-requires : tie.Need-scale-row-requires
+scale-row-requires c κs =
+    let s = c .before .before .before .before .before .before .before .before .before .before .before .before .before .before .before in
+    let a = s .args in
+    let f = c .before .before .before .before .before .before .before .before .before .before .find-pivot .ensures in
+    let g = c .before .before .before .before .before .before .swap-rows .ensures in
+    let h = chosen (a .rows) (a .at) (a .c) _ (matrixAt (a .w) (now (a .ones)) (now (a .twos))) (s .pre .1 .2) f (c .before .before .before .before .before .before .before .before .before .if1 .left) in
+    (g .rows, ((omega arith, s .pre .1 .1, omega arith), moved-set (a .rows) (a .at) (a .c) _ (matrixAt (a .w) (now (a .ones)) (now (a .twos))) (s .pre .1 .2) f (c .before .before .before .before .before .before .before .before .before .if1 .left) g))
+
+clear-column-requires : tie.Need-clear-column-requires
+clear-column-requires c κs =
+    let s = c .before .before .before .before .before .before .before .before .before .before .before .before .before .before .before .before .before .before .before .before .before .before in
+    let a = s .args in
+    let f = c .before .before .before .before .before .before .before .before .before .before .before .before .before .before .before .before .before .find-pivot .ensures in
+    let g = c .before .before .before .before .before .before .scale-row .ensures in
+    let h = chosen (a .rows) (a .at) (a .c) _ (matrixAt (a .w) (now (a .ones)) (now (a .twos))) (s .pre .1 .2) f (c .before .before .before .before .before .before .before .before .before .before .before .before .before .before .before .before .if1 .left) in
+    (g .rows, (omega (arith, g .rows .size, s .pre .0 .size), s .pre .1 .1, omega (arith, h .0, h .1)))
+
+same-length-3 : tie.Need-same-length-3
+same-length-3 c = search needs
+
+same-length-4 : tie.Need-same-length-4
+same-length-4 c = search needs
+
+returns-2 : tie.Need-returns-2
+returns-2 c =
+    let s = c .before .before .before .before .before .before .before .before .before .before .before .before .before .before .before .before .before .before .before .before .before .before .before .before .before .before .before in
+    let a = s .args in
+    let f = c .before .before .before .before .before .before .before .before .before .before .before .before .before .before .before .before .before .before .before .before .before .before .find-pivot .ensures in
+    step-done (a .rows) (a .at) (a .c) _ (matrixAt (a .w) (now (a .ones)) (now (a .twos))) (s .pre .1 .2) f (c .before .before .before .before .before .before .before .before .before .before .before .before .before .before .before .before .before .before .before .before .before .if1 .left) (c .before .before .before .before .before .before .before .before .before .before .before .before .before .before .before .before .before .before .swap-rows .ensures)
+    (c .before .before .before .before .before .before .before .before .before .before .before .scale-row .ensures) (c .before .before .before .before .clear-column .ensures)
+
+pub step-spec : {M : Type 1} → statement M
+step-spec =
+    tie.close
+    (tie.spec
+    find-pivot-requires
+    same-length
+    same-length-2
+    returns
+    swap-rows-requires
+    scale-row-requires
+    clear-column-requires
+    same-length-3
+    same-length-4
+    returns-2)

@@ -1,0 +1,112 @@
+// One column of an elimination.
+ghost use mathlib.Core.Path.{_≡_};
+ghost use mathlib.Core.Bool.{true};
+ghost use mathlib.Core.Logic.{_⊎_, _≢_};
+ghost use Prim.Native.Nat.{_*_, _<_, _≤_};
+ghost use lib.ListN.{length};
+ghost use Rattle.trits.specs.Trit.{isSet};
+ghost use Rattle.trits.specs.Rows.{matrixAt};
+ghost use Rattle.matrix.specs.Eliminate.{pivotRow, hasPivot, stepOf, scaleRow, takeOut};
+ghost use Rattle.elimination.specs.Grid.{Rows, Grid, clearRow, takenOut};
+use super::rows;
+
+// The first row from `at` on whose trit at column c is not 0; `rows` where there is none.
+pub fn find_pivot(ones: &[u64], twos: &[u64], rows: usize, w: usize, c: usize, at: usize) -> usize
+    requires { ⌜ Rows (now ones) (now twos) rows w ⌝ }
+    requires { ⌜ (length (now ones) ≤ 4294967296) × (c < 64 * w) × (at ≤ rows) ⌝ }
+    ensures { λ r. ⌜ r ≡ pivotRow rows (matrixAt w (now (ones .entry)) (now (twos .entry))) c at ⌝ }
+{
+    let mut i = at;
+    while i < rows {
+        if trits::places::trit_at(ones, twos, 64 * (i * w) + c) != 0 {
+            return i;
+        }
+        i += 1;
+    }
+    i
+}
+
+// The trit of row `at` at column c, which is not 0, is made 1: the row is negated where it is 2.
+pub fn scale_row(ones: &mut [u64], twos: &mut [u64], rows: usize, w: usize, c: usize, at: usize)
+    requires { ⌜ Rows (now ones) (now twos) rows w ⌝ }
+    requires { ⌜ (length (now ones) ≤ 4294967296) × (c < 64 * w) × (at < rows) ⌝ }
+    requires { ⌜ isSet (matrixAt w (now ones) (now twos) at c) ≡ true ⌝ }
+    ensures { λ _. ⌜ Grid (now (ones .exit)) (now (twos .exit)) rows w
+        (scaleRow at (matrixAt w (now (ones .entry)) (now (twos .entry)) at c) (matrixAt w (now (ones .entry)) (now (twos .entry)))) ⌝ }
+{
+    if trits::places::trit_at(ones, twos, 64 * (at * w) + c) == 2 {
+        rows::negate(ones, twos, rows, w, at);
+    }
+}
+
+// The pivot's row `at` is taken from row i as often as clears column c there.
+pub fn clear_row(
+    ones: &mut [u64],
+    twos: &mut [u64],
+    rows: usize,
+    w: usize,
+    c: usize,
+    at: usize,
+    i: usize,
+)
+    requires { ⌜ Rows (now ones) (now twos) rows w ⌝ }
+    requires { ⌜ (length (now ones) ≤ 4294967296) × (c < 64 * w) × (at < rows) × (i < rows) × (i ≢ at) ⌝ }
+    ensures { λ _. ⌜ Grid (now (ones .exit)) (now (twos .exit)) rows w (clearRow i at c (matrixAt w (now (ones .entry)) (now (twos .entry)))) ⌝ }
+{
+    let t = trits::places::trit_at(ones, twos, 64 * (i * w) + c);
+    if t == 1 {
+        rows::sub_rows(ones, twos, rows, w, i, at);
+    } else if t == 2 {
+        rows::add_rows(ones, twos, rows, w, i, at);
+    }
+}
+
+// The pivot's row is so taken from the rows `from` to `to` - 1, of which it is none.
+pub fn clear_rows(
+    ones: &mut [u64],
+    twos: &mut [u64],
+    rows: usize,
+    w: usize,
+    c: usize,
+    at: usize,
+    from: usize,
+    to: usize,
+)
+    requires { ⌜ Rows (now ones) (now twos) rows w ⌝ }
+    requires { ⌜ (length (now ones) ≤ 4294967296) × (c < 64 * w) × (at < rows) × (from ≤ to) × (to ≤ rows) ⌝ }
+    requires { ⌜ (to ≤ at) ⊎ (at < from) ⌝ }
+    ensures { λ _. ⌜ Grid (now (ones .exit)) (now (twos .exit)) rows w (takenOut from to at c (matrixAt w (now (ones .entry)) (now (twos .entry)))) ⌝ }
+{
+    let mut i = from;
+    while i < to {
+        clear_row(ones, twos, rows, w, c, at, i);
+        i += 1;
+    }
+}
+
+// The pivot's row `at`, whose trit at column c is 1, is taken from every other row so often that it has 0 there: the rows before it, then those after it.
+pub fn clear_column(ones: &mut [u64], twos: &mut [u64], rows: usize, w: usize, c: usize, at: usize)
+    requires { ⌜ Rows (now ones) (now twos) rows w ⌝ }
+    requires { ⌜ (length (now ones) ≤ 4294967296) × (c < 64 * w) × (at < rows) ⌝ }
+    ensures { λ _. ⌜ Grid (now (ones .exit)) (now (twos .exit)) rows w (takeOut at c (matrixAt w (now (ones .entry)) (now (twos .entry)))) ⌝ }
+{
+    clear_rows(ones, twos, rows, w, c, at, 0, at);
+    clear_rows(ones, twos, rows, w, c, at, at + 1, rows);
+}
+
+// One column: where a row from `at` on has a trit there that is not 0, it comes to `at`, and the column is cleared in every other row.
+pub fn step(ones: &mut [u64], twos: &mut [u64], rows: usize, w: usize, c: usize, at: usize) -> bool
+    requires { ⌜ Rows (now ones) (now twos) rows w ⌝ }
+    requires { ⌜ (length (now ones) ≤ 4294967296) × (c < 64 * w) × (at ≤ rows) ⌝ }
+    ensures { λ r. ⌜ r ≡ hasPivot rows at c (matrixAt w (now (ones .entry)) (now (twos .entry))) ⌝ }
+    ensures { λ _. ⌜ Grid (now (ones .exit)) (now (twos .exit)) rows w (stepOf rows at c (matrixAt w (now (ones .entry)) (now (twos .entry)))) ⌝ }
+{
+    let p = find_pivot(ones, twos, rows, w, c, at);
+    if p == rows {
+        return false;
+    }
+    rows::swap_rows(ones, twos, rows, w, at, p);
+    scale_row(ones, twos, rows, w, c, at);
+    clear_column(ones, twos, rows, w, c, at);
+    true
+}

@@ -1,0 +1,73 @@
+-- The work matrix of a build: it stays in secret places, each row's halves beginning a new word. No rule of the paper: code is tied to it. Assumes nothing.
+use mathlib.Core.Path.{_≡_}
+use mathlib.Core.Bool.{_&&_, cond}
+use mathlib.Core.List.{List, [], _++_}
+use Prim.Native.Nat.{ℕ, zero, suc, _+_, _-_, _*_, _/_, _%_, _<_}
+use lib.Dec.{eqb, leb, ltb}
+use lib.ListN.{getD}
+use Rattle.trits.specs.Trit.{t1, addT, negT, mulT, upTo}
+use Rattle.trits.specs.Planes.{onesOf, twosOf}
+use Rattle.trits.specs.Rows.{matrixAt}
+use Rattle.matrix.specs.Linear.{Vector, Matrix, column}
+use Rattle.signer.specs.Build.{rowOfR}
+
+-- ---- columns
+
+-- the column of a secret place: places from N on begin at word hw of a row
+unfoldable pub colOf : ℕ → ℕ → ℕ → ℕ
+colOf N hw q = cond (ltb q N) q (64 * hw + (q - N))
+
+-- the matrix by secret places
+unfoldable pub placedAt : ℕ → ℕ → ℕ → List ℕ → List ℕ → Matrix
+placedAt N hw w ones twos i q = matrixAt w ones twos i (colOf N hw q)
+
+-- ---- half-rows: a row of two halves of w words is two rows of w words
+
+-- row j has the trits v
+abbrev pub putRow : ℕ → Vector → Matrix → Matrix
+putRow j v A k q = cond (eqb k j) (v q) (A k q)
+
+-- a row of H times 1 + b·c
+abbrev pub scaledBy : Vector → Vector → Vector → Vector
+scaledBy b c h q = mulT (addT t1 (mulT (b q) (c q))) (h q)
+
+-- the negative of a row of H times v
+abbrev pub negativeBy : Vector → Vector → Vector
+negativeBy v h q = negT (mulT (v q) (h q))
+
+-- the rows a, a + 1, .. a + m - 1 have the halves of L's and R's rows 0, 1, .. m - 1
+unfoldable pub halvesIn : ℕ → ℕ → Matrix → Matrix → Matrix → Matrix
+halvesIn a m L R A j q = cond (leb (a + a) j && ltb j (a + m + (a + m))) (cond (eqb (j % 2) 0) (L (j / 2 - a) q) (R (j / 2 - a) q)) (A j q)
+
+-- the halves of the rows of U
+abbrev pub leftU : Matrix → Vector → Vector → Matrix
+leftU H b c i = scaledBy b c (H i)
+
+abbrev pub rightU : Matrix → Vector → Matrix
+rightU H b i = negativeBy b (H i)
+
+-- and the left halves of the rows of V; the right ones are those of H_V
+abbrev pub leftV : Matrix → Vector → Matrix
+leftV H c i = negativeBy c (H i)
+
+-- ---- the key in the arranged matrix
+
+-- the key of the order p stands in the matrix A: row i of it in the column at place p(r + i)
+pub record Keyed (r n : ℕ) (H A : Matrix) (p : List ℕ) : Type 0 where
+  pub entry : (i c : ℕ) → c < r → r + i < n → rowOfR r n H p i c ≡ A c (getD p (r + i) 0)
+
+-- f 0, f 1, .. f (k - 1), one after another
+unfoldable pub rowsOf : (ℕ → List ℕ) → ℕ → List ℕ
+rowsOf f zero = []
+rowsOf f (suc k) = rowsOf f k ++ f k
+
+-- row i of the key, r trits, read down the column at place p(r + i)
+unfoldable pub readDown : ℕ → ℕ → ℕ → Matrix → List ℕ → ℕ → Vector
+readDown r N hw A p i = upTo r (column A (colOf N hw (getD p (r + i) 0)))
+
+-- the words of k such rows, kw each
+unfoldable pub keyOnes : ℕ → ℕ → ℕ → ℕ → ℕ → Matrix → List ℕ → List ℕ
+keyOnes k kw r N hw A p = rowsOf (λ i. onesOf (readDown r N hw A p i) kw) k
+
+unfoldable pub keyTwos : ℕ → ℕ → ℕ → ℕ → ℕ → Matrix → List ℕ → List ℕ
+keyTwos k kw r N hw A p = rowsOf (λ i. twosOf (readDown r N hw A p i) kw) k

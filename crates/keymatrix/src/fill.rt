@@ -25,7 +25,7 @@ pub fn fill_u(
     requires { ⌜ Rows (now ones) (now twos) rows w ⌝ }
     requires { ⌜ Rows (now ho) (now ht) ru w ⌝ }
     requires { ⌜ Row (now bo) (now bt) × Row (now co) (now ct) ⌝ }
-    requires { ⌜ (ru + ru ≤ rows) × (rows ≤ 4294967296) × (length (now bo) ≡ w) × (length (now co) ≡ w) ⌝ }
+    requires { ⌜ (ru + ru ≤ rows) × (rows ≤ 4294967296) × (length (now bo) ≡ w) × (length (now co) ≡ w) × (ru ≤ 65536) × (w ≤ 65536) ⌝ }
     ensures { λ _. ⌜ Grid (now (ones .exit)) (now (twos .exit)) rows w
         (halvesIn 0 ru (leftU (matrixAt w (now (ho .entry)) (now (ht .entry))) (tritAt (now (bo .entry)) (now (bt .entry))) (tritAt (now (co .entry)) (now (ct .entry))))
         (rightU (matrixAt w (now (ho .entry)) (now (ht .entry))) (tritAt (now (bo .entry)) (now (bt .entry)))) (matrixAt w (now (ones .entry)) (now (twos .entry)))) ⌝ }
@@ -56,7 +56,7 @@ pub fn fill_v(
     requires { ⌜ Rows (now ones) (now twos) rows w ⌝ }
     requires { ⌜ Rows (now ho) (now ht) rv w ⌝ }
     requires { ⌜ Row (now co) (now ct) ⌝ }
-    requires { ⌜ (ru + rv + (ru + rv) ≤ rows) × (rows ≤ 4294967296) × (length (now co) ≡ w) ⌝ }
+    requires { ⌜ (ru + rv + (ru + rv) ≤ rows) × (rows ≤ 4294967296) × (length (now co) ≡ w) × (rv ≤ 65536) × (w ≤ 65536) ⌝ }
     ensures { λ _. ⌜ Grid (now (ones .exit)) (now (twos .exit)) rows w
         (halvesIn ru rv (leftV (matrixAt w (now (ho .entry)) (now (ht .entry))) (tritAt (now (co .entry)) (now (ct .entry))))
         (matrixAt w (now (ho .entry)) (now (ht .entry))) (matrixAt w (now (ones .entry)) (now (twos .entry)))) ⌝ }

@@ -50,7 +50,7 @@ fill-u-requires c κs =
     let b = bounds (s .args .z) (s .pre .0) in
     let x = s .pre .1 .0 in
     let y = s .pre .1 .1 in
-    (zero-rows (s .args .z) _ _ (c .before .before .before .before .before .before .before .before .zero-words .ensures) (c .before .before .before .before .zero-words2 .ensures) (y .2) (y .3), (x .0, ((x .2, x .3), (omega arith, omega (arith, b .high), y .0, y .1))))
+    (zero-rows (s .args .z) _ _ (c .before .before .before .before .before .before .before .before .zero-words .ensures) (c .before .before .before .before .zero-words2 .ensures) (y .2) (y .3), (x .0, ((x .2, x .3), (omega arith, omega (arith, b .high), y .0, y .1, omega (arith, b .high), omega (arith, b .high)))))
 
 fill-v-requires : tie.Need-fill-v-requires
 fill-v-requires c κs =
@@ -58,7 +58,7 @@ fill-v-requires c κs =
     let b = bounds (s .args .z) (s .pre .0) in
     let x = s .pre .1 .0 in
     let y = s .pre .1 .1 in
-    (c .before .before .before .before .before .before .fill-u .ensures .rows, (x .1, (x .3, (omega arith, omega (arith, b .high), y .1))))
+    (c .before .before .before .before .before .before .fill-u .ensures .rows, (x .1, (x .3, (omega arith, omega (arith, b .high), y .1, omega (arith, b .high), omega (arith, b .high)))))
 
 same-length : tie.Need-same-length
 same-length c = search needs

@@ -31,11 +31,13 @@ loop-holds c =
 
 row-part-requires : tie.Need-row-part-requires Inv-loop μ-loop
 row-part-requires c κs =
-    search needs
+    let p = c .before .before .before .before .before .before .before .before .before .before .pre .1 .1 .1 in
+    (p .4, p .5)
 
 row-part-requires-2 : tie.Need-row-part-requires-2 Inv-loop μ-loop
 row-part-requires-2 c κs =
-    search needs
+    let p = c .before .before .before .before .before .before .before .before .before .before .before .pre .1 .1 .1 in
+    (p .4, p .5)
 
 add-put-scaled : tie.Need-add-put-scaled Inv-loop μ-loop
 add-put-scaled c =

@@ -31,11 +31,13 @@ loop-holds c =
 
 row-part-requires : tie.Need-row-part-requires Inv-loop μ-loop
 row-part-requires c κs =
-    search needs
+    let p = c .before .before .before .before .before .before .before .before .pre .1 .1 .1 in
+    (p .3, p .4)
 
 row-part-requires-2 : tie.Need-row-part-requires-2 Inv-loop μ-loop
 row-part-requires-2 c κs =
-    search needs
+    let p = c .before .before .before .before .before .before .before .before .before .pre .1 .1 .1 in
+    (p .3, p .4)
 
 add-put-negative : tie.Need-add-put-negative Inv-loop μ-loop
 add-put-negative c =

@@ -17,10 +17,10 @@ use Rattle.trits.proofs.Reading.{read-past}
 use Rattle.trits.proofs.Parts.{part-back}
 use Rattle.trits.proofs.Matrix.{row-le, part-reads, part-length, part-trits}
 use Rattle.matrix.specs.Linear.{Vector, Matrix}
-use Rattle.elimination.specs.Grid.{Rows, Grid}
+use Rattle.elimination.specs.Grid.{Rows, Grid, putRow}
 use Rattle.elimination.proofs.Cells.{grid-to}
 use Rattle.elimination.proofs.Joins.{row-op}
-use Rattle.keymatrix.specs.Work.{putRow, scaledBy, negativeBy, halvesIn}
+use Rattle.keymatrix.specs.Work.{scaledBy, negativeBy, halvesIn}
 
 -- ---- the products
 

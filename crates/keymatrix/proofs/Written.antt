@@ -19,7 +19,8 @@ use Rattle.trits.proofs.Ends.{upto-in, upto-out, upto-same}
 use Rattle.matrix.specs.Linear.{Vector, Matrix, column}
 use Rattle.elimination.proofs.Cells.{cell}
 use Rattle.signer.specs.Build.{rowOfR}
-use Rattle.keymatrix.specs.Work.{colOf, placedAt, Keyed, rowsOf, readDown, keyOnes, keyTwos}
+use Rattle.keymatrix.specs.Work.{colOf, placedAt, Keyed, readDown, keyOnes, keyTwos}
+use Rattle.elimination.specs.Grid.{rowsOf}
 
 -- ---- one column, trit by trit
 

@@ -1,14 +1,15 @@
 -- The work matrix of a build: it stays in secret places, each row's halves beginning a new word. No rule of the paper: code is tied to it. Assumes nothing.
 use mathlib.Core.Path.{_≡_}
 use mathlib.Core.Bool.{_&&_, cond}
-use mathlib.Core.List.{List, [], _++_}
-use Prim.Native.Nat.{ℕ, zero, suc, _+_, _-_, _*_, _/_, _%_, _<_}
+use mathlib.Core.List.{List}
+use Prim.Native.Nat.{ℕ, _+_, _-_, _*_, _/_, _%_, _<_}
 use lib.Dec.{eqb, leb, ltb}
 use lib.ListN.{getD}
 use Rattle.trits.specs.Trit.{t1, addT, negT, mulT, upTo}
 use Rattle.trits.specs.Planes.{onesOf, twosOf}
 use Rattle.trits.specs.Rows.{matrixAt}
 use Rattle.matrix.specs.Linear.{Vector, Matrix, column}
+use Rattle.elimination.specs.Grid.{rowsOf}
 use Rattle.signer.specs.Build.{rowOfR}
 
 -- ---- columns
@@ -22,10 +23,6 @@ unfoldable pub placedAt : ℕ → ℕ → ℕ → List ℕ → List ℕ → Matr
 placedAt N hw w ones twos i q = matrixAt w ones twos i (colOf N hw q)
 
 -- ---- half-rows: a row of two halves of w words is two rows of w words
-
--- row j has the trits v
-abbrev pub putRow : ℕ → Vector → Matrix → Matrix
-putRow j v A k q = cond (eqb k j) (v q) (A k q)
 
 -- a row of H times 1 + b·c
 abbrev pub scaledBy : Vector → Vector → Vector → Vector
@@ -55,11 +52,6 @@ leftV H c i = negativeBy c (H i)
 -- the key of the order p stands in the matrix A: row i of it in the column at place p(r + i)
 pub record Keyed (r n : ℕ) (H A : Matrix) (p : List ℕ) : Type 0 where
   pub entry : (i c : ℕ) → c < r → r + i < n → rowOfR r n H p i c ≡ A c (getD p (r + i) 0)
-
--- f 0, f 1, .. f (k - 1), one after another
-unfoldable pub rowsOf : (ℕ → List ℕ) → ℕ → List ℕ
-rowsOf f zero = []
-rowsOf f (suc k) = rowsOf f k ++ f k
 
 -- row i of the key, r trits, read down the column at place p(r + i)
 unfoldable pub readDown : ℕ → ℕ → ℕ → Matrix → List ℕ → ℕ → Vector

@@ -1,0 +1,123 @@
+-- The call `draw`: its refusals in the paper's order, and each lent buffer at exit ("One draw", "Turned back by the input", "Turned back by the state"). Assumes nothing.
+use mathlib.Core.Bool.{Bool, not, _||_, cond}
+use mathlib.Core.List.{List}
+use Prim.Native.Nat.{ℕ, _+_, _-_, _*_}
+use lib.Dec.{eqb, ltb}
+use lib.ListN.{length}
+use Rattle.trits.specs.Trit.{upTo}
+use Rattle.trits.specs.Planes.{tritAt, wordsFor, onesOf, twosOf}
+use Rattle.trits.specs.Refusal.{refuse, demand, first, atExit, planesRefusal}
+use Rattle.matrix.specs.Linear.{Vector}
+use Rattle.matrix.specs.Orders.{isOrder}
+use Rattle.signer.specs.declared.sizes.Sizes.{Sizes}
+use Rattle.signer.specs.Sizes.{half, places, dim, ru, rv, codim, gapU, sizesFit}
+use Rattle.signer.specs.Draw.{Choices, drawn, drawRefusal, signature}
+use Rattle.calls.specs.Lent.{Planes, halfWords, secretOf, pairDiffers, secretDiffers, hasZero, secretRefusal, workExit}
+
+-- ---- what is lent
+
+-- the secret, p, y, the V order and trits, the U order and values; then the word, s and the working space as they are at entry
+pub record Lent : Type 0 where
+  pub secret : Planes
+  pub p : List ℕ
+  pub yOnes : List ℕ
+  pub yTwos : List ℕ
+  pub orderV : List ℕ
+  pub vOnes : List ℕ
+  pub vTwos : List ℕ
+  pub orderU : List ℕ
+  pub uOnes : List ℕ
+  pub uTwos : List ℕ
+  pub wordOnes : List ℕ
+  pub wordTwos : List ℕ
+  pub sOnes : List ℕ
+  pub sTwos : List ℕ
+  pub workOnes : List ℕ
+  pub workTwos : List ℕ
+
+-- the syndrome and the choices that it holds
+abbrev pub syndromeOf : Lent → Vector
+syndromeOf i = tritAt (i .yOnes) (i .yTwos)
+
+abbrev pub choicesOf : Lent → Choices
+choicesOf i = record { orderV = i .orderV; tritsV = tritAt (i .vOnes) (i .vTwos); orderU = i .orderU; valuesU = tritAt (i .uOnes) (i .uTwos) }
+
+-- ---- 2: a length differs from what the sizes say
+
+-- the rows of the working space before its last five: as many as the larger of H_U and H_V has
+abbrev pub matrixRows : Sizes → ℕ
+matrixRows z = cond (ltb (ru z) (rv z)) (rv z) (ru z)
+
+-- the words of a working plane
+abbrev pub workWords : Sizes → ℕ
+workWords z = (matrixRows z + 5) * halfWords z
+
+-- the lengths of p, y, the V order, the V trits, the U order, the U values, the word, s and the working space
+unfoldable pub choicesDiffer : Sizes → ℕ → ℕ → ℕ → ℕ → ℕ → ℕ → ℕ → ℕ → ℕ → ℕ → ℕ → ℕ → ℕ → ℕ → ℕ → Bool
+choicesDiffer z p y1 y2 ov v1 v2 ou u1 u2 e1 e2 s1 s2 w1 w2 =
+    not (eqb p (places z))
+    || (pairDiffers (wordsFor (codim z)) y1 y2
+    || (pairDiffers (half z) ov ou
+    || (pairDiffers (wordsFor (z .kv)) v1 v2
+    || (pairDiffers (wordsFor (z .ku)) u1 u2
+    || (pairDiffers (wordsFor (places z)) e1 e2
+    || (pairDiffers (wordsFor (dim z)) s1 s2
+    || pairDiffers (workWords z) w1 w2))))))
+
+-- every length
+unfoldable pub lengthsDiffer : Sizes → Lent → Bool
+lengthsDiffer z i =
+    let k = i .secret in
+    secretDiffers z (length (k .huOnes)) (length (k .huTwos)) (length (k .hvOnes)) (length (k .hvTwos)) (length (k .bOnes)) (length (k .bTwos)) (length (k .cOnes)) (length (k .cTwos))
+    || choicesDiffer z (length (i .p)) (length (i .yOnes)) (length (i .yTwos)) (length (i .orderV)) (length (i .vOnes)) (length (i .vTwos)) (length (i .orderU)) (length (i .uOnes)) (length (i .uTwos))
+    (length (i .wordOnes)) (length (i .wordTwos)) (length (i .sOnes)) (length (i .sTwos)) (length (i .workOnes)) (length (i .workTwos))
+
+-- ---- 3, 4, 7 and 8: the contents, buffer after buffer
+
+-- after the secret: p, y, the V order, the V trits, the U order, the U values, of which those from g on may not be 0, used or not
+unfoldable pub choicesRefusal : Sizes → Lent → ℕ
+choicesRefusal z i =
+    demand (isOrder (places z) (i .p)) 7
+    (first (planesRefusal (i .yOnes) (i .yTwos) 1 (codim z))
+    (demand (isOrder (half z) (i .orderV)) 7
+    (first (planesRefusal (i .vOnes) (i .vTwos) 1 (z .kv))
+    (demand (isOrder (half z) (i .orderU)) 7
+    (first (planesRefusal (i .uOnes) (i .uTwos) 1 (z .ku))
+    (refuse (hasZero (z .ku - gapU z) (λ j. tritAt (i .uOnes) (i .uTwos) (gapU z + j))) 8
+    0))))))
+
+-- ---- the answer: 1, every length, the contents, then 12, 13 and 14
+unfoldable pub drawAnswer : Sizes → Lent → ℕ
+drawAnswer z i =
+    demand (sizesFit z) 1
+    (refuse (lengthsDiffer z i) 2
+    (first (secretRefusal z (i .secret))
+    (first (choicesRefusal z i)
+    (drawRefusal z (secretOf z (i .secret)) (i .p) (syndromeOf i) (choicesOf i)))))
+
+-- ---- each lent buffer at exit
+
+-- the word drawn
+unfoldable pub wordOf : Sizes → Lent → Vector
+wordOf z i = drawn z (secretOf z (i .secret)) (i .p) (syndromeOf i) (choicesOf i)
+
+-- its n trits, in public places
+unfoldable pub wordOnesExit : Sizes → Lent → List ℕ
+wordOnesExit z i = atExit (drawAnswer z i) (onesOf (upTo (places z) (wordOf z i)) (wordsFor (places z))) (i .wordOnes)
+
+unfoldable pub wordTwosExit : Sizes → Lent → List ℕ
+wordTwosExit z i = atExit (drawAnswer z i) (twosOf (upTo (places z) (wordOf z i)) (wordsFor (places z))) (i .wordTwos)
+
+-- its last k trits
+unfoldable pub sOnesExit : Sizes → Lent → List ℕ
+sOnesExit z i = atExit (drawAnswer z i) (onesOf (upTo (dim z) (signature z (wordOf z i))) (wordsFor (dim z))) (i .sOnes)
+
+unfoldable pub sTwosExit : Sizes → Lent → List ℕ
+sTwosExit z i = atExit (drawAnswer z i) (twosOf (upTo (dim z) (signature z (wordOf z i))) (wordsFor (dim z))) (i .sTwos)
+
+-- the working space
+unfoldable pub workOnesExit : Sizes → Lent → List ℕ
+workOnesExit z i = workExit (drawAnswer z i) (i .workOnes)
+
+unfoldable pub workTwosExit : Sizes → Lent → List ℕ
+workTwosExit z i = workExit (drawAnswer z i) (i .workTwos)

@@ -1,0 +1,1 @@
+// One half of a draw, in rows of a grid: the matrix reduced along an order, the supplied trits, and the pivots' values.

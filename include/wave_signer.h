@@ -17,4 +17,16 @@ uint64_t wave_build(wave_sizes, const uint64_t *hu_ones, size_t, const uint64_t 
 static inline size_t wave_build_work(wave_sizes z) {
     return (size_t)(z.n - z.ku - z.kv) * 2 * ((size_t)(z.n / 2 + 63) / 64);
 }
+uint64_t wave_draw(wave_sizes, const uint64_t *hu_ones, size_t, const uint64_t *hu_twos, size_t, const uint64_t *hv_ones, size_t, const uint64_t *hv_twos, size_t,
+                   const uint64_t *b_ones, size_t, const uint64_t *b_twos, size_t, const uint64_t *c_ones, size_t, const uint64_t *c_twos, size_t,
+                   const uint16_t *p, size_t, const uint64_t *y_ones, size_t, const uint64_t *y_twos, size_t,
+                   const uint16_t *v_order, size_t, const uint64_t *v_ones, size_t, const uint64_t *v_twos, size_t,
+                   const uint16_t *u_order, size_t, const uint64_t *u_ones, size_t, const uint64_t *u_twos, size_t,
+                   uint64_t *word_ones, size_t, uint64_t *word_twos, size_t, uint64_t *s_ones, size_t, uint64_t *s_twos, size_t,
+                   uint64_t *work_ones, size_t, uint64_t *work_twos, size_t);
+
+static inline size_t wave_draw_work(wave_sizes z) {
+    uint64_t more = z.ku < z.kv ? z.ku : z.kv;
+    return (size_t)(z.n / 2 - more + 5) * ((size_t)(z.n / 2 + 63) / 64);
+}
 #endif

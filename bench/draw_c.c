@@ -1,0 +1,115 @@
+/* One draw in plain C: x from y, the word of V, the word of U, the halves, the weight, the release. Its input is taken to be right, but for the ranks and the weight. */
+#include "draw_c.h"
+#include "grid_c.h"
+
+size_t c_weight;
+
+static void put(uint64_t *o, uint64_t *t, size_t q, int x) {
+    uint64_t bit = (uint64_t)1 << q % 64;
+    o[q / 64] &= ~bit;
+    t[q / 64] &= ~bit;
+    if (x == 1) o[q / 64] |= bit;
+    if (x == 2) t[q / 64] |= bit;
+}
+
+static int dot(const uint64_t *ao, const uint64_t *at2, const uint64_t *bo, const uint64_t *bt, size_t w) {
+    uint64_t ones = 0, twos = 0;
+    for (size_t k = 0; k < w; k++) {
+        ones += __builtin_popcountll((ao[k] & bo[k]) | (at2[k] & bt[k]));
+        twos += __builtin_popcountll((ao[k] & bt[k]) | (at2[k] & bo[k]));
+    }
+    return (ones + 2 * twos) % 3;
+}
+
+static size_t weight(const uint64_t *o, const uint64_t *t, size_t w) {
+    size_t sum = 0;
+    for (size_t k = 0; k < w; k++) sum += __builtin_popcountll(o[k] | t[k]);
+    return sum;
+}
+
+/* the matrix is copied to the front and eliminated at the first places of the order */
+static size_t reduce(uint64_t *o, uint64_t *t, const uint64_t *ho, const uint64_t *ht, size_t r, size_t w, const uint16_t *order, size_t first) {
+    size_t count = 0;
+    memcpy(o, ho, 8 * r * w);
+    memcpy(t, ht, 8 * r * w);
+    for (size_t i = 0; i < first; i++) count += step(o, t, r, w, order[i], count);
+    return count;
+}
+
+/* the pivots take their values: row c times z */
+static void solve(uint64_t *o, uint64_t *t, size_t r, size_t w, const uint16_t *order, size_t first, uint64_t *zo, uint64_t *zt, uint64_t *eo, uint64_t *et) {
+    add(zo, zt, et, eo, w);
+    for (size_t i = 0, c = 0; i < first && c < r; i++)
+        if (at(o, t, 64 * c * w + order[i])) {
+            put(eo, et, order[i], dot(o + c * w, t + c * w, zo, zt, w));
+            c++;
+        }
+}
+
+static uint64_t make(wave_sizes z, const uint64_t *hu1, const uint64_t *hu2, const uint64_t *hv1, const uint64_t *hv2, const uint64_t *b1, const uint64_t *b2,
+                     const uint64_t *c1, const uint64_t *c2, const uint16_t *p, const uint64_t *y1, const uint64_t *y2, const uint16_t *vo, const uint64_t *v1,
+                     const uint64_t *v2, const uint16_t *uo, const uint64_t *u1, const uint64_t *u2, uint64_t *o, uint64_t *t, size_t m) {
+    size_t half = z.n / 2, w = (half + 63) / 64, ru = half - z.ku, rv = half - z.kv;
+    uint64_t *lo = o + m * w, *lt = t + m * w, *ro = lo + w, *rt = lt + w, *to = ro + w, *tt = rt + w, *Vo = to + w, *Vt = tt + w, *Uo = Vo + w, *Ut = Vt + w;
+    for (size_t i = 0; i < ru + rv; i++) {
+        size_t q = p[i];
+        if (q < half) put(lo, lt, q, at(y1, y2, i));
+        else put(ro, rt, q - half, at(y1, y2, i));
+    }
+    memcpy(to, lo, 8 * w), memcpy(tt, lt, 8 * w);
+    mul(to, tt, c1, c2, w);
+    add(ro, rt, tt, to, w);
+    memcpy(to, ro, 8 * w), memcpy(tt, rt, 8 * w);
+    mul(to, tt, b1, b2, w);
+    add(lo, lt, tt, to, w);
+
+    if (reduce(o, t, hv1, hv2, rv, w, vo, rv + z.g) != rv) return 12;
+    for (size_t i = 0, c = 0; i < half; i++) {
+        if (c < rv && at(o, t, 64 * c * w + vo[i])) c++;
+        else put(Vo, Vt, vo[i], at(v1, v2, i - c));
+    }
+    solve(o, t, rv, w, vo, rv + z.g, ro, rt, Vo, Vt);
+
+    if (reduce(o, t, hu1, hu2, ru, w, uo, ru + z.g) != ru) return 13;
+    for (size_t i = 0, c = 0; i < ru + z.g; i++) {
+        if (c < ru && at(o, t, 64 * c * w + uo[i])) c++;
+        else put(Uo, Ut, uo[i], at(u1, u2, i - c));
+    }
+    for (size_t i = ru + z.g; i < half; i++) {
+        size_t q = uo[i];
+        int v = at(Vo, Vt, q);
+        put(Uo, Ut, q, v ? (at(c1, c2, q) + 2 * at(b1, b2, q)) * v % 3 : at(u1, u2, i - ru));
+    }
+    solve(o, t, ru, w, uo, ru + z.g, lo, lt, Uo, Ut);
+
+    memcpy(to, Vo, 8 * w), memcpy(tt, Vt, 8 * w);
+    mul(to, tt, b1, b2, w);
+    add(Uo, Ut, to, tt, w);
+    memcpy(to, Uo, 8 * w), memcpy(tt, Ut, 8 * w);
+    mul(to, tt, c1, c2, w);
+    add(Vo, Vt, to, tt, w);
+    c_weight = weight(Uo, Ut, w) + weight(Vo, Vt, w);
+    return c_weight == z.w ? 0 : 14;
+}
+
+uint64_t c_draw(wave_sizes z, const uint64_t *hu1, const uint64_t *hu2, const uint64_t *hv1, const uint64_t *hv2, const uint64_t *b1, const uint64_t *b2,
+                const uint64_t *c1, const uint64_t *c2, const uint16_t *p, const uint64_t *y1, const uint64_t *y2, const uint16_t *vo, const uint64_t *v1,
+                const uint64_t *v2, const uint16_t *uo, const uint64_t *u1, const uint64_t *u2, uint64_t *word1, uint64_t *word2, uint64_t *s1, uint64_t *s2,
+                uint64_t *o, uint64_t *t) {
+    size_t half = z.n / 2, w = (half + 63) / 64, ru = half - z.ku, rv = half - z.kv, m = ru < rv ? rv : ru, k = z.ku + z.kv, all = 8 * wave_draw_work(z);
+    uint64_t *Vo = o + (m + 3) * w, *Vt = t + (m + 3) * w, *Uo = Vo + w, *Ut = Vt + w;
+    memset(o, 0, all), memset(t, 0, all);
+    uint64_t answer = make(z, hu1, hu2, hv1, hv2, b1, b2, c1, c2, p, y1, y2, vo, v1, v2, uo, u1, u2, o, t, m);
+    if (!answer) {
+        memset(word1, 0, 8 * ((z.n + 63) / 64)), memset(word2, 0, 8 * ((z.n + 63) / 64));
+        memset(s1, 0, 8 * ((k + 63) / 64)), memset(s2, 0, 8 * ((k + 63) / 64));
+        for (size_t i = 0; i < z.n; i++) {
+            size_t q = p[i];
+            int x = q < half ? at(Uo, Ut, q) : at(Vo, Vt, q - half);
+            put(word1, word2, i, x);
+            if (i >= z.n - k) put(s1, s2, i - (z.n - k), x);
+        }
+    }
+    memset(o, 0, all), memset(t, 0, all);
+    return answer;
+}

@@ -1,0 +1,28 @@
+-- By the test: the sum, or the sum less n.
+-- Assumes nothing.
+use mathlib.Core.Logic.{inl, inr}
+use native.Mathlib.Omega.{arith}
+use borrow.Author.Needs.{needs}
+use Rattle.samples.proofs.turn.Statement.{statement}
+use Rattle.samples.proofs.turn.Tie as tie
+
+add-if1 : tie.Need-add-if1
+add-if1 c = search needs
+
+add-result : tie.Need-add-result
+add-result c = search needs
+
+returns : tie.Need-returns
+returns c = (omega arith, inl (omega arith))
+
+add-result-2 : tie.Need-add-result-2
+add-result-2 c = search needs
+
+sub-result : tie.Need-sub-result
+sub-result c = search needs
+
+returns-2 : tie.Need-returns-2
+returns-2 c = (omega arith, inr (omega arith))
+
+pub turn-spec : {M : Type 1} → statement M
+turn-spec = tie.close (tie.spec add-if1 add-result returns add-result-2 sub-result returns-2)

@@ -174,6 +174,127 @@ def show(pair):
         print(name + "".join(f" {x}" for x in ws), end="")
 
 
+# ---- the draw
+
+def secret_places(p, trits):
+    """Public place i is secret place p(i)."""
+    out = [0] * len(p)
+    for i, t in enumerate(trits):
+        out[p[i]] = t
+    return out
+
+
+def halves(N, b, c, x):
+    l, r = x[:N], x[N:]
+    return [((1 + b[i] * c[i]) * l[i] - b[i] * r[i]) % 3 for i in range(N)], [(r[i] - c[i] * l[i]) % 3 for i in range(N)]
+
+
+def solved(H, x, pivot, word):
+    """The word with the pivots' values for which H e is H x."""
+    goal = [(a - b) % 3 for a, b in zip(times(H, x), times(H, word))]
+    for q, t in zip(pivot, solve([column(H, q) for q in pivot], goal)):
+        word[q] = t
+    return word
+
+
+def drawn(z, secret, p, y, v_order, v, u_order, u):
+    """The refusal 12, 13 or 14, or the word in public places."""
+    n, ku, kv, g, w = z
+    N = n // 2
+    hu, hv, b, c = secret_of(z, secret)
+    xu, xv = halves(N, b, c, secret_places(p, y))
+    pivot = pivots(hv, v_order[:N - kv + g])
+    if len(pivot) < N - kv:
+        return 12, None
+    ev, left = [0] * N, iter(v)
+    for q in v_order:
+        if q not in pivot:
+            ev[q] = next(left)
+    ev = solved(hv, xv, pivot, ev)
+    pivot = pivots(hu, u_order[:N - ku + g])
+    if len(pivot) < N - ku:
+        return 13, None
+    eu, left = [0] * N, iter(u)
+    for q in u_order[:N - ku + g]:
+        if q not in pivot:
+            eu[q] = next(left)
+    for q in u_order[N - ku + g:]:
+        value = next(left)
+        eu[q] = (c[q] - b[q]) * ev[q] % 3 if ev[q] else value
+    eu = solved(hu, xu, pivot, eu)
+    el = [(eu[i] + b[i] * ev[i]) % 3 for i in range(N)]
+    word = el + [(c[i] * el[i] + ev[i]) % 3 for i in range(N)]
+    return 14 if sum(t != 0 for t in word) != w else 0, [word[q] for q in p]
+
+
+def draw_lengths(z):
+    n, ku, kv = z[:3]
+    N, k = n // 2, ku + kv
+    return [n] + [words_for(n - k)] * 2 + [N] + [words_for(kv)] * 2 + [N] + [words_for(ku)] * 2 + [words_for(n)] * 2 + [words_for(k)] * 2 + [(N - min(ku, kv) + 5) * words_for(N)] * 2
+
+
+def choices_refusal(z, p, y, v_order, v, u_order, u):
+    n, ku, kv, g, w = z
+    if no_order(p):
+        return 7
+    r = planes_refusal(*y, 1, n - ku - kv)
+    if r or no_order(v_order):
+        return r or 7
+    r = planes_refusal(*v, 1, kv)
+    if r or no_order(u_order):
+        return r or 7
+    return planes_refusal(*u, 1, ku) or (8 if 0 in rows_of(*u, 1, ku)[0][g:] else 0)
+
+
+def draw_code(z, secret, p, y, v_order, v, u_order, u, word, s, work):
+    """The answer, and the word in public places where there is one."""
+    n, ku, kv, g, w = z
+    if not sizes_fit(z):
+        return 1, None
+    if [len(x) for x in secret + [p] + y + [v_order] + v + [u_order] + u + word + s + work] != secret_lengths(z) + draw_lengths(z):
+        return 2, None
+    code = secret_refusal(z, secret) or choices_refusal(z, p, y, v_order, v, u_order, u)
+    if code:
+        return code, None
+    return drawn(z, secret, p, rows_of(*y, 1, n - ku - kv)[0], v_order, rows_of(*v, 1, kv)[0], u_order, rows_of(*u, 1, ku)[0])
+
+
+def draw(z, secret, p, y, v_order, v, u_order, u, word, s, work):
+    n, ku, kv, g, w = z
+    code, e = draw_code(z, secret, p, y, v_order, v, u_order, u, word, s, work)
+    if code == 0:
+        word, s = planes([e]), planes([e[n - ku - kv:]])
+    if code == 0 or code > 8:
+        work = [[0] * len(x) for x in work]
+    print("draw", *z, "answers", code, end=", word")
+    show(word)
+    print(", s", end="")
+    show(s)
+    print(", work", end="")
+    show(work)
+    print()
+
+
+# ---- the words of demand 3
+
+def meeting(z, secret, p, R, y):
+    """The words that meet the terms, for n = 4, as numbers in base 3, the first place first."""
+    n, ku, kv, g, w = z
+    N, k = n // 2, ku + kv
+    hu = secret_of(z, secret)[0]
+    out = []
+    for number in range(3 ** n):
+        e = [number // 3 ** i % 3 for i in range(n)]
+        t = e[n - k:]
+        if sum(x != 0 for x in e) != w or any((e[j] + sum(t[i] * R[i][j] for i in range(k))) % 3 != y[j] for j in range(n - k)):
+            continue
+        f = secret_places(p, e)
+        both = [j for j in range(N) if f[j] and f[j + N]]
+        if any(rank([column(hu, q) for q in range(N) if q not in pairs]) == N - ku for pairs in itertools.combinations(both, ku - g)):
+            out.append(number)
+    return out
+
+
 # ---- the made-up rows and orders of the programs
 
 def sample_rows(m, rows, x):
@@ -237,5 +358,64 @@ def build_cases():
           sample_order(132, 35, 100), [9] * 132, [[9] * 122, [8] * 122], [[7] * 284, [6] * 284])
 
 
+def small_draw(z, secret, p, y, v_order, v, u_order, u):
+    draw(z, secret, p, y, v_order, v, u_order, u, [[9], [8]], [[5], [4]], [[7] * 6, [6] * 6])
+
+
+def digit(t):
+    return planes([[t]])
+
+
+def wide_draw(z, first, g, v_order, u_order, weight):
+    """A draw at N = 66, with the rows made up from `first` on."""
+    n, ku, kv = z
+    secret = sample_rows(66, 66 - ku, first) + sample_rows(66, 66 - kv, first + 1) + sample_rows(66, 1, first + 2) + [[6148914691236517205, 1], [12297829382473034410, 2]]
+    u = [[0x5A5A5A5A5A5A5A5A & (1 << ku) - 1], [0xA5A5A5A5A5A5A5A5 & (1 << ku) - 1]]
+    words, k = (66 - min(ku, kv) + 5) * 2, ku + kv
+    draw((n, ku, kv, g, weight), secret, sample_order(n, 25, 7), sample_rows(n - k, 1, first + 3), v_order, sample_rows(kv, 1, first + 4), u_order, u,
+         [[9] * 3, [8] * 3], [[5] * words_for(k), [4] * words_for(k)], [[7] * words, [6] * words])
+
+
+def draw_cases():
+    print("what the draw answers and leaves; expected by tests/signer_cases.py, from the paper's rules on lists of trits")
+    y, other, up, down = [[1], [2]], [1, 3, 0, 2], [0, 1], [1, 0]
+    # the paper's draws, and the same under a p that is not its own inverse
+    for p in (FIRST, other):
+        for w, v, u in ((4, 2, 1), (4, 0, 2), (4, 1, 1), (2, 0, 1), (4, 2, 2), (3, 1, 2)):
+            small_draw((4, 1, 1, 0, w), PAPER, p, y, up, digit(v), up, digit(u))
+        small_draw((4, 1, 1, 1, 4), PAPER, p, y, down, digit(2), up, digit(0))
+        small_draw((4, 1, 1, 1, 3), PAPER, p, y, up, digit(0), down, digit(0))
+    # sizes
+    for z in ((2, 1, 1, 0, 1), (16386, 1, 1, 0, 4), (4, 1, 1, 2, 4), (4, 1, 1, 0, 5), (16384, 8191, 8191, 8191, 16384)):
+        small_draw(z, PAPER, FIRST, y, up, digit(2), up, digit(1))
+    # the contents of each buffer, and two faults at once
+    good = [PAPER, FIRST, y, up, digit(2), up, digit(1)]
+    faults = [(0, altered(PAPER, 1, [1])), (0, altered(PAPER, 2, [5])), (0, altered(PAPER, 5, [2])), (0, altered(PAPER, 7, [6])), (0, altered(PAPER, 6, [0])), (1, [0, 1, 2, 2]), (1, [0, 1, 2, 9]),
+              (2, [[1], [3]]), (2, [[1], [6]]), (3, [0, 0]), (3, [0, 2]), (4, [[1], [1]]), (4, [[0], [2]]), (5, [1, 1]), (5, [7, 0]), (6, [[1], [1]]), (6, [[2], [0]]), (6, [[0], [0]])]
+    for at, bad in faults:
+        small_draw(SMALL, *altered(good, at, bad))
+    small_draw(SMALL, *altered(altered(good, 6, [[0], [0]]), 3, [1, 1]))
+    small_draw(SMALL, *altered(altered(good, 1, [0, 0, 0, 0]), 2, [[4], [4]]))
+    # the first part lacks rank in V, in U, and in both
+    small_draw(SMALL, PAPER[:2] + [[2], [0]] + PAPER[4:], *good[1:])
+    small_draw(SMALL, [[2], [0]] + PAPER[2:], *good[1:])
+    small_draw(SMALL, [[2], [0], [2], [0]] + PAPER[4:], *good[1:])
+    small_draw((4, 1, 1, 1, 3), [[2], [0], [2], [0]] + PAPER[4:], *good[1:])
+    # rows of more than one word, with gaps from 0 to k_U
+    for z, first, g, weight in WIDE:
+        wide_draw(z, first, g, sample_order(66, 5, 3), sample_order(66, 7, 60), weight)
+    # all words that draws release at n = 4
+    for start in (FIRST, [1, 2, 0, 3]):
+        _, p, R = built(SMALL, PAPER, start)
+        for syndrome in range(9):
+            for g in range(2):
+                for w in range(1, 5):
+                    z = (4, 1, 1, g, w)
+                    print("released", *z, "under", *p, "for", syndrome % 3, syndrome // 3, end=":")
+                    print("".join(f" {x}" for x in meeting(z, PAPER, p, R, [syndrome % 3, syndrome // 3])))
+
+
+WIDE = [((132, 64, 63), 41, 0, 132), ((132, 64, 63), 41, 1, 132), ((132, 30, 31), 51, 0, 102), ((132, 30, 31), 51, 7, 102), ((132, 30, 31), 51, 7, 103), ((132, 30, 31), 51, 30, 95)]
+
 if __name__ == "__main__":
-    {"build": build_cases}[sys.argv[1]]()
+    {"build": build_cases, "draw": draw_cases}[sys.argv[1]]()

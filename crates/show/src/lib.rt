@@ -1,5 +1,7 @@
 // What the programs of cases print: numbers, words, bytes and places, each after a blank.
 ghost use mathlib.Core.Path.{_≡_};
+ghost use Prim.Native.Nat.{_*_, _≤_};
+ghost use lib.ListN.{length};
 use libc::STDOUT_FILENO;
 use signer::sizes::Sizes;
 use trits::refusal::Outcome;
@@ -63,6 +65,17 @@ pub fn planes(ones: &[u64], twos: &[u64]) {
     words(ones);
     io::write_all(STDOUT_FILENO, b", twos");
     words(twos);
+}
+
+// The first m trits of a row as digits.
+pub fn digits(ones: &[u64], twos: &[u64], m: usize)
+    requires { ⌜ (length (now twos) ≡ length (now ones)) × (m ≤ 64 * length (now ones)) ⌝ }
+{
+    let mut i = 0;
+    while i < m {
+        io::print_decimal(STDOUT_FILENO, byte(trits::places::trit_at(ones, twos, i)));
+        i += 1;
+    }
 }
 
 // The sizes of a call.

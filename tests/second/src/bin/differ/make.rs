@@ -137,6 +137,17 @@ impl Shape {
         Shape { n, ku, kv, g }
     }
 
+    /// Few rows of many words.
+    pub fn wide(rng: &mut Rng, half: usize) -> Shape {
+        let (ku, kv) = (half - rng.between(1, 8), half - rng.between(1, 8));
+        let g = match rng.below(3) {
+            0 => 0,
+            1 => ku.min(kv),
+            _ => rng.between(0, ku.min(kv)),
+        };
+        Shape { n: 2 * half, ku, kv, g }
+    }
+
     fn numbers(&self, w: usize) -> Vec<u64> {
         vec![self.n as u64, self.ku as u64, self.kv as u64, self.g as u64, w as u64]
     }

@@ -11,6 +11,8 @@ use second::planes::words;
 
 const TRITS: [usize; 34] =
     [0, 1, 2, 3, 4, 5, 6, 9, 10, 11, 59, 60, 61, 62, 63, 64, 65, 66, 126, 127, 128, 129, 130, 254, 255, 256, 257, 258, 319, 320, 321, 4246, 16383, 16384];
+/// Lengths of rows of 5 to 33 words, at the edges of words.
+const WIDE: [usize; 16] = [319, 320, 321, 384, 385, 447, 511, 512, 513, 575, 640, 641, 703, 1023, 1025, 2111];
 const PLACES: [usize; 11] = [4, 6, 62, 64, 66, 126, 128, 130, 254, 256, 258];
 
 /// The packing calls: every fault at every length, pairs at some.
@@ -68,6 +70,16 @@ pub fn held_key(c: &mut Comparer) {
             let case = make::check(&mut c.rng, n, k);
             c.singles(&case);
             c.content_pairs(&case);
+        }
+    }
+    for m in WIDE {
+        let k = 2 * c.rng.between(1, 5) + m % 2;
+        for (n, k) in [(m + k, k), (m + k, m)] {
+            let stored = c.rng.below(k);
+            let case = make::store(&mut c.rng, n, k, stored);
+            c.singles(&case);
+            let case = make::check(&mut c.rng, n, k);
+            c.singles(&case);
         }
     }
     for (n, k) in [(4, 2), (6, 3), (66, 2), (130, 65), (130, 66)] {
@@ -130,9 +142,10 @@ pub fn editor(c: &mut Comparer) {
             }
         }
     }
-    // the largest n, with few rows; every order is long
-    for (ku, kv, g) in [(8191, 8191, 8191), (8191, 8190, 0), (8190, 8191, 77)] {
-        let shape = Shape { n: 16384, ku, kv, g };
+    // few rows of many words, up to the largest n
+    let mut wide: Vec<Shape> = WIDE.iter().map(|m| Shape::wide(&mut c.rng, *m)).collect();
+    wide.extend([(8191, 8191, 8191), (8191, 8190, 0), (8190, 8191, 77)].map(|(ku, kv, g)| Shape { n: 16384, ku, kv, g }));
+    for shape in wide {
         let case = make::build(&mut c.rng, &shape);
         c.singles(&case);
         if draws {
@@ -280,20 +293,27 @@ pub fn round_trips(c: &mut Comparer, long: bool) {
 }
 
 /// A case by chance: any call, mostly small sizes, sound or with up to three faults.
-fn by_chance(c: &mut Comparer, most: usize) {
+fn by_chance(c: &mut Comparer) {
     let call = c.rng.pick(&CALLS);
     if !c.archives.has(call) {
         return;
     }
     let edge = c.rng.pick(&PLACES);
-    let n = match c.rng.below(8) {
-        0 if most >= 258 => edge,
-        1 => 2 * c.rng.between(2, most / 2),
-        _ => 2 * c.rng.between(2, 20),
+    let wide = c.rng.one_in(10);
+    let half = match c.rng.below(8) {
+        _ if wide => c.rng.between(300, 1500),
+        0 => edge / 2,
+        1 => c.rng.between(2, 130),
+        _ => c.rng.between(2, 20),
     };
-    let k = c.rng.between(2, n - 2);
-    let m = if c.rng.one_in(4) { c.rng.between(0, 700) } else { c.rng.between(0, 130) };
-    let shape = Shape::random(&mut c.rng, n);
+    let n = 2 * half;
+    let k = match c.rng.below(2) {
+        0 if wide => c.rng.between(2, 10),
+        1 if wide => n - c.rng.between(2, 10),
+        _ => c.rng.between(2, n - 2),
+    };
+    let m = if wide { half } else { c.rng.between(0, 130) };
+    let shape = if wide { Shape::wide(&mut c.rng, half) } else { Shape::random(&mut c.rng, n) };
     let case = match call {
         Call::Pack => make::pack(&mut c.rng, m),
         Call::Unpack => make::unpack(&mut c.rng, m),
@@ -344,6 +364,6 @@ fn by_chance(c: &mut Comparer, most: usize) {
 pub fn chance(c: &mut Comparer, count: u64) {
     let end = c.total() + count;
     while c.total() < end {
-        by_chance(c, 260);
+        by_chance(c);
     }
 }

@@ -30,7 +30,7 @@ fn number(rng: &mut Rng, near: u64) -> Vec<u8> {
         2 => format!("0{near}").into_bytes(),
         3 => b"".to_vec(),
         4 => format!("+{near}").into_bytes(),
-        5 => format!("{near}x").into_bytes(),
+        5 => format!("{near}{}", rng.pick(&["x", "/", ":", "\0"])).into_bytes(),
         6 => rng.pick(&["0", "00", "-1", "1e1", " 4", "4 "]).as_bytes().to_vec(),
         7 => rng.pick(&["255", "256", "257", "65535", "65536", "65537", "16384", "16386"]).as_bytes().to_vec(),
         8 => rng.pick(&["4294967296", "4294967300", "18446744073709551615", "18446744073709551616", "18446744073709551620"]).as_bytes().to_vec(),
@@ -95,7 +95,7 @@ fn damage(rng: &mut Rng, lines: &mut Vec<Vec<u8>>) {
             _ => {
                 let line = &mut lines[i];
                 let at = rng.between(0, line.len());
-                let byte = rng.pick(b"\t\t\r\n 0123PKS\0x~-.\x80\xff");
+                let byte = rng.pick(b"\t\t\r\n 0123/:PKS\0x~-.\x80\xff");
                 match rng.below(3) {
                     0 => line.insert(at, byte),
                     1 if at < line.len() => line[at] = byte,
@@ -155,6 +155,20 @@ fn listed() -> Vec<Vec<u8>> {
         lines.push(format!("K\t{y}\t"));
         for s in ["", "1", "11", "112", "31"] {
             lines.push(format!("S\t7\t12\t{y}\t{s}"));
+        }
+    }
+    // a field too many or too few; bytes just below and above the digits, in each place of each field
+    for sound in ["P\t7\t4\t2\t4", "K\t02", "S\t7\t12\t12\t11"] {
+        for end in ["\t", "\t1", "\t\t", "\tx", " ", "\r", "\0"] {
+            lines.push(format!("{sound}{end}"));
+            lines.push(format!("{end}{sound}"));
+        }
+        lines.push(sound.rsplit_once('\t').unwrap().0.to_string());
+        for at in 0..sound.len() {
+            for byte in ["/", ":", "3", "9", "\t", "\0", ""] {
+                lines.push(format!("{}{byte}{}", &sound[..at], &sound[at..]));
+                lines.push(format!("{}{byte}{}", &sound[..at], &sound[at + 1..]));
+            }
         }
     }
     for long in [1019, 1020, 1021, 1022, 1023, 1024, 1025, 2048, 5000] {

@@ -1,0 +1,369 @@
+//! Which cases are run: sizes at every edge with every fault, pairs of faults, round trips, and cases by chance.
+
+use crate::case::{Buffer, Call, Case, CALLS};
+use crate::compare::Comparer;
+use crate::damage::{faults, Fault};
+use crate::make::{self, SecretPlanes, Shape};
+use crate::rng::Rng;
+use second::algebra::weight;
+use second::packing::{bytes, packed};
+use second::planes::words;
+
+const TRITS: [usize; 34] =
+    [0, 1, 2, 3, 4, 5, 6, 9, 10, 11, 59, 60, 61, 62, 63, 64, 65, 66, 126, 127, 128, 129, 130, 254, 255, 256, 257, 258, 319, 320, 321, 4246, 16383, 16384];
+/// Lengths of rows of 5 to 33 words, at the edges of words.
+const WIDE: [usize; 16] = [319, 320, 321, 384, 385, 447, 511, 512, 513, 575, 640, 641, 703, 1023, 1025, 2111];
+const PLACES: [usize; 11] = [4, 6, 62, 64, 66, 126, 128, 130, 254, 256, 258];
+
+/// The packing calls: every fault at every length, pairs at some.
+pub fn packing(c: &mut Comparer) {
+    for m in TRITS {
+        for make in [make::pack, make::unpack, make::stream] {
+            let case = make(&mut c.rng, m);
+            c.singles(&case);
+        }
+    }
+    for m in [0, 1, 5, 63, 64, 65, 128] {
+        for make in [make::pack, make::unpack, make::stream] {
+            let case = make(&mut c.rng, m);
+            c.pairs(&case);
+        }
+    }
+}
+
+/// Beginning a key: numbers at every edge, over old states of every kind.
+pub fn beginning(c: &mut Comparer) {
+    let old = [[0; 6], [1, 7, 4, 2, 4, 2], [1, 9, 256, 100, 30, 17], [2, 300, 5, 0, 0, u64::MAX], [u64::MAX; 6]];
+    for n in [0, 1, 2, 3, 4, 5, 6, 7, 64, 8492, 8576, 16382, 16383, 16384, 16385, 16386, 65536, 1 << 32 | 4, u64::MAX - 1, u64::MAX] {
+        for k in [0, 1, 2, 3, n.wrapping_sub(3), n.wrapping_sub(2), n.wrapping_sub(1), n, 1 << 32 | 2, u64::MAX] {
+            for w in [0, 1, n.wrapping_sub(1), n, n.wrapping_add(1), 1 << 32 | 1, u64::MAX] {
+                for number in [0, 1, 255, 256, 257, 1 << 32, u64::MAX] {
+                    let mut numbers = c.rng.pick(&old).to_vec();
+                    numbers.extend([number, n, k, w]);
+                    c.compare(&Case::new(Call::Begin, numbers, vec![]), &[]);
+                }
+            }
+        }
+    }
+}
+
+/// k at its edges, odd, even, and different from n-k.
+fn some_k(rng: &mut Rng, n: usize) -> Vec<usize> {
+    let mut out = vec![2, n - 2, n / 2, n / 2 + 1, n / 2 - 1, rng.between(2, n - 2)];
+    for words in [64, 128, 192] {
+        out.extend([words, words + 1, n.saturating_sub(words), n.saturating_sub(words + 1)]);
+    }
+    out.retain(|k| (2..=n - 2).contains(k));
+    out.sort();
+    out.dedup();
+    out
+}
+
+/// Rows and checks: every fault at sizes of every edge, pairs at some.
+pub fn held_key(c: &mut Comparer) {
+    for n in PLACES {
+        for k in some_k(&mut c.rng, n) {
+            for stored in [0, k / 2, k - 1] {
+                let case = make::store(&mut c.rng, n, k, stored);
+                c.singles(&case);
+            }
+            let case = make::check(&mut c.rng, n, k);
+            c.singles(&case);
+            c.content_pairs(&case);
+        }
+    }
+    for m in WIDE {
+        let k = 2 * c.rng.between(1, 5) + m % 2;
+        for (n, k) in [(m + k, k), (m + k, m)] {
+            let stored = c.rng.below(k);
+            let case = make::store(&mut c.rng, n, k, stored);
+            c.singles(&case);
+            let case = make::check(&mut c.rng, n, k);
+            c.singles(&case);
+        }
+    }
+    for (n, k) in [(4, 2), (6, 3), (66, 2), (130, 65), (130, 66)] {
+        let case = make::store(&mut c.rng, n, k, k - 1);
+        c.pairs(&case);
+        let case = make::check(&mut c.rng, n, k);
+        c.pairs(&case);
+    }
+}
+
+/// The published sizes and the largest: checks and rows, the work of each verdict included.
+pub fn large_keys(c: &mut Comparer, thorough: bool) {
+    for (n, k) in [(8492, 4246), (8576, 4288), (16384, 2), (16384, 16382), (16384, 8191)] {
+        let case = make::store(&mut c.rng, n, k, k - 1);
+        c.singles(&case);
+        let case = make::check(&mut c.rng, n, k);
+        if thorough || n < 16384 || k == 2 {
+            c.singles(&case);
+        } else {
+            let list = faults(&case);
+            for (fault, _) in list.iter().filter(|(f, refusal)| *refusal > 2 || matches!(f, Fault::Longer { .. } | Fault::Shorter { .. })).step_by(3) {
+                c.damaged(&case, &[*fault]);
+            }
+        }
+        // the weight that comes out is the one asked for
+        let mut case = make::check(&mut c.rng, n, k);
+        let weight = c.compare(&case, &[]).answer[2];
+        case.numbers[4] = weight.max(1);
+        c.compare(&case, &[]);
+    }
+}
+
+/// Sizes of secrets at this n: k at its edges, odd, even, g = 0 and g as large as it may be, g = k_U among them.
+fn shapes(rng: &mut Rng, n: usize) -> Vec<Shape> {
+    let most = n / 2 - 1;
+    let mut out = vec![];
+    for (ku, kv) in [(1, 1), (1, most), (most, 1), (most, most), (rng.between(1, most), rng.between(1, most))] {
+        for g in [0, ku.min(kv), rng.between(0, ku.min(kv))] {
+            out.push(Shape { n, ku, kv, g });
+        }
+    }
+    out.push(Shape { n, ku: 1, kv: most, g: 1 });
+    out
+}
+
+/// Builds and draws: every fault at sizes of every edge, pairs at some.
+pub fn editor(c: &mut Comparer) {
+    let draws = c.archives.has(Call::Draw);
+    for n in PLACES {
+        for (i, shape) in shapes(&mut c.rng, n).into_iter().enumerate() {
+            let mut list = vec![make::build(&mut c.rng, &shape)];
+            if draws {
+                list.push(make::draw(&mut c.rng, &shape));
+            }
+            for case in list {
+                c.singles(&case);
+                if i % 3 == 2 {
+                    c.content_pairs(&case);
+                }
+            }
+        }
+    }
+    // few rows of many words, up to the largest n
+    let mut wide: Vec<Shape> = WIDE.iter().map(|m| Shape::wide(&mut c.rng, *m)).collect();
+    wide.extend([(8191, 8191, 8191), (8191, 8190, 0), (8190, 8191, 77)].map(|(ku, kv, g)| Shape { n: 16384, ku, kv, g }));
+    for shape in wide {
+        let case = make::build(&mut c.rng, &shape);
+        c.singles(&case);
+        if draws {
+            let case = make::draw(&mut c.rng, &shape);
+            c.singles(&case);
+        }
+    }
+    for (n, ku, kv, g) in [(4, 1, 1, 0), (6, 1, 2, 1), (8, 3, 2, 1), (130, 32, 31, 5)] {
+        let shape = Shape { n, ku, kv, g };
+        let case = make::build(&mut c.rng, &shape);
+        c.pairs(&case);
+        if draws {
+            let case = make::draw(&mut c.rng, &shape);
+            c.pairs(&case);
+        }
+    }
+}
+
+/// Build, pack, store, draw until a word is released, check: always yes. Then one trit is changed. True if a word was released.
+pub fn round_trip(c: &mut Comparer, shape: &Shape) -> bool {
+    let (n, k, m) = (shape.n, shape.ku + shape.kv, shape.n - shape.ku - shape.kv);
+    let (secret, built) = loop {
+        let secret = SecretPlanes::random(&mut c.rng, shape);
+        let case = make::build_of(&mut c.rng, shape, &secret, 1);
+        let built = c.compare(&case, &["round trip".to_string()]);
+        if built.refusal() == 0 {
+            break (secret, built);
+        }
+    };
+    let p = built.buffers[9].order().to_vec();
+
+    // each row of the released key is packed
+    let mut packed_rows = vec![];
+    for row in 0..k {
+        let part = |plane: usize| Buffer::Words(built.buffers[plane].words()[row * words(m)..(row + 1) * words(m)].to_vec());
+        let case = Case::new(Call::Pack, vec![m as u64], vec![part(10), part(11), Buffer::Bytes(vec![170; bytes(m)])]);
+        let outcome = c.compare(&case, &["round trip".to_string()]);
+        packed_rows.push(outcome.buffers[2].clone());
+    }
+
+    // the weight is one that a draw makes; then draws are made until it comes again
+    let y = c.rng.planes(1, m);
+    let mut w = 0;
+    for _ in 0..100 {
+        let case = make::draw_of(&mut c.rng, shape, &secret, &p, &y, 1);
+        if let Ok(word) = make::word_of(&case, shape) {
+            w = weight(&word);
+            if w > 0 {
+                break;
+            }
+        }
+    }
+    if w == 0 {
+        return false;
+    }
+    let mut released = None;
+    for _ in 0..200 {
+        let case = make::draw_of(&mut c.rng, shape, &secret, &p, &y, w);
+        let outcome = c.compare(&case, &["round trip".to_string()]);
+        if outcome.refusal() == 0 {
+            released = Some(outcome);
+            break;
+        }
+    }
+    let Some(released) = released else {
+        return false;
+    };
+
+    // the rows are stored under some key number
+    let number = c.rng.below(256) as u64;
+    let begun = c.compare(&Case::new(Call::Begin, [[0u64; 6].to_vec(), vec![number, n as u64, k as u64, w as u64]].concat(), vec![]), &[]);
+    let mut state = begun.answer[1..].to_vec();
+    let (mut ones, mut twos) = (Buffer::Words(c.rng.words(k * words(m))), Buffer::Words(c.rng.words(k * words(m))));
+    for row in packed_rows {
+        let stored = c.compare(&Case::new(Call::Store, state, vec![ones, twos, row]), &["round trip".to_string()]);
+        state = stored.answer[1..].to_vec();
+        ones = stored.buffers[0].clone();
+        twos = stored.buffers[1].clone();
+    }
+    if ones != built.buffers[10] || twos != built.buffers[11] {
+        let case = Case::new(Call::Store, state, vec![ones, twos, Buffer::Bytes(vec![])]);
+        c.report(&case, &[], "the stored key is not the released one");
+        return true;
+    }
+
+    // y and s packed
+    let pack = |c: &mut Comparer, m: usize, ones: &[u64], twos: &[u64]| {
+        let case = Case::new(Call::Pack, vec![m as u64], vec![Buffer::Words(ones.to_vec()), Buffer::Words(twos.to_vec()), Buffer::Bytes(vec![0; bytes(m)])]);
+        c.compare(&case, &["round trip".to_string()]).buffers[2].bytes().to_vec()
+    };
+    let y = pack(c, m, &y.0, &y.1);
+    let s = pack(c, k, released.buffers[19].words(), released.buffers[20].words());
+    state.push(number);
+    let work = || Buffer::Words(vec![!0; words(m)]);
+    let case = Case::new(Call::Check, state, vec![ones, twos, Buffer::Bytes(y), Buffer::Bytes(s), work(), work()]);
+    let verdict = c.compare(&case, &["round trip".to_string()]);
+    if verdict.answer != [0, 1, w as u64] {
+        c.report(&case, &["round trip".to_string()], &format!("a released word is answered {:?}", verdict.answer));
+    }
+    // one trit of s, of y, of the key changed
+    for (buffer, length) in [(3, k), (3, k), (2, m), (2, m)] {
+        let mut changed = case.clone();
+        let place = c.rng.below(length);
+        let bytes = changed.buffers[buffer].bytes_mut();
+        let mut five = second::packing::trits_of(bytes[place / 5]);
+        five[place % 5] = (five[place % 5] + c.rng.between(1, 2) as u8) % 3;
+        bytes[place / 5] = packed(&five)[0];
+        c.compare(&changed, &["round trip".to_string(), "one trit changed".to_string()]);
+    }
+    let mut changed = case.clone();
+    let (row, place) = (c.rng.below(k), c.rng.below(m));
+    let (word, bit) = (row * words(m) + place / 64, 1u64 << (place % 64));
+    let trit = (changed.buffers[0].words()[word] & bit != 0, changed.buffers[1].words()[word] & bit != 0);
+    let next = match trit {
+        (false, false) => (true, false),
+        (true, false) => (false, true),
+        _ => (false, false),
+    };
+    for (plane, on) in [(0, next.0), (1, next.1)] {
+        let w = &mut changed.buffers[plane].words_mut()[word];
+        *w = if on { *w | bit } else { *w & !bit };
+    }
+    c.compare(&changed, &["round trip".to_string(), "one trit of the key changed".to_string()]);
+    true
+}
+
+pub fn round_trips(c: &mut Comparer, long: bool) {
+    let (mut made, mut released) = (0, 0);
+    let mut list: Vec<(usize, usize)> = PLACES.iter().map(|n| (*n, if long { 60 } else { 3 })).collect();
+    if long {
+        list.extend([(510, 5), (512, 5), (1072, 2)]);
+    }
+    for (n, times) in list {
+        for _ in 0..times {
+            let shape = Shape::random(&mut c.rng, n);
+            made += 1;
+            released += round_trip(c, &shape) as usize;
+        }
+    }
+    println!("round trips: {made}, with a word released: {released}");
+    if 2 * released < made {
+        println!("differ: most round trips released no word");
+        c.mismatches += 1;
+    }
+}
+
+/// A case by chance: any call, mostly small sizes, sound or with up to three faults.
+fn by_chance(c: &mut Comparer) {
+    let call = c.rng.pick(&CALLS);
+    if !c.archives.has(call) {
+        return;
+    }
+    let edge = c.rng.pick(&PLACES);
+    let wide = c.rng.one_in(10);
+    let half = match c.rng.below(8) {
+        _ if wide => c.rng.between(300, 1500),
+        0 => edge / 2,
+        1 => c.rng.between(2, 130),
+        _ => c.rng.between(2, 20),
+    };
+    let n = 2 * half;
+    let k = match c.rng.below(2) {
+        0 if wide => c.rng.between(2, 10),
+        1 if wide => n - c.rng.between(2, 10),
+        _ => c.rng.between(2, n - 2),
+    };
+    let m = if wide { half } else { c.rng.between(0, 130) };
+    let shape = if wide { Shape::wide(&mut c.rng, half) } else { Shape::random(&mut c.rng, n) };
+    let case = match call {
+        Call::Pack => make::pack(&mut c.rng, m),
+        Call::Unpack => make::unpack(&mut c.rng, m),
+        Call::Stream => make::stream(&mut c.rng, m),
+        Call::Begin => {
+            let mut numbers = c.rng.words(6);
+            let number = c.rng.between(0, 300) as u64;
+            numbers.extend([number, c.rng.between(0, 300) as u64, c.rng.between(0, 300) as u64, c.rng.between(0, 300) as u64]);
+            if c.rng.one_in(2) {
+                numbers[7] = n as u64;
+                numbers[8] = k as u64;
+            }
+            Case::new(Call::Begin, numbers, vec![])
+        }
+        Call::Store => {
+            let stored = c.rng.below(k);
+            make::store(&mut c.rng, n, k, stored)
+        }
+        Call::Check => make::check(&mut c.rng, n, k),
+        Call::Build => make::any_build(&mut c.rng, &shape),
+        Call::Draw => make::any_draw(&mut c.rng, &shape),
+    };
+    let mut list = vec![];
+    let count = [0, 0, 0, 0, 1, 1, 1, 2, 2, 3][c.rng.below(10)];
+    let known = faults(&case);
+    for _ in 0..count {
+        let kind = c.rng.below(6);
+        if kind == 0 && !case.buffers.is_empty() {
+            list.push(Fault::Turn { at: c.rng.below(case.buffers.len()) });
+        } else if kind == 1 {
+            let at = c.rng.below(case.numbers.len());
+            let step = c.rng.between(1, 2) as u64;
+            let value = if c.rng.one_in(2) { case.numbers[at].wrapping_add(step) } else { case.numbers[at].wrapping_sub(step) };
+            list.push(Fault::Number { at, value });
+        } else if !known.is_empty() {
+            list.push(known[c.rng.below(known.len())].0);
+        }
+    }
+    let outcome = c.damaged(&case, &list);
+    // a check that was not refused is asked for its own weight too
+    if call == Call::Check && count == 0 && outcome.answer[2] > 0 {
+        let mut asked = case.clone();
+        asked.numbers[4] = outcome.answer[2];
+        c.compare(&asked, &[]);
+    }
+}
+
+pub fn chance(c: &mut Comparer, count: u64) {
+    let end = c.total() + count;
+    while c.total() < end {
+        by_chance(c);
+    }
+}

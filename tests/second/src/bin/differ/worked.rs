@@ -1,0 +1,90 @@
+//! The paper's worked cases, made by the proved code and held to the paper's own values.
+
+use crate::case::{Buffer, Call, Case};
+use crate::compare::Comparer;
+use second::packing::packed;
+use second::planes::planes;
+use Buffer::{Bytes, Order, Words};
+
+fn row(digits: &str) -> Vec<u8> {
+    digits.bytes().map(|b| b - b'0').collect()
+}
+
+/// Rows parted by blanks, in planes.
+fn pair(rows: &str) -> [Buffer; 2] {
+    let rows: Vec<Vec<u8>> = rows.split(' ').map(row).collect();
+    let (ones, twos) = planes(&rows);
+    [Words(ones), Words(twos)]
+}
+
+fn one(value: u64) -> Buffer {
+    Words(vec![value])
+}
+
+/// The case, its answer and some of its buffers at exit, as the paper has them.
+fn expect(c: &mut Comparer, case: Case, answer: &[u64], exit: &[(usize, Buffer)]) {
+    let found = c.compare(&case, &["worked case".to_string()]);
+    if found.answer != answer || exit.iter().any(|(i, buffer)| found.buffers[*i] != *buffer) {
+        c.report(&case, &["worked case".to_string()], &format!("the paper has {answer:?} and {exit:?}, found {found:?}"));
+    }
+}
+
+fn secret() -> Vec<Buffer> {
+    [pair("11"), pair("12"), pair("01"), pair("12")].concat()
+}
+
+fn build(start: [u16; 4]) -> Case {
+    let mut buffers = secret();
+    buffers.extend([Order(start.to_vec()), Order(vec![9; 4]), Words(vec![7; 2]), Words(vec![8; 2]), Words(vec![5; 4]), Words(vec![6; 4])]);
+    Case::new(Call::Build, vec![4, 1, 1, 0, 4], buffers)
+}
+
+fn draw(w: u64, v_trit: &str, u_value: &str) -> Case {
+    let mut buffers = secret();
+    buffers.push(Order(vec![0, 1, 2, 3]));
+    buffers.extend(pair("12"));
+    buffers.push(Order(vec![0, 1]));
+    buffers.extend(pair(v_trit));
+    buffers.push(Order(vec![0, 1]));
+    buffers.extend(pair(u_value));
+    buffers.extend([one(1), one(2), one(3), one(4), Words(vec![5; 6]), Words(vec![6; 6])]);
+    Case::new(Call::Draw, vec![4, 1, 1, 0, w], buffers)
+}
+
+fn check(number: u64, w: u64, y: &str, s: &str) -> Case {
+    let mut buffers = pair("02 22").to_vec();
+    buffers.extend([Bytes(packed(&row(y))), Bytes(packed(&row(s))), one(5), one(6)]);
+    Case::new(Call::Check, vec![1, 7, 4, 2, w, 2, number], buffers)
+}
+
+pub fn cases(c: &mut Comparer) {
+    let [ones, twos] = pair("12001");
+    expect(c, Case::new(Call::Pack, vec![5], vec![ones, twos, Bytes(vec![0])]), &[0], &[(2, Bytes(vec![88]))]);
+    let reads = |byte: u8| Case::new(Call::Unpack, vec![5], vec![Bytes(vec![byte]), one(3), one(4)]);
+    let [ones, twos] = pair("22222");
+    expect(c, reads(242), &[0], &[(1, ones), (2, twos)]);
+    expect(c, reads(243), &[5], &[(1, one(3)), (2, one(4))]);
+
+    let [k1, k2] = pair("02 22");
+    expect(c, build([0, 1, 2, 3]), &[0], &[(9, Order(vec![0, 1, 2, 3])), (10, k1), (11, k2), (12, Words(vec![0; 4])), (13, Words(vec![0; 4]))]);
+    let [k1, k2] = pair("22 20");
+    expect(c, build([1, 2, 0, 3]), &[0], &[(9, Order(vec![1, 3, 0, 2])), (10, k1), (11, k2), (12, Words(vec![0; 4])), (13, Words(vec![0; 4]))]);
+
+    for (w, v_trit, u_value, word, s) in [(4, "2", "1", "2111", "11"), (4, "2", "2", "2111", "11"), (4, "0", "2", "2221", "21"), (2, "0", "1", "0102", "02")] {
+        let ([w1, w2], [s1, s2]) = (pair(word), pair(s));
+        let zero = Words(vec![0; 6]);
+        expect(c, draw(w, v_trit, u_value), &[0], &[(17, w1), (18, w2), (19, s1), (20, s2), (21, zero.clone()), (22, zero)]);
+    }
+    let zero = Words(vec![0; 6]);
+    expect(c, draw(4, "1", "1"), &[14], &[(17, one(1)), (18, one(2)), (19, one(3)), (20, one(4)), (21, zero.clone()), (22, zero)]);
+
+    expect(c, check(7, 4, "12", "11"), &[0, 1, 4], &[(4, one(0)), (5, one(0))]);
+    expect(c, check(7, 4, "12", "12"), &[0, 0, 3], &[(4, one(0)), (5, one(0))]);
+    expect(c, check(8, 4, "12", "11"), &[22, 0, 0], &[(4, one(5)), (5, one(6))]);
+    expect(c, check(7, 2, "12", "00"), &[0, 1, 2], &[(4, one(0)), (5, one(0))]);
+
+    for (n, refusal) in [(4, 0), (16384, 0), (2, 1), (16386, 1)] {
+        let state = if refusal == 0 { vec![refusal, 1, 0, n, 2, 1, 0] } else { vec![refusal, 0, 0, 0, 0, 0, 0] };
+        expect(c, Case::new(Call::Begin, vec![0, 0, 0, 0, 0, 0, 0, n, 2, 1], vec![]), &state, &[]);
+    }
+}

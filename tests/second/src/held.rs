@@ -1,0 +1,123 @@
+//! The module's half: the held key, its rows, and the verdict.
+
+use crate::algebra::{take_out, weight};
+use crate::packing::{bytes, unpacked};
+use crate::planes::{fault, read, words, write_row};
+
+/// The state, as the C header has it.
+#[repr(C)]
+#[derive(Clone, Copy, Debug, PartialEq, Eq, Default)]
+pub struct Held {
+    pub begun: u64,
+    pub number: u64,
+    pub n: u64,
+    pub k: u64,
+    pub w: u64,
+    pub rows: u64,
+}
+
+#[repr(C)]
+#[derive(Clone, Copy, Debug, PartialEq, Eq)]
+pub struct Stored {
+    pub refusal: u64,
+    pub held: Held,
+}
+
+#[repr(C)]
+#[derive(Clone, Copy, Debug, PartialEq, Eq)]
+pub struct Checked {
+    pub refusal: u64,
+    pub yes: u64,
+    pub weight: u64,
+}
+
+/// What the checker knows of the sizes, and the key number: each in its range.
+pub fn in_range(number: u64, n: u64, k: u64, w: u64) -> bool {
+    number <= 255 && (4..=16384).contains(&n) && n % 2 == 0 && (2..=n - 2).contains(&k) && (1..=n).contains(&w)
+}
+
+pub fn begin(held: Held, number: u64, n: u64, k: u64, w: u64) -> Stored {
+    if !in_range(number, n, k, w) {
+        return Stored { refusal: 1, held };
+    }
+    Stored { refusal: 0, held: Held { begun: 1, number, n, k, w, rows: 0 } }
+}
+
+/// 20 for no key begun, 1 for a begun state out of its ranges, else 0.
+fn state_refusal(held: &Held) -> u64 {
+    if held.begun == 0 {
+        20
+    } else if held.begun != 1 || !in_range(held.number, held.n, held.k, held.w) || held.rows > held.k {
+        1
+    } else {
+        0
+    }
+}
+
+pub fn store_row(held: Held, ones: &mut [u64], twos: &mut [u64], row: &[u8]) -> Stored {
+    let refused = |refusal| Stored { refusal, held };
+    let found = state_refusal(&held);
+    if found != 0 {
+        return refused(found);
+    }
+    if held.rows == held.k {
+        return refused(21);
+    }
+    let (k, m) = (held.k as usize, (held.n - held.k) as usize);
+    if ones.len() != k * words(m) || twos.len() != k * words(m) || row.len() != bytes(m) {
+        return refused(2);
+    }
+    if row.iter().any(|b| *b > 242) {
+        return refused(5);
+    }
+    let (from, to) = (held.rows as usize * words(m), (held.rows as usize + 1) * words(m));
+    write_row(&unpacked(row, m), &mut ones[from..to], &mut twos[from..to]);
+    Stored { refusal: 0, held: Held { rows: held.rows + 1, ..held } }
+}
+
+/// The full word of y and s: (y - s·R-transposed, s). Row i of the key is column i of R.
+pub fn full_word(rows: &[Vec<u8>], y: &[u8], s: &[u8]) -> Vec<u8> {
+    assert_eq!(rows.len(), s.len());
+    let mut word = y.to_vec();
+    for (row, t) in rows.iter().zip(s) {
+        if *t != 0 {
+            take_out(&mut word, *t, row);
+        }
+    }
+    word.extend(s);
+    word
+}
+
+#[allow(clippy::too_many_arguments)]
+pub fn check(held: Held, number: u64, ones: &[u64], twos: &[u64], y: &[u8], s: &[u8], work_ones: &mut [u64], work_twos: &mut [u64]) -> Checked {
+    let refused = |refusal| Checked { refusal, yes: 0, weight: 0 };
+    let found = state_refusal(&held);
+    if found != 0 {
+        return refused(found);
+    }
+    if held.rows < held.k {
+        return refused(20);
+    }
+    if number != held.number {
+        return refused(22);
+    }
+    let (k, m) = (held.k as usize, (held.n - held.k) as usize);
+    if ones.len() != k * words(m) || twos.len() != k * words(m) || y.len() != bytes(m) || s.len() != bytes(k) {
+        return refused(2);
+    }
+    if work_ones.len() != words(m) || work_twos.len() != words(m) {
+        return refused(2);
+    }
+    let found = fault(ones, twos, k, m);
+    if found != 0 {
+        return refused(found);
+    }
+    if y.iter().any(|b| *b > 242) || s.iter().any(|b| *b > 242) {
+        return refused(5);
+    }
+    let word = full_word(&read(ones, twos, k, m), &unpacked(y, m), &unpacked(s, k));
+    work_ones.fill(0);
+    work_twos.fill(0);
+    let weight = weight(&word) as u64;
+    Checked { refusal: 0, yes: (weight == held.w) as u64, weight }
+}

@@ -1,0 +1,10 @@
+//! A second implementation of the paper, on plain vectors of trits: the simplest code that can be right. It is written from the paper alone and shares nothing with the
+//! proved code; the tests in `tests/` hold it to the paper's worked examples and to brute force, and `differ` holds the proved code to it.
+
+pub mod algebra;
+pub mod draw;
+pub mod held;
+pub mod key;
+pub mod lines;
+pub mod packing;
+pub mod planes;

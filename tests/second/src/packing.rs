@@ -1,0 +1,87 @@
+//! Five trits to a byte, and trits of a byte stream.
+
+use crate::planes::{fault, read_row, words, write_row};
+
+pub fn bytes(m: usize) -> usize {
+    m.div_ceil(5)
+}
+
+/// The five trits of a byte from 0 to 242, the first times 1, then 3, 9, 27, 81.
+pub fn trits_of(byte: u8) -> [u8; 5] {
+    assert!(byte <= 242);
+    [byte % 3, byte / 3 % 3, byte / 9 % 3, byte / 27 % 3, byte / 81]
+}
+
+/// A row packed; trits past the end are 0.
+pub fn packed(row: &[u8]) -> Vec<u8> {
+    row.chunks(5).map(|five| five.iter().rev().fold(0, |b, t| 3 * b + t)).collect()
+}
+
+/// The first m trits of packed bytes, each 0 to 242.
+pub fn unpacked(bytes: &[u8], m: usize) -> Vec<u8> {
+    let mut row: Vec<u8> = bytes.iter().flat_map(|b| trits_of(*b)).collect();
+    row.truncate(m);
+    assert_eq!(row.len(), m);
+    row
+}
+
+/// The number of trits in a call is 0 to 16,384.
+fn too_many(m: u64) -> bool {
+    m > 16384
+}
+
+pub fn pack(m: u64, ones: &[u64], twos: &[u64], out: &mut [u8]) -> u64 {
+    if too_many(m) {
+        return 1;
+    }
+    let m = m as usize;
+    if ones.len() != words(m) || twos.len() != words(m) || out.len() != bytes(m) {
+        return 2;
+    }
+    let found = fault(ones, twos, 1, m);
+    if found != 0 {
+        return found;
+    }
+    out.copy_from_slice(&packed(&read_row(ones, twos, m)));
+    0
+}
+
+pub fn unpack(m: u64, row: &[u8], ones: &mut [u64], twos: &mut [u64]) -> u64 {
+    if too_many(m) {
+        return 1;
+    }
+    let m = m as usize;
+    if row.len() != bytes(m) || ones.len() != words(m) || twos.len() != words(m) {
+        return 2;
+    }
+    if row.iter().any(|b| *b > 242) {
+        return 5;
+    }
+    write_row(&unpacked(row, m), ones, twos);
+    0
+}
+
+pub fn from_stream(m: u64, stream: &[u8], ones: &mut [u64], twos: &mut [u64]) -> u64 {
+    if too_many(m) {
+        return 1;
+    }
+    let m = m as usize;
+    if ones.len() != words(m) || twos.len() != words(m) {
+        return 2;
+    }
+    let mut row = Vec::new();
+    for b in stream {
+        if row.len() < m && *b < 243 {
+            for t in trits_of(*b) {
+                if row.len() < m {
+                    row.push(t);
+                }
+            }
+        }
+    }
+    if row.len() < m {
+        return 6;
+    }
+    write_row(&row, ones, twos);
+    0
+}

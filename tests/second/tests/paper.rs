@@ -1,0 +1,213 @@
+//! Every worked example of the paper, starred or not, and cases that the starred ones leave out.
+
+use second::algebra::weight;
+use second::draw::{draw, draw_word, drawn_word, Choices, DrawWords};
+use second::held::{begin, check, full_word, store_row, Checked, Held};
+use second::key::{build, build_key, column_rule, secret_matrix, Key, Secret, SecretWords, Sizes};
+use second::packing::{from_stream, pack, packed, trits_of, unpack};
+use second::planes::{planes, words};
+
+fn row(digits: &str) -> Vec<u8> {
+    digits.bytes().map(|b| b - b'0').collect()
+}
+
+fn rows(digits: &[&str]) -> Vec<Vec<u8>> {
+    digits.iter().map(|d| row(d)).collect()
+}
+
+fn secret() -> Secret {
+    Secret { hu: rows(&["11"]), hv: rows(&["12"]), b: row("01"), c: row("12") }
+}
+
+fn choices(v_trit: u8, u_value: u8) -> Choices {
+    Choices { v_order: vec![0, 1], v_trits: vec![v_trit], u_order: vec![0, 1], u_values: vec![u_value] }
+}
+
+#[test]
+fn trits_in_words() {
+    assert_eq!(planes(&rows(&["120"])), (vec![1], vec![2]));
+    assert_eq!(weight(&row("120")), 2);
+    // rows follow each other, each beginning a new word
+    assert_eq!(planes(&rows(&["1", "2"])), (vec![1, 0], vec![0, 1]));
+    let long: Vec<u8> = (0..65).map(|i| (i == 64) as u8 * 2 + (i == 63) as u8).collect();
+    assert_eq!(planes(&[long]), (vec![1 << 63, 0], vec![0, 1]));
+}
+
+#[test]
+fn packing_examples() {
+    assert_eq!(packed(&row("12001")), [88]);
+    assert_eq!(trits_of(242), [2, 2, 2, 2, 2]);
+    let (mut ones, mut twos) = ([7], [9]);
+    assert_eq!(unpack(5, &[242], &mut ones, &mut twos), 0);
+    assert_eq!((ones, twos), ([0], [31]));
+    let (mut ones, mut twos) = ([7], [9]);
+    assert_eq!(unpack(5, &[243], &mut ones, &mut twos), 5);
+    assert_eq!((ones, twos), ([7], [9]));
+    // all 243 bytes have the five trits that weigh 1, 3, 9, 27, 81
+    for b in 0..=242u8 {
+        let t = trits_of(b);
+        assert!(t.iter().all(|x| *x < 3));
+        assert_eq!(t[0] as u32 + 3 * t[1] as u32 + 9 * t[2] as u32 + 27 * t[3] as u32 + 81 * t[4] as u32, b as u32);
+        assert_eq!(packed(&t), [b]);
+    }
+    // trits past the length: ignored on reading, written as 0
+    let (mut ones, mut twos) = ([0], [0]);
+    assert_eq!(unpack(2, &[242], &mut ones, &mut twos), 0);
+    assert_eq!((ones, twos), ([0], [3]));
+    assert_eq!(packed(&row("22")), [8]);
+    // only the ignored trits are large: still 5
+    assert_eq!(unpack(1, &[243], &mut ones, &mut twos), 5);
+    // 16,384 passes and 16,385 is 1
+    let mut bytes = vec![0; 3277];
+    assert_eq!(pack(16384, &[0; 256], &[0; 256], &mut bytes), 0);
+    assert_eq!(pack(16385, &[0; 257], &[0; 257], &mut bytes), 1);
+    // 3 anywhere comes before 4
+    assert_eq!(pack(2, &[4 | 1 << 63], &[1 << 63], &mut [0]), 3);
+    assert_eq!(pack(2, &[4], &[0], &mut [0]), 4);
+}
+
+#[test]
+fn stream_examples() {
+    let (mut ones, mut twos) = ([0], [0]);
+    assert_eq!(from_stream(7, &[243, 88, 255, 242, 250], &mut ones, &mut twos), 0);
+    assert_eq!((ones, twos), ([1 | 1 << 4], [2 | 1 << 5 | 1 << 6]));
+    assert_eq!(from_stream(7, &[243, 88, 255], &mut ones, &mut twos), 6);
+    assert_eq!((ones, twos), ([1 | 1 << 4], [2 | 1 << 5 | 1 << 6]));
+    assert_eq!(from_stream(0, &[], &mut [], &mut []), 0);
+}
+
+#[test]
+fn worked_keys() {
+    assert_eq!(build_key(&secret(), &[0, 1, 2, 3]), Ok(Key { p: vec![0, 1, 2, 3], rows: rows(&["02", "22"]) }));
+    assert_eq!(build_key(&secret(), &[1, 2, 0, 3]), Ok(Key { p: vec![1, 3, 0, 2], rows: rows(&["22", "20"]) }));
+    // secret matrix: d = 1 + (0,2) = (1,0); rows (d·H_U | -b·H_U) and (-c·H_V | H_V)
+    assert_eq!(secret_matrix(&secret()), rows(&["1002", "2212"]));
+}
+
+#[test]
+fn last_column_is_tried() {
+    let (_, order) = column_rule(rows(&["1101", "0010"]), vec![0, 1, 2, 3]);
+    assert_eq!(order, [0, 2, 3, 1]);
+}
+
+#[test]
+fn worked_draws() {
+    let (s, p, y) = (secret(), [0, 1, 2, 3], row("12"));
+    // the U value is unused where the V trit is not 0
+    for value in [1, 2] {
+        assert_eq!(draw_word(0, 4, &s, &p, &y, &choices(2, value)), Ok(row("2111")));
+        assert_eq!(drawn_word(0, &s, &p, &y, &choices(1, value)), Ok(row("0212")));
+        assert_eq!(draw_word(0, 4, &s, &p, &y, &choices(1, value)), Err(14));
+    }
+    assert_eq!(draw_word(0, 4, &s, &p, &y, &choices(0, 2)), Ok(row("2221")));
+    assert_eq!(draw_word(0, 2, &s, &p, &y, &choices(0, 1)), Ok(row("0102")));
+}
+
+#[test]
+fn accepted_yet_never_drawn() {
+    let key = rows(&["02", "22"]);
+    assert_eq!(full_word(&key, &row("12"), &row("00")), row("1200"));
+    let mut made_with_a_gap = false;
+    for orders in 0..4 {
+        for v_trit in 0..3 {
+            for u_value in 0..3 {
+                let order = |flip: bool| if flip { vec![1, 0] } else { vec![0, 1] };
+                let c = Choices { v_order: order(orders % 2 == 1), v_trits: vec![v_trit], u_order: order(orders > 1), u_values: vec![u_value] };
+                if u_value != 0 {
+                    assert_ne!(draw_word(0, 2, &secret(), &[0, 1, 2, 3], &row("12"), &c), Ok(row("1200")));
+                }
+                made_with_a_gap |= draw_word(1, 2, &secret(), &[0, 1, 2, 3], &row("12"), &c) == Ok(row("1200"));
+            }
+        }
+    }
+    assert!(made_with_a_gap, "at g = 1 a draw does make it");
+}
+
+/// The worked key through the lent words: build, rows stored packed, checks.
+#[test]
+fn through_the_border() {
+    let z = Sizes { n: 4, ku: 1, kv: 1, g: 0, w: 4 };
+    let s = secret();
+    let (hu, hv, b, c) = (planes(&s.hu), planes(&s.hv), planes(std::slice::from_ref(&s.b)), planes(std::slice::from_ref(&s.c)));
+    let lent = SecretWords { hu: [&hu.0, &hu.1], hv: [&hv.0, &hv.1], b: [&b.0, &b.1], c: [&c.0, &c.1] };
+    let (mut p, mut ones, mut twos, mut w1, mut w2) = ([9; 4], [7; 2], [8; 2], [5; 4], [6; 4]);
+    assert_eq!(build(z, lent, &[0, 1, 2, 3], &mut p, [&mut ones, &mut twos], [&mut w1, &mut w2]), 0);
+    assert_eq!((p, ones, twos, w1, w2), ([0, 1, 2, 3], [0, 0], [2, 3], [0; 4], [0; 4]));
+    assert_eq!(build(Sizes { g: 2, ..z }, lent, &[0, 1, 2, 3], &mut p, [&mut ones, &mut twos], [&mut w1, &mut w2]), 1);
+    assert_eq!(build(z, lent, &[0, 1, 2, 2], &mut p, [&mut ones, &mut twos], [&mut w1, &mut w2]), 7);
+
+    let (y, vt, uv) = (planes(&rows(&["12"])), planes(&rows(&["2"])), planes(&rows(&["1"])));
+    let (mut word1, mut word2, mut s1, mut s2) = ([9], [9], [9], [9]);
+    let mut work = [vec![3u64; z.draw_work()], vec![4u64; z.draw_work()]];
+    let [wa, wb] = &mut work;
+    let given = DrawWords { p: &[0, 1, 2, 3], y: [&y.0, &y.1], v_order: &[0, 1], v_trits: [&vt.0, &vt.1], u_order: &[0, 1], u_values: [&uv.0, &uv.1] };
+    assert_eq!(draw(z, lent, given, [&mut word1, &mut word2], [&mut s1, &mut s2], [wa, wb]), 0);
+    assert_eq!((word1, word2, s1, s2), ([0b1110], [1], [3], [0]));
+    assert!(work.iter().flatten().all(|w| *w == 0));
+
+    let begun = begin(Held::default(), 7, 4, 2, 4);
+    assert_eq!(begun.refusal, 0);
+    let (mut ones, mut twos) = ([7; 2], [8; 2]);
+    let one = store_row(begun.held, &mut ones, &mut twos, &packed(&row("02")));
+    assert_eq!((one.refusal, one.held.rows, ones, twos), (0, 1, [0, 7], [2, 8]));
+    assert_eq!(check(one.held, 7, &ones, &twos, &[7], &[4], &mut [0], &mut [0]).refusal, 20);
+    let two = store_row(one.held, &mut ones, &mut twos, &packed(&row("22")));
+    assert_eq!((two.refusal, two.held.rows, ones, twos), (0, 2, [0, 0], [2, 3]));
+    assert_eq!(store_row(two.held, &mut ones, &mut twos, &[0]).refusal, 21);
+    let ask = |number, y: &str, s: &str| check(two.held, number, &ones, &twos, &packed(&row(y)), &packed(&row(s)), &mut [1], &mut [2]);
+    assert_eq!(ask(7, "12", "11"), Checked { refusal: 0, yes: 1, weight: 4 });
+    assert_eq!(ask(7, "12", "12"), Checked { refusal: 0, yes: 0, weight: 3 });
+    assert_eq!(ask(8, "12", "11"), Checked { refusal: 22, yes: 0, weight: 0 });
+    let at_two = Held { w: 2, ..two.held };
+    assert_eq!(check(at_two, 7, &ones, &twos, &packed(&row("12")), &[0], &mut [1], &mut [2]), Checked { refusal: 0, yes: 1, weight: 2 });
+}
+
+#[test]
+fn sizes_at_the_edges() {
+    for (n, refusal) in [(4, 0), (16384, 0), (2, 1), (16386, 1), (5, 1), (0, 1)] {
+        assert_eq!(begin(Held::default(), 0, n, 2, 1).refusal, refusal, "n = {n}");
+    }
+    for (n, good) in [(4, true), (16384, true), (2, false), (16386, false)] {
+        assert_eq!(Sizes { n, ku: 1, kv: 1, g: 0, w: 1 }.in_range(), good, "n = {n}");
+    }
+    assert_eq!(begin(Held::default(), 255, 4, 2, 4).refusal, 0);
+    assert_eq!(begin(Held::default(), 256, 4, 2, 4).refusal, 1);
+    assert_eq!(words(64), 1);
+    assert_eq!(words(65), 2);
+}
+
+/// g = k_U leaves the last part empty: no value need be other than 0.
+#[test]
+fn gap_of_all() {
+    let made = drawn_word(1, &secret(), &[0, 1, 2, 3], &row("12"), &choices(0, 0));
+    assert!(made.is_ok());
+}
+
+#[test]
+fn lines_example() {
+    let text = "P 7 4 2 4\nK 02\nK 22\nS 7 12 12 11\nS 7 13 12 12\nS 8 14 12 11\n".replace(' ', "\t");
+    let answer = "key formula weight verdict\n7 12 4 yes\n7 13 3 no\n8 14 - r22\n".replace(' ', "\t");
+    assert_eq!(second::lines::run(text.as_bytes()), answer.as_bytes());
+    // a last line without its line end counts
+    assert_eq!(second::lines::run(text.trim_end().as_bytes()), answer.as_bytes());
+}
+
+#[test]
+fn lines_refused() {
+    let said = |text: &str| {
+        let out = String::from_utf8(second::lines::run(text.replace(' ', "\t").as_bytes())).unwrap();
+        out.lines().skip(1).map(|l| l.replace('\t', " ")).collect::<Vec<_>>().join("|")
+    };
+    assert_eq!(said(""), "");
+    assert_eq!(said("\n"), "- - - r11");
+    assert_eq!(said("P 256 4 2 4"), "- - - r11");
+    assert_eq!(said("P 255 258 2 4"), "- - - r1");
+    assert_eq!(said("P 255 256 2 99999999999999999999999999"), "- - - r1");
+    assert_eq!(said("P 07 4 2 4"), "- - - r11");
+    assert_eq!(said("K 02"), "- - - r20");
+    assert_eq!(said("S 7 1 1 1"), "7 1 - r20");
+    assert_eq!(said("S 7 65536 1 1"), "- - - r11");
+    assert_eq!(said("P 7 4 2 4\nK 022\nK 02\nK 22\nK 22\nS 7 5 1 11"), "- - - r2|- - - r21|7 5 - r2");
+    assert_eq!(said(&format!("K {}", "0".repeat(1022))), "- - - r20");
+    assert_eq!(said(&format!("K {}", "0".repeat(1023))), "- - - r11");
+}

@@ -3,12 +3,12 @@ ghost use mathlib.Core.Path.{_≡_};
 ghost use lib.ListN.{length};
 ghost use Rattle.trits.specs.Planes.{tritAt};
 ghost use Rattle.packing.specs.Packed.{packedRow};
-ghost use Rattle.checker.specs.Held.{rowTrits, rowWords};
-ghost use Rattle.checker.specs.Check.{planesLengths, planesContents, packedLengths, packedContents, checkRefusal, checkPackedRefusal, heldWeight, checkAnswer, answered, spaceAtExit};
-ghost use Rattle.checker.specs.Steps.{Whole};
+ghost use Rattle.heldkey.specs.Held.{rowTrits, rowWords};
+ghost use Rattle.checking.specs.Check.{planesLengths, planesContents, packedLengths, packedContents, checkRefusal, checkPackedRefusal, heldWeight, checkAnswer, answered, spaceAtExit};
+ghost use Rattle.heldkey.specs.Steps.{Whole};
 ghost use Rattle.bench_check.specs.{after};
-use checker::checking::Checked;
-use checker::state::Held;
+use checking::Checked;
+use heldkey::state::Held;
 
 // The check of y and s in planes, in numbers.
 #[no_mangle]
@@ -43,7 +43,7 @@ pub extern "C" fn bench_check(
         work_ones,
         work_twos,
     );
-    checker::checking::tell(verdict)
+    checking::tell(verdict)
 }
 
 // The weight of y and s in planes is worked out so many times.
@@ -68,7 +68,7 @@ fn weigh_times(
     let mut weight: u64 = 0;
     let mut i = 0;
     while i < times {
-        weight = checker::checking::weigh(
+        weight = checker::weighing::weigh(
             held,
             ones,
             twos,
@@ -107,7 +107,7 @@ pub extern "C" fn bench_weigh(
     ensures { λ _. ⌜ now («work_twos» .exit) ≡ spaceAtExit (checkRefusal held number (now (ones .entry)) (now (twos .entry)) (now («y_ones» .entry)) (now («y_twos» .entry))
         (now («s_ones» .entry)) (now («s_twos» .entry)) (now («work_ones» .entry)) (now («work_twos» .entry))) (now («work_twos» .entry)) ⌝ }
 {
-    let tested = checker::checking::test_check(
+    let tested = checking::test_check(
         held,
         number,
         ones,
@@ -120,7 +120,7 @@ pub extern "C" fn bench_weigh(
         work_twos,
     );
     if trits::refusal::code(tested) != 0 {
-        return checker::checking::tell(checker::checking::judge(tested, 0, held.w));
+        return checking::tell(checking::judge(tested, 0, held.w));
     }
     let weight = weigh_times(
         held,
@@ -136,7 +136,7 @@ pub extern "C" fn bench_weigh(
     );
     trits::words::zero_words(work_ones);
     trits::words::zero_words(work_twos); // both planes are left 0
-    checker::checking::tell(checker::checking::judge(tested, weight, held.w))
+    checking::tell(checking::judge(tested, weight, held.w))
 }
 
 // The weight of packed y and s is worked out so many times.
@@ -159,7 +159,7 @@ fn weigh_packed_times(
     let mut weight: u64 = 0;
     let mut i = 0;
     while i < times {
-        weight = checker::checking::weigh_packed(held, ones, twos, y, s, work_ones, work_twos);
+        weight = checker::weighing::weigh_packed(held, ones, twos, y, s, work_ones, work_twos);
         i += 1;
     }
     weight
@@ -185,21 +185,12 @@ pub extern "C" fn bench_weigh_packed(
     ensures { λ _. ⌜ now («work_twos» .exit) ≡ spaceAtExit (checkPackedRefusal held number (now (ones .entry)) (now (twos .entry)) (now (y .entry)) (now (s .entry))
         (now («work_ones» .entry)) (now («work_twos» .entry))) (now («work_twos» .entry)) ⌝ }
 {
-    let tested = checker::checking::test_packed_check(
-        held,
-        number,
-        ones,
-        twos,
-        y,
-        s,
-        work_ones,
-        work_twos,
-    );
+    let tested = checking::test_packed_check(held, number, ones, twos, y, s, work_ones, work_twos);
     if trits::refusal::code(tested) != 0 {
-        return checker::checking::tell(checker::checking::judge(tested, 0, held.w));
+        return checking::tell(checking::judge(tested, 0, held.w));
     }
     let weight = weigh_packed_times(held, ones, twos, y, s, work_ones, work_twos, times);
     trits::words::zero_words(work_ones);
     trits::words::zero_words(work_twos);
-    checker::checking::tell(checker::checking::judge(tested, weight, held.w))
+    checking::tell(checking::judge(tested, weight, held.w))
 }

@@ -3,23 +3,23 @@
 use mathlib.Core.Path.{sym, _∙_}
 use native.Mathlib.Omega.{arith}
 use borrow.Author.Needs.{needs}
-use Rattle.checker.proofs.Passed.{whole, check-passed}
-use Rattle.checker.proofs.Answers.{positive, space-kept, space-zero}
-use Rattle.bench_check.proofs.Laws.{answer-kept, answer-new}
+use Rattle.checking.proofs.Passed.{whole, check-passed}
+use Rattle.heldkey.proofs.Answers.{positive}
+use Rattle.checking.proofs.Answers.{space-kept, space-zero, answer-kept, answer-new}
 use Rattle.bench_check.proofs.bench_weigh.Statement.{statement}
 use Rattle.bench_check.proofs.bench_weigh.Tie as tie
 
 test-check-requires : tie.Need-test-check-requires
-test-check-requires c κs = search needs
+test-check-requires c κs = tt
 
 code-requires : tie.Need-code-requires
-code-requires c κs = search needs
+code-requires c κs = tt
 
 judge-requires : tie.Need-judge-requires
-judge-requires c κs = search needs
+judge-requires c κs = tt
 
 tell-requires : tie.Need-tell-requires
-tell-requires c κs = search needs
+tell-requires c κs = tt
 
 same-length : tie.Need-same-length
 same-length c = search needs
@@ -39,16 +39,16 @@ weigh-times-requires c κs =
     (whole (p .0), (p .1, (p .2, (p .0 .work-ones, p .0 .work-twos))))
 
 zero-words-requires : tie.Need-zero-words-requires
-zero-words-requires c κs = search needs
+zero-words-requires c κs = tt
 
 zero-words-requires-2 : tie.Need-zero-words-requires-2
-zero-words-requires-2 c κs = search needs
+zero-words-requires-2 c κs = tt
 
 judge-requires-2 : tie.Need-judge-requires-2
-judge-requires-2 c κs = search needs
+judge-requires-2 c κs = tt
 
 tell-requires-2 : tie.Need-tell-requires-2
-tell-requires-2 c κs = search needs
+tell-requires-2 c κs = tt
 
 same-length-3 : tie.Need-same-length-3
 same-length-3 c = search needs

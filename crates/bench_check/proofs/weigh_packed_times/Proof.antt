@@ -5,8 +5,8 @@ use mathlib.Core.Path.{_≡_, refl, _∙_}
 use native.Mathlib.Omega.{arith}
 use lib.ListN.{length}
 use Rattle.packing.specs.Packed.{packedRow}
-use Rattle.checker.specs.Held.{rowTrits}
-use Rattle.checker.specs.Check.{heldWeight}
+use Rattle.heldkey.specs.Held.{rowTrits}
+use Rattle.checking.specs.Check.{heldWeight}
 use Rattle.bench_check.specs.{after}
 use Rattle.bench_check.proofs.Laws.{after-turn}
 use Rattle.bench_check.proofs.weigh_packed_times.Statement.{statement}

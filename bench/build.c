@@ -1,24 +1,9 @@
 /* Times one build of a key against the same in plain C, in one run, at the sizes of the submission and of document 001; the two results are compared. */
 #include "build_c.h"
+#include "clock.h"
 #include <stdio.h>
 #include <stdlib.h>
 #include <string.h>
-#include <time.h>
-#include <x86intrin.h>
-
-static double now(void) {
-    struct timespec t;
-    clock_gettime(CLOCK_MONOTONIC, &t);
-    return t.tv_sec + t.tv_nsec * 1e-9;
-}
-
-static uint64_t seed = 88172645463325252u;
-static uint64_t draw(void) {
-    seed ^= seed << 13;
-    seed ^= seed >> 7;
-    seed ^= seed << 17;
-    return seed;
-}
 
 static uint64_t *words(size_t n) {
     return calloc(n, 8);
@@ -52,23 +37,23 @@ static void run(const char *name, wave_sizes z, const char *published) {
         start[j] = x;
     }
     double best[2] = {1e30, 1e30};
-    unsigned long long cycles = ~0ull;
+    uint64_t least = ~(uint64_t)0;
     uint64_t a = 0, b = 0;
     for (int r = 0; r < 4; r++) {
         double t = now();
-        unsigned long long c = __rdtsc();
+        uint64_t c = cycles();
         if (r % 2)
             a = wave_build(z, hu1, ru * hw, hu2, ru * hw, hv1, rv * hw, hv2, rv * hw, b1, hw, b2, hw, c1, hw, c2, hw, start, z.n, p, z.n, k1, k * kw, k2, k * kw, w1, ws, w2, ws);
         else
             b = c_build(z, hu1, hu2, hv1, hv2, b1, b2, c1, c2, start, q, d1, d2, x1, x2);
-        c = __rdtsc() - c;
-        t = now() - t;
-        if (r % 2 && c < cycles) cycles = c;
+        c = cycles() - c;
+        t = (now() - t) / 1e9;
+        if (r % 2 && c < least) least = c;
         if (t < best[r % 2]) best[r % 2] = t;
     }
     int same = a == b && !memcmp(p, q, 2 * z.n) && !memcmp(k1, d1, 8 * k * kw) && !memcmp(k2, d2, 8 * k * kw) && !memcmp(w1, x1, 8 * ws) && !memcmp(w2, x2, 8 * ws);
     printf("%-12s n %llu, k_U %llu, k_V %llu: answer %llu, ours %.2f s (%llu million cycles), plain C %.2f s, ratio %.2f, published %s, %s\n", name, (unsigned long long)z.n,
-           (unsigned long long)z.ku, (unsigned long long)z.kv, (unsigned long long)a, best[1], cycles / 1000000, best[0], best[1] / best[0], published,
+           (unsigned long long)z.ku, (unsigned long long)z.kv, (unsigned long long)a, best[1], (unsigned long long)(least / 1000000), best[0], best[1] / best[0], published,
            same ? "same results" : "RESULTS DIFFER");
     if (!same) exit(1);
 }

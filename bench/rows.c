@@ -1,10 +1,10 @@
 /* Times the row functions of the crate `bench` against the same functions in plain C, in one run, and prints ratios.
    Each time is the best of many runs that take turns; the results of both are compared first. */
+#include "clock.h"
 #include "rows_c.h"
 #include <stdio.h>
 #include <stdlib.h>
 #include <string.h>
-#include <time.h>
 
 /* Exported by the crate `bench`: each slice is a pointer and a count. */
 uint64_t bench_sum(uint64_t *ones, size_t, uint64_t *twos, size_t, const uint64_t *so, size_t, const uint64_t *st, size_t, size_t times);
@@ -18,20 +18,6 @@ uint64_t bench_past_end(const uint64_t *ones, size_t, const uint64_t *twos, size
 
 static uint64_t ones[MOST * ROWS], twos[MOST * ROWS], so[MOST], st[MOST], ones2[MOST], twos2[MOST];
 static volatile uint64_t sink;
-
-static double now(void) {
-    struct timespec t;
-    clock_gettime(CLOCK_MONOTONIC, &t);
-    return t.tv_sec * 1e9 + t.tv_nsec;
-}
-
-static uint64_t seed = 88172645463325252u;
-static uint64_t draw(void) {
-    seed ^= seed << 13;
-    seed ^= seed >> 7;
-    seed ^= seed << 17;
-    return seed;
-}
 
 /* a row with no bit in both planes */
 static void fill(uint64_t *a, uint64_t *b, size_t n) {

@@ -9,12 +9,12 @@ use Rattle.trits.specs.Planes.{bit, bitAt, tritAt, fromBits, tabulate, onesOf, 
 use Rattle.trits.specs.Rows.{rowPart, putWords, rowsPastEnd}
 use Rattle.trits.specs.Refusal.{first, planesRefusal}
 use Rattle.packing.specs.Packed.{digitOf, packedAt, packedRow, badByte, packedRefusal}
-use Rattle.checker.specs.declared.state.Held.{Held}
+use Rattle.heldkey.specs.declared.state.Held.{Held}
 use Rattle.verdict.specs.Verdict.{timesKey, fullWord, fullWeight}
-use Rattle.checker.specs.Held.{sizesFit, sound, heldRow, heldKey}
-use Rattle.checker.specs.Store.{beginRefusal, begunHeld, beginHeld, rowRefusal, storePackedRefusal, nextHeld, storedHeld, storedPlane}
-use Rattle.checker.specs.Load.{offer, offerAll}
-use Rattle.checker.specs.Check.{callRefusal, planesLengths, planesContents, packedLengths, packedContents, checkRefusal, checkPackedRefusal, heldWeight, answered, checkAnswer, checkPackedAnswer, spaceAtExit}
+use Rattle.heldkey.specs.Held.{sizesFit, sound, heldRow, heldKey}
+use Rattle.heldkey.specs.Store.{beginRefusal, begunHeld, beginHeld, rowRefusal, storePackedRefusal, nextHeld, storedHeld, storedPlane}
+use Rattle.heldkey.specs.Load.{offer, offerAll}
+use Rattle.checking.specs.Check.{callRefusal, planesLengths, planesContents, packedLengths, packedContents, checkRefusal, checkPackedRefusal, heldWeight, answered, checkAnswer, checkPackedAnswer, spaceAtExit}
 
 -- P 7 4 2 4, over a state of any numbers
 abbrev held : ℕ → Held

@@ -14,19 +14,19 @@ use Rattle.trits.proofs.Refusals.{first-goes}
 use Rattle.trits.proofs.Reading.{length-ones, length-twos}
 use Rattle.packing.specs.Packed.{bytesFor, packedRow, badByte}
 use Rattle.packing.proofs.Turned.{bytes-good}
-use Rattle.checker.specs.declared.state.Held.{Held}
+use Rattle.heldkey.specs.declared.state.Held.{Held}
 use Rattle.verdict.specs.Verdict.{Key, fullWeight}
-use Rattle.checker.specs.Held.{sizesFit, sound, heldKey}
-use Rattle.checker.specs.Store.{beginRefusal, begunHeld, beginHeld, rowRefusal, storePackedRefusal, nextHeld, storedHeld, storedPlane}
-use Rattle.checker.specs.Load.{Kept, offer, offerAll}
-use Rattle.checker.specs.Check.{callRefusal, packedLengths, packedContents, checkPackedRefusal, heldWeight, answered, checkPackedAnswer}
-use Rattle.checker.specs.Steps.{Whole}
+use Rattle.heldkey.specs.Held.{sizesFit, sound, heldKey}
+use Rattle.heldkey.specs.Store.{beginRefusal, begunHeld, beginHeld, rowRefusal, storePackedRefusal, nextHeld, storedHeld, storedPlane}
+use Rattle.heldkey.specs.Load.{Kept, offer, offerAll}
+use Rattle.checking.specs.Check.{callRefusal, packedLengths, packedContents, checkPackedRefusal, heldWeight, answered, checkPackedAnswer}
+use Rattle.heldkey.specs.Steps.{Whole}
 use Rattle.verdict.proofs.FullWord.{weight-cong}
-use Rattle.checker.proofs.Passed.{stored-packed-passed}
-use Rattle.checker.proofs.Answers.{held-new}
-use Rattle.checker.proofs.Storing.{plane-put}
-use Rattle.checker.proofs.Loader.{put-size}
-use Rattle.checker.proofs.Filled.{Filled, filled-none, filled-packed, filled-row, filled-passes}
+use Rattle.heldkey.proofs.Room.{stored-packed-passed}
+use Rattle.heldkey.proofs.Answers.{held-new}
+use Rattle.heldkey.proofs.Storing.{plane-put}
+use Rattle.heldkey.proofs.Loader.{put-size}
+use Rattle.heldkey.proofs.Filled.{Filled, filled-none, filled-packed, filled-row, filled-passes}
 
 module _ (number n k w : ℕ) (z : sizesFit number n k w ≡ true) (rows : ℕ → List ℕ)
     (size : (i : ℕ) → i < k → length (rows i) ≡ bytesFor (n - k)) (good : (i : ℕ) → i < k → badByte (rows i) ≡ false) where

@@ -1,17 +1,15 @@
 -- y - s·R-transposed, one row after the other, and the weight of the full word. Assumes nothing.
 use mathlib.Core.Path.{_≡_, refl, sym, ap, ap₂, _∙_, fun-ext}
 use mathlib.Core.List.{List}
-use Prim.Native.Nat.{ℕ, zero, suc, _+_, _-_, _/_, _%_, _≤_, _<_}
+use Prim.Native.Nat.{ℕ, zero, suc, _+_, _-_, _≤_, _<_}
 use native.Mathlib.Nat.{le-refl}
 use native.Mathlib.Numerals.{add-one}
 use native.Mathlib.Omega.{arith}
-use lib.ListN.{getD}
 use Rattle.trits.specs.Trit.{Trit, t0, t2, addT, subT, mulT, zipV, dotV, sumTo, weightV, nonZero, tritOf}
 use Rattle.trits.specs.Planes.{tritAt, Reads}
 use Rattle.trits.proofs.Arithmetic.{law1, law2, law3}
 use Rattle.trits.proofs.Counts.{sum-cong, sum-add}
-use Rattle.trits.proofs.Ends.{upto-in, upto-out, weight-ended}
-use Rattle.packing.specs.Packed.{digitOf, packedAt, packedRow}
+use Rattle.trits.proofs.Ends.{weight-ended}
 use Rattle.verdict.specs.Verdict.{Key, timesKey, fullWord, fullWeight}
 use Rattle.verdict.proofs.FullWord.{full-low, full-high}
 
@@ -57,15 +55,6 @@ turn-reads u R s i x e l r g = record {
 pub turn-weight : (s : ℕ → Trit) (i : ℕ) {a c : ℕ} (x : Trit) → x ≡ s i → a ≡ weightV s i → c ≡ nonZero x → a + c ≡ weightV s (i + 1)
 unfolding sumTo
 turn-weight s i {a} {c} x e p q = ap₂ (λ (y z : ℕ). y + z) p (q ∙ ap nonZero e) ∙ ap (weightV s) (sym (add-one i))
-
--- a trit of packed bytes
-pub packed-trit : (bytes : List ℕ) (m i d : ℕ) → i < m → d ≡ digitOf (getD bytes (i / 5) 0) (i % 5) → tritOf d ≡ packedRow m bytes i
-unfolding packedRow packedAt
-packed-trit bytes m i d l e = ap tritOf e ∙ sym (upto-in (packedAt bytes) m i l)
-
-pub packed-out : (bytes : List ℕ) (m q : ℕ) → m ≤ q → packedRow m bytes q ≡ t0
-unfolding packedRow
-packed-out bytes m q l = upto-out (packedAt bytes) m q l
 
 -- a place where every row is 0
 dot-zero : (s r : ℕ → Trit) (k : ℕ) → ((i : ℕ) → i < k → r i ≡ t0) → dotV s r k ≡ t0

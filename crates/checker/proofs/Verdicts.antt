@@ -17,13 +17,14 @@ use Rattle.trits.proofs.Ends.{upto-ended}
 use Rattle.packing.specs.Packed.{bytesFor, packedRow, packedBytes}
 use Rattle.packing.proofs.RoundTrip.{packed-length, packed-back, packed-good}
 use Rattle.packing.proofs.Turned.{bytes-good}
-use Rattle.checker.specs.declared.state.Held.{Held}
+use Rattle.heldkey.specs.declared.state.Held.{Held}
 use Rattle.verdict.specs.Verdict.{fullWeight, HasSyndrome, Extends}
-use Rattle.checker.specs.Held.{sound, rowTrits, heldKey}
-use Rattle.checker.specs.Check.{callRefusal, planesLengths, planesContents, packedLengths, packedContents, checkRefusal, checkPackedRefusal, heldWeight, answered, checkAnswer, checkPackedAnswer}
-use Rattle.checker.proofs.Sizes.{Sizes, sizes}
+use Rattle.heldkey.specs.Held.{sound, rowTrits, heldKey}
+use Rattle.checking.specs.Check.{callRefusal, planesLengths, planesContents, packedLengths, packedContents, checkRefusal, checkPackedRefusal, heldWeight, answered, checkAnswer, checkPackedAnswer}
+use Rattle.heldkey.proofs.Sizes.{Sizes, sizes}
 use Rattle.verdict.proofs.FullWord.{verifier, extends-once, yes-weight}
-use Rattle.checker.proofs.Passed.{Called, Fitted, fitted, contents, row-ended, check-passed, check-packed-passed}
+use Rattle.checking.proofs.Passed.{Called, Fitted, fitted, contents, check-passed, check-packed-passed}
+use Rattle.checker.proofs.Weighed.{row-ended}
 
 -- ---- yes
 

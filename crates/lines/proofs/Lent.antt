@@ -9,10 +9,10 @@ use lib.ListN.{length, getD, take, drop, length-take, length-drop}
 use Rattle.trits.specs.Planes.{tabulate, onesOf, twosOf, onesWord, twosWord, wordsFor, zeroWords, Reads}
 use Rattle.trits.proofs.Reading.{reads-holds}
 use Rattle.text.specs.Digits.{digitRow}
-use Rattle.checker.specs.declared.state.Held.{Held}
-use Rattle.checker.specs.Held.{rowTrits, rowWords, keyWords}
-use Rattle.checker.specs.Store.{storeRefusal, storedHeld, storedPlane}
-use Rattle.checker.specs.Check.{checkAnswer}
+use Rattle.heldkey.specs.declared.state.Held.{Held}
+use Rattle.heldkey.specs.Held.{rowTrits, rowWords, keyWords}
+use Rattle.heldkey.specs.Store.{storeRefusal, storedHeld, storedPlane}
+use Rattle.checking.specs.Check.{checkAnswer}
 use Rattle.lines.specs.Answer.{asked, keyPart, afterKey, offeredOnes, offeredTwos, digitsRefusal, rowPlane, rowKept, signAnswer}
 use Rattle.lines.specs.Machine.{keeping}
 

@@ -13,11 +13,11 @@ use Rattle.text.specs.Forms.{Line, noForm, keyLine, rowLine, signLine}
 use Rattle.text.specs.Steps.{atMostLarge, bounded, large}
 use Rattle.text.specs.Answers.{lineRefused, verdictAnswer, signRefused}
 use Rattle.text.proofs.Numbers.{value-small, value-large}
-use Rattle.checker.specs.declared.state.Held.{Held}
-use Rattle.checker.specs.declared.checking.Checked.{Checked}
-use Rattle.checker.specs.Held.{mostKeyNumber, sizesFit}
-use Rattle.checker.specs.Store.{beginRefusal, beginHeld}
-use Rattle.checker.proofs.Sizes.{and-both}
+use Rattle.heldkey.specs.declared.state.Held.{Held}
+use Rattle.checking.specs.declared.Checked.{Checked}
+use Rattle.heldkey.specs.Held.{mostKeyNumber, sizesFit}
+use Rattle.heldkey.specs.Store.{beginRefusal, beginHeld}
+use Rattle.heldkey.proofs.Sizes.{and-both}
 use Rattle.lines.specs.Answer.{Kept, keyRefusal, keyHeld, refusalPrints, signPrints, linePrints, lineKept}
 
 -- nothing printed leaves the buffer

@@ -9,11 +9,11 @@ use Rattle.trits.specs.Refusal.{refuse}
 use Rattle.text.specs.Digits.{digitRow}
 use Rattle.text.specs.Forms.{Line, noForm, keyLine, rowLine, signLine}
 use Rattle.text.specs.Answers.{verdictAnswer, signRefused, lineRefused}
-use Rattle.checker.specs.declared.state.Held.{Held}
-use Rattle.checker.specs.declared.checking.Checked.{Checked}
-use Rattle.checker.specs.Held.{rowTrits, rowWords, keyWords}
-use Rattle.checker.specs.Store.{heldAtExit, beginRefusal, begunHeld, storeRefusal, storedHeld, storedPlane}
-use Rattle.checker.specs.Check.{checkAnswer}
+use Rattle.heldkey.specs.declared.state.Held.{Held}
+use Rattle.checking.specs.declared.Checked.{Checked}
+use Rattle.heldkey.specs.Held.{rowTrits, rowWords, keyWords}
+use Rattle.heldkey.specs.Store.{heldAtExit, beginRefusal, begunHeld, storeRefusal, storedHeld, storedPlane}
+use Rattle.checking.specs.Check.{checkAnswer}
 
 -- what is kept from line to line: the state, and the words of the held key
 pub record Kept : Type 0 where

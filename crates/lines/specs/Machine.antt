@@ -8,7 +8,7 @@ use Rattle.trits.specs.Planes.{zeroWords}
 use Rattle.text.specs.Forms.{Line, noForm, mostBytes}
 use Rattle.lines.specs.Answer.{Kept, linePrints, lineKept}
 use Rattle.lines.specs.Print.{readLine, noKey}
-use Rattle.checker.specs.declared.state.Held.{Held}
+use Rattle.heldkey.specs.declared.state.Held.{Held}
 use Rattle.lines.specs.declared.State.{State}
 
 -- the bytes of the line so far, of which a buffer has at most 1,025, and what is kept from line to line

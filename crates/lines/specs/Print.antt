@@ -8,7 +8,7 @@ use Rattle.trits.specs.Planes.{zeroWords}
 use Rattle.text.specs.Fields.{split}
 use Rattle.text.specs.Forms.{Line, lineOf}
 use Rattle.text.specs.Answers.{header}
-use Rattle.checker.specs.Held.{mostKeyNumber}
+use Rattle.heldkey.specs.Held.{mostKeyNumber}
 use Rattle.lines.specs.Answer.{Kept, linePrints, lineKept}
 
 -- parts without the last, if that is empty

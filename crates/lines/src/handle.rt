@@ -12,8 +12,8 @@ use super::offer::key_words;
 use super::offer::offer;
 use super::offer::row_trits;
 use super::offer::row_words;
-use checker::checking::Checked;
-use checker::state::Held;
+use checking::Checked;
+use heldkey::state::Held;
 use text::forms::Form;
 
 // What a P or a K line comes to: a refusal's number or 0, and the state after it.
@@ -39,7 +39,7 @@ fn begin_key(held: Held, number: u64, n: u64, k: u64, w: u64) -> Changed
             held: held,
         };
     }
-    let stored = checker::begin(held, number, n, k, w);
+    let stored = heldkey::begin(held, number, n, k, w);
     let outcome = stored.outcome;
     let after = stored.held;
     Changed {
@@ -59,7 +59,7 @@ fn store_digits(held: Held, ones: &mut [u64], twos: &mut [u64], digits: &[u8]) -
     let mut row_twos = [0u64; 16];
     let count = offer(digits, row_trits(held), &mut row_ones, &mut row_twos);
     let words = key_words(held);
-    let stored = checker::store_row(
+    let stored = heldkey::store_row(
         held,
         &mut ones[0..words],
         &mut twos[0..words],
@@ -103,7 +103,7 @@ fn check_digits(held: Held, number: u64, ones: &[u64], twos: &[u64], y: &[u8], s
         &mut work_ones[0..row],
         &mut work_twos[0..row],
     );
-    checker::checking::tell(verdict)
+    checking::tell(verdict)
 }
 
 // A line that prints only its refusal.

@@ -8,7 +8,7 @@ ghost use Rattle.trits.specs.Rows.{putWords};
 ghost use Rattle.text.specs.Answers.{header};
 ghost use Rattle.lines.specs.Answer.{linePrints};
 ghost use Rattle.lines.specs.Machine.{machine, gathered, ended, stepped, stepPrints, finished, endPrints, noLine};
-use checker::state::Held;
+use heldkey::state::Held;
 
 // What is held between two bytes: the length of the line so far, up to 1,025, and the module's state.
 pub struct State {

@@ -5,9 +5,9 @@ ghost use Prim.Native.Nat.{_≤_};
 ghost use lib.ListN.{length, take};
 ghost use Rattle.trits.specs.Planes.{zeroWords};
 ghost use Rattle.text.specs.Digits.{isDigits};
-ghost use Rattle.checker.specs.Held.{rowTrits, rowWords, keyWords};
+ghost use Rattle.heldkey.specs.Held.{rowTrits, rowWords, keyWords};
 ghost use Rattle.lines.specs.Answer.{asked, offeredOnes, offeredTwos};
-use checker::state::Held;
+use heldkey::state::Held;
 
 // The trits of a row.
 pub fn row_trits(held: Held) -> u64

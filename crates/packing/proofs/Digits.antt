@@ -1,7 +1,7 @@
 -- Bytes and their five digits to the base 3: each determines the other. Assumes nothing.
-use mathlib.Core.Path.{_≡_, refl, ap, ap₂, _∙_}
+use mathlib.Core.Path.{_≡_, refl, sym, ap, ap₂, _∙_}
 use mathlib.Core.List.{List}
-use Prim.Native.Nat.{ℕ, zero, suc, _+_, _*_, _/_, _%_, _^_, _<_}
+use Prim.Native.Nat.{ℕ, zero, suc, _+_, _*_, _/_, _%_, _^_, _≤_, _<_}
 use native.Mathlib.Nat.{mod-lt, zero-lt-suc}
 use native.Mathlib.Omega.{arith}
 use lib.Arith.{digits-div, digits-mod}
@@ -9,7 +9,8 @@ use lib.ListN.{getD}
 use Rattle.trits.specs.Trit.{Trit, t0, t1, t2, number, tritOf}
 use Rattle.trits.proofs.Arithmetic.{number-tritOf}
 use Rattle.trits.proofs.Lists.{getD-tabulate}
-use Rattle.packing.specs.Packed.{byteOf, digitOf, byteTable, packedAt}
+use Rattle.trits.proofs.Ends.{upto-in, upto-out}
+use Rattle.packing.specs.Packed.{byteOf, digitOf, byteTable, packedAt, packedRow}
 
 pub number-lt : (x : Trit) → number x < 3
 number-lt t0 = omega arith
@@ -87,3 +88,12 @@ packed-place bytes j k h = ap₂ (λ (q r : ℕ). tritOf (digitOf (getD bytes q 
 pub table-rule : (b k : ℕ) → b < 243 → k < 5 → getD byteTable (b * 5 + k) 0 ≡ digitOf b k
 unfolding byteTable
 table-rule b k hb hk = rw (digits-div b hk, digits-mod b hk) at (getD-tabulate 1215 (λ i. digitOf (i / 5) (i % 5)) (b * 5 + k) 0 (omega arith))
+
+-- a trit of packed bytes, below the length and past it
+pub packed-trit : (bytes : List ℕ) (m i d : ℕ) → i < m → d ≡ digitOf (getD bytes (i / 5) 0) (i % 5) → tritOf d ≡ packedRow m bytes i
+unfolding packedRow packedAt
+packed-trit bytes m i d l e = ap tritOf e ∙ sym (upto-in (packedAt bytes) m i l)
+
+pub packed-out : (bytes : List ℕ) (m q : ℕ) → m ≤ q → packedRow m bytes q ≡ t0
+unfolding packedRow
+packed-out bytes m q l = upto-out (packedAt bytes) m q l

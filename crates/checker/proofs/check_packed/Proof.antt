@@ -1,27 +1,23 @@
 -- A refusal is judged before anything is touched; else the weight is judged, and both planes of the working space are zeroed.
 -- Assumes nothing.
-use Prim.Native.Nat.{ℕ}
-use mathlib.Core.Path.{sym, ap, ap₂, _∙_}
+use mathlib.Core.Path.{sym, _∙_}
 use native.Mathlib.Omega.{arith}
 use borrow.Author.Needs.{needs}
-use denote.Ref.{now}
-use Rattle.trits.specs.Trit.{number}
-use Rattle.packing.specs.Packed.{packedRow}
-use Rattle.checker.specs.Held.{rowTrits}
-use Rattle.checker.specs.Check.{heldWeight, answered, checkPackedAnswer}
-use Rattle.checker.proofs.Passed.{whole, check-packed-passed}
-use Rattle.checker.proofs.Answers.{positive, refused-alike, space-kept, space-zero}
+use Rattle.checking.specs.Check.{checkPackedAnswer}
+use Rattle.checking.proofs.Passed.{whole, check-packed-passed}
+use Rattle.heldkey.proofs.Answers.{positive}
+use Rattle.checking.proofs.Answers.{answer-kept, answer-new, space-kept, space-zero}
 use Rattle.checker.proofs.check_packed.Statement.{statement}
 use Rattle.checker.proofs.check_packed.Tie as tie
 
 test-packed-check-requires : tie.Need-test-packed-check-requires
-test-packed-check-requires c κs = search needs
+test-packed-check-requires c κs = tt
 
 code-requires : tie.Need-code-requires
-code-requires c κs = search needs
+code-requires c κs = tt
 
 judge-requires : tie.Need-judge-requires
-judge-requires c κs = search needs
+judge-requires c κs = tt
 
 same-length : tie.Need-same-length
 same-length c = search needs
@@ -33,21 +29,22 @@ returns : tie.Need-returns
 unfolding checkPackedAnswer
 returns c =
     let l = positive (λ z. c .before .if1 .taken (c .before .before .code .ensures ∙ z)) in
-    (c .judge .ensures ∙ refused-alike 0 (heldWeight (c .before .before .before .before .before .before .before .before .before .before .before .before .args .held) (now (c .before .before .before .before .before .before .before .before .before .before .before .before .args .ones)) (now (c .before .before .before .before .before .before .before .before .before .before .before .before .args .twos)) (packedRow (rowTrits (c .before .before .before .before .before .before .before .before .before .before .before .before .args .held)) (now (c .before .before .before .before .before .before .before .before .before .before .before .before .args .y))) (packedRow ((c .before .before .before .before .before .before .before .before .before .before .before .before .args .held) .k) (now (c .before .before .before .before .before .before .before .before .before .before .before .before .args .s)))) ((c .before .before .before .before .before .before .before .before .before .before .before .before .args .held) .w) l ∙ ap (λ (x : ℕ). answered x (heldWeight (c .before .before .before .before .before .before .before .before .before .before .before .before .args .held) (now (c .before .before .before .before .before .before .before .before .before .before .before .before .args .ones)) (now (c .before .before .before .before .before .before .before .before .before .before .before .before .args .twos)) (packedRow (rowTrits (c .before .before .before .before .before .before .before .before .before .before .before .before .args .held)) (now (c .before .before .before .before .before .before .before .before .before .before .before .before .args .y))) (packedRow ((c .before .before .before .before .before .before .before .before .before .before .before .before .args .held) .k) (now (c .before .before .before .before .before .before .before .before .before .before .before .before .args .s)))) ((c .before .before .before .before .before .before .before .before .before .before .before .before .args .held) .w)) (c .before .before .before .test-packed-check .ensures), (space-kept _ (c .before .before .before .test-packed-check .ensures) l, space-kept _ (c .before .before .before .test-packed-check .ensures) l))
+    let e = c .before .before .before .test-packed-check .ensures in
+    (c .judge .ensures ∙ answer-kept 0 _ _ e l, (space-kept _ e l, space-kept _ e l))
 
 weigh-packed-requires : tie.Need-weigh-packed-requires
 weigh-packed-requires c κs =
-    let p = check-packed-passed (c .before .before .before .before .before .before .before .before .before .before .before .before .before .args .held) (c .before .before .before .before .before .before .before .before .before .before .before .before .before .args .number) (now (c .before .before .before .before .before .before .before .before .before .before .before .before .before .args .ones)) (now (c .before .before .before .before .before .before .before .before .before .before .before .before .before .args .twos)) (now (c .before .before .before .before .before .before .before .before .before .before .before .before .before .args .y)) (now (c .before .before .before .before .before .before .before .before .before .before .before .before .before .args .s)) (now (c .before .before .before .before .before .before .before .before .before .before .before .before .before .args .work-ones)) (now (c .before .before .before .before .before .before .before .before .before .before .before .before .before .args .work-twos)) (sym (c .before .before .before .before .test-packed-check .ensures) ∙ sym (c .before .before .before .code .ensures) ∙ c .before .before .if1 .left) in
+    let p = check-packed-passed _ _ _ _ _ _ _ _ (sym (c .before .before .before .before .test-packed-check .ensures) ∙ sym (c .before .before .before .code .ensures) ∙ c .before .before .if1 .left) in
     (whole (p .0), (p .1, (p .2, (p .0 .work-ones, p .0 .work-twos))))
 
 zero-words-requires : tie.Need-zero-words-requires
-zero-words-requires c κs = search needs
+zero-words-requires c κs = tt
 
 zero-words-requires-2 : tie.Need-zero-words-requires-2
-zero-words-requires-2 c κs = search needs
+zero-words-requires-2 c κs = tt
 
 judge-requires-2 : tie.Need-judge-requires-2
-judge-requires-2 c κs = search needs
+judge-requires-2 c κs = tt
 
 same-length-3 : tie.Need-same-length-3
 same-length-3 c = search needs
@@ -58,10 +55,9 @@ same-length-4 c = search needs
 returns-2 : tie.Need-returns-2
 unfolding checkPackedAnswer
 returns-2 c =
-    let z = (sym (c .before .before .before .before .before .before .before .before .before .before .before .before .before .before .before .before .before .before .test-packed-check .ensures) ∙ sym (c .before .before .before .before .before .before .before .before .before .before .before .before .before .before .before .before .before .code .ensures) ∙ c .before .before .before .before .before .before .before .before .before .before .before .before .before .before .before .before .if1 .left) in (
-      c .judge2 .ensures ∙ ap₂ (λ (x y : ℕ). answered x y ((c .before .before .before .before .before .before .before .before .before .before .before .before .before .before .before .before .before .before .before .before .before .before .before .before .before .before .before .args .held) .w)) (c .before .before .before .before .before .before .before .before .before .before .before .before .before .before .before .before .before .before .test-packed-check .ensures) (c .before .before .before .before .before .before .before .before .before .before .before .before .before .weigh-packed .ensures),
-      (space-zero _ z (omega arith) (c .before .before .before .before .before .before .before .zero-words .ensures), space-zero _ z (omega arith) (c .before .before .before .zero-words2 .ensures)),
-    )
+    let e = c .before .before .before .before .before .before .before .before .before .before .before .before .before .before .before .before .before .before .test-packed-check .ensures in
+    let z = sym e ∙ sym (c .before .before .before .before .before .before .before .before .before .before .before .before .before .before .before .before .before .code .ensures) ∙ c .before .before .before .before .before .before .before .before .before .before .before .before .before .before .before .before .if1 .left in
+    (c .judge2 .ensures ∙ answer-new _ e (c .before .before .before .before .before .before .before .before .before .before .before .before .before .weigh-packed .ensures), (space-zero _ z (omega arith) (c .before .before .before .before .before .before .before .zero-words .ensures), space-zero _ z (omega arith) (c .before .before .before .zero-words2 .ensures)))
 
 pub check-packed-spec : {M : Type 1} → statement M
 check-packed-spec =

@@ -3,7 +3,7 @@
 use native.Mathlib.Omega.{arith}
 use borrow.Author.Needs.{needs}
 use Rattle.lines.proofs.Lent.{asked-long, asked-over, asked-all, most-words}
-use Rattle.checker.specs.Held.{keyWords}
+use Rattle.heldkey.specs.Held.{keyWords}
 use Rattle.lines.proofs.offer.key_words.Statement.{statement}
 use Rattle.lines.proofs.offer.key_words.Tie as tie
 

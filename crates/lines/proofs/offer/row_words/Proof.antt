@@ -3,7 +3,7 @@
 use native.Mathlib.Omega.{arith}
 use borrow.Author.Needs.{needs}
 use Rattle.lines.proofs.Lent.{asked-long, asked-over, asked-all}
-use Rattle.checker.specs.Held.{rowWords}
+use Rattle.heldkey.specs.Held.{rowWords}
 use Rattle.lines.proofs.offer.row_words.Statement.{statement}
 use Rattle.lines.proofs.offer.row_words.Tie as tie
 

@@ -1,0 +1,132 @@
+/* The check in plain C, with the same tests in the same order, in a file of its own so that no call is inlined into the benchmark. */
+#include "check_c.h"
+#include <string.h>
+
+/* ---- the tests */
+
+static uint64_t planes_refusal(const uint64_t *ones, const uint64_t *twos, size_t rows, size_t m) {
+    size_t w = WAVE_WORDS(m);
+    uint64_t both = 0, past = 0;
+    for (size_t i = 0; i < rows * w; i++) both |= ones[i] & twos[i];
+    if (both) return 3;
+    if (m % 64 == 0) return 0;
+    for (size_t last = w - 1; last < rows * w; last += w) past |= ones[last] | twos[last];
+    return past >> m % 64 ? 4 : 0;
+}
+
+static uint64_t bytes_refusal(const uint8_t *bytes, size_t n) {
+    for (size_t i = 0; i < n; i++)
+        if (bytes[i] > 242) return 5;
+    return 0;
+}
+
+static uint64_t call_refusal(wave_held h, uint64_t number, size_t ones, size_t twos, size_t work_ones, size_t work_twos) {
+    if (h.begun == 0) return 20;
+    if (h.begun != 1 || h.number > 255 || h.n < 4 || h.n > 16384 || h.n % 2 || h.k < 2 || h.k > h.n - 2 || h.w < 1 || h.w > h.n || h.rows > h.k) return 1;
+    if (h.rows != h.k) return 20;
+    if (number != h.number) return 22;
+    size_t w = WAVE_WORDS(h.n - h.k);
+    return ones != h.k * w || twos != h.k * w || work_ones != w || work_twos != w ? 2 : 0;
+}
+
+/* ---- the weight */
+
+static uint8_t table[243][5];
+
+static void make_table(void) {
+    for (int b = 0; b < 243; b++)
+        for (int k = 0, x = b; k < 5; k++, x /= 3) table[b][k] = x % 3;
+}
+
+static void add_row(uint64_t *restrict ones, uint64_t *restrict twos, const uint64_t *restrict so, const uint64_t *restrict st, size_t n) {
+    for (size_t i = 0; i < n; i++) {
+        uint64_t a = ones[i], b = twos[i], c = so[i], d = st[i], t = (a | d) ^ (b | c);
+        ones[i] = (b | d) ^ t;
+        twos[i] = (a | c) ^ t;
+    }
+}
+
+/* row i times t is taken from the word */
+static uint64_t take_row(const uint64_t *ones, const uint64_t *twos, size_t i, int t, uint64_t *work_ones, uint64_t *work_twos, size_t w) {
+    if (t == 0) return 0;
+    if (t == 1)
+        add_row(work_ones, work_twos, twos + i * w, ones + i * w, w);
+    else
+        add_row(work_ones, work_twos, ones + i * w, twos + i * w, w);
+    return 1;
+}
+
+static uint64_t weight(const uint64_t *ones, const uint64_t *twos, size_t n) {
+    uint64_t sum = 0;
+    for (size_t i = 0; i < n; i++) sum += (uint64_t)__builtin_popcountll(ones[i] | twos[i]);
+    return sum;
+}
+
+static uint64_t full_weight(wave_held h, const uint64_t *ones, const uint64_t *twos, const uint64_t *y_ones, const uint64_t *y_twos, const uint64_t *s_ones, const uint64_t *s_twos,
+                            uint64_t *work_ones, uint64_t *work_twos) {
+    size_t w = WAVE_WORDS(h.n - h.k);
+    uint64_t taken = 0;
+    memcpy(work_ones, y_ones, 8 * w);
+    memcpy(work_twos, y_twos, 8 * w);
+    for (size_t i = 0; i < h.k; i++) taken += take_row(ones, twos, i, (s_ones[i / 64] >> i % 64 & 1) + 2 * (s_twos[i / 64] >> i % 64 & 1), work_ones, work_twos, w);
+    return weight(work_ones, work_twos, w) + taken;
+}
+
+static uint64_t full_weight_packed(wave_held h, const uint64_t *ones, const uint64_t *twos, const uint8_t *y, const uint8_t *s, uint64_t *work_ones, uint64_t *work_twos) {
+    size_t m = h.n - h.k, w = WAVE_WORDS(m);
+    uint64_t taken = 0;
+    memset(work_ones, 0, 8 * w);
+    memset(work_twos, 0, 8 * w);
+    for (size_t p = 0; p < m; p++) {
+        int t = table[y[p / 5]][p % 5];
+        work_ones[p / 64] |= (uint64_t)(t == 1) << p % 64;
+        work_twos[p / 64] |= (uint64_t)(t == 2) << p % 64;
+    }
+    for (size_t i = 0; i < h.k; i++) taken += take_row(ones, twos, i, table[s[i / 5]][i % 5], work_ones, work_twos, w);
+    return weight(work_ones, work_twos, w) + taken;
+}
+
+static wave_checked verdict(wave_held h, uint64_t weight, uint64_t *work_ones, uint64_t *work_twos) {
+    memset(work_ones, 0, 8 * WAVE_WORDS(h.n - h.k));
+    memset(work_twos, 0, 8 * WAVE_WORDS(h.n - h.k));
+    return (wave_checked){0, weight == h.w, weight};
+}
+
+/* ---- the calls */
+
+wave_checked c_weigh(wave_held h, uint64_t number, const uint64_t *ones, size_t on, const uint64_t *twos, size_t tn, const uint64_t *y_ones, size_t yon, const uint64_t *y_twos, size_t ytn,
+                     const uint64_t *s_ones, size_t son, const uint64_t *s_twos, size_t stn, uint64_t *work_ones, size_t won, uint64_t *work_twos, size_t wtn, size_t times) {
+    uint64_t r = call_refusal(h, number, on, tn, won, wtn), sum = 0;
+    size_t m = h.n - h.k;
+    if (!r && (yon != WAVE_WORDS(m) || ytn != WAVE_WORDS(m) || son != WAVE_WORDS(h.k) || stn != WAVE_WORDS(h.k))) r = 2;
+    if (!r) r = planes_refusal(ones, twos, h.k, m);
+    if (!r) r = planes_refusal(y_ones, y_twos, 1, m);
+    if (!r) r = planes_refusal(s_ones, s_twos, 1, h.k);
+    if (r) return (wave_checked){r, 0, 0};
+    for (size_t i = 0; i < times; i++) sum = full_weight(h, ones, twos, y_ones, y_twos, s_ones, s_twos, work_ones, work_twos);
+    return verdict(h, sum, work_ones, work_twos);
+}
+
+wave_checked c_weigh_packed(wave_held h, uint64_t number, const uint64_t *ones, size_t on, const uint64_t *twos, size_t tn, const uint8_t *y, size_t yn, const uint8_t *s, size_t sn,
+                            uint64_t *work_ones, size_t won, uint64_t *work_twos, size_t wtn, size_t times) {
+    uint64_t r = call_refusal(h, number, on, tn, won, wtn), sum = 0;
+    size_t m = h.n - h.k;
+    if (!r && (yn != WAVE_BYTES(m) || sn != WAVE_BYTES(h.k))) r = 2;
+    if (!r) r = planes_refusal(ones, twos, h.k, m);
+    if (!r) r = bytes_refusal(y, yn);
+    if (!r) r = bytes_refusal(s, sn);
+    if (r) return (wave_checked){r, 0, 0};
+    if (!table[1][0]) make_table();
+    for (size_t i = 0; i < times; i++) sum = full_weight_packed(h, ones, twos, y, s, work_ones, work_twos);
+    return verdict(h, sum, work_ones, work_twos);
+}
+
+wave_checked c_check(wave_held h, uint64_t number, const uint64_t *ones, size_t on, const uint64_t *twos, size_t tn, const uint64_t *y_ones, size_t yon, const uint64_t *y_twos, size_t ytn,
+                     const uint64_t *s_ones, size_t son, const uint64_t *s_twos, size_t stn, uint64_t *work_ones, size_t won, uint64_t *work_twos, size_t wtn) {
+    return c_weigh(h, number, ones, on, twos, tn, y_ones, yon, y_twos, ytn, s_ones, son, s_twos, stn, work_ones, won, work_twos, wtn, 1);
+}
+
+wave_checked c_check_packed(wave_held h, uint64_t number, const uint64_t *ones, size_t on, const uint64_t *twos, size_t tn, const uint8_t *y, size_t yn, const uint8_t *s, size_t sn,
+                            uint64_t *work_ones, size_t won, uint64_t *work_twos, size_t wtn) {
+    return c_weigh_packed(h, number, ones, on, twos, tn, y, yn, s, sn, work_ones, won, work_twos, wtn, 1);
+}

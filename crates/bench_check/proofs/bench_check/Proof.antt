@@ -1,0 +1,26 @@
+-- The verdict of `check`, told in numbers.
+-- Assumes nothing.
+use mathlib.Core.Path.{_∙_}
+use Rattle.bench_check.proofs.bench_check.Statement.{statement}
+use Rattle.bench_check.proofs.bench_check.Tie as tie
+
+check-requires : tie.Need-check-requires
+check-requires c κs = tt
+
+tell-requires : tie.Need-tell-requires
+tell-requires c κs = tt
+
+same-length : tie.Need-same-length
+same-length c = c .before .before .before .before .work-ones .given
+
+same-length-2 : tie.Need-same-length-2
+same-length-2 c = c .before .before .work-twos .given
+
+returns : tie.Need-returns
+returns c =
+    let e = c .before .before .before .before .before .check .ensures in
+    (c .tell .ensures ∙ e .0, (e .1 .0, e .1 .1))
+
+pub bench-check-spec : {M : Type 1} → statement M
+bench-check-spec =
+    tie.close (tie.spec check-requires tell-requires same-length same-length-2 returns)

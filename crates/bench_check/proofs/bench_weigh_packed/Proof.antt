@@ -1,0 +1,83 @@
+-- A refusal is told before anything is touched; else the weight is told, and both planes of the working space are zeroed.
+-- Assumes nothing.
+use mathlib.Core.Path.{sym, _∙_}
+use native.Mathlib.Omega.{arith}
+use borrow.Author.Needs.{needs}
+use Rattle.checking.proofs.Passed.{whole, check-packed-passed}
+use Rattle.heldkey.proofs.Answers.{positive}
+use Rattle.checking.proofs.Answers.{space-kept, space-zero, answer-kept, answer-new}
+use Rattle.bench_check.proofs.bench_weigh_packed.Statement.{statement}
+use Rattle.bench_check.proofs.bench_weigh_packed.Tie as tie
+
+test-packed-check-requires : tie.Need-test-packed-check-requires
+test-packed-check-requires c κs = tt
+
+code-requires : tie.Need-code-requires
+code-requires c κs = tt
+
+judge-requires : tie.Need-judge-requires
+judge-requires c κs = tt
+
+tell-requires : tie.Need-tell-requires
+tell-requires c κs = tt
+
+same-length : tie.Need-same-length
+same-length c = search needs
+
+same-length-2 : tie.Need-same-length-2
+same-length-2 c = search needs
+
+returns : tie.Need-returns
+returns c =
+    let l = positive (λ z. c .before .before .if1 .taken (c .before .before .before .code .ensures ∙ z)) in
+    let e = c .before .before .before .before .test-packed-check .ensures in
+    (c .tell .ensures ∙ c .before .judge .ensures ∙ answer-kept 0 _ _ e l, (space-kept _ e l, space-kept _ e l))
+
+weigh-packed-times-requires : tie.Need-weigh-packed-times-requires
+weigh-packed-times-requires c κs =
+    let p = check-packed-passed _ _ _ _ _ _ _ _ (sym (c .before .before .before .before .test-packed-check .ensures) ∙ sym (c .before .before .before .code .ensures) ∙ c .before .before .if1 .left) in
+    (whole (p .0), (p .1, (p .2, (p .0 .work-ones, p .0 .work-twos))))
+
+zero-words-requires : tie.Need-zero-words-requires
+zero-words-requires c κs = tt
+
+zero-words-requires-2 : tie.Need-zero-words-requires-2
+zero-words-requires-2 c κs = tt
+
+judge-requires-2 : tie.Need-judge-requires-2
+judge-requires-2 c κs = tt
+
+tell-requires-2 : tie.Need-tell-requires-2
+tell-requires-2 c κs = tt
+
+same-length-3 : tie.Need-same-length-3
+same-length-3 c = search needs
+
+same-length-4 : tie.Need-same-length-4
+same-length-4 c = search needs
+
+returns-2 : tie.Need-returns-2
+returns-2 c =
+    let e = c .before .before .before .before .before .before .before .before .before .before .before .before .before .before .before .before .before .before .before .test-packed-check .ensures in
+    let z = sym e ∙ sym (c .before .before .before .before .before .before .before .before .before .before .before .before .before .before .before .before .before .before .code .ensures) ∙ c .before .before .before .before .before .before .before .before .before .before .before .before .before .before .before .before .before .if1 .left in
+    (c .tell2 .ensures ∙ c .before .judge2 .ensures ∙ answer-new _ e (c .before .before .before .before .before .before .before .before .before .before .before .before .before .before .weigh-packed-times .ensures), (space-zero _ z (omega arith) (c .before .before .before .before .before .before .before .before .zero-words .ensures), space-zero _ z (omega arith) (c .before .before .before .before .zero-words2 .ensures)))
+
+pub bench-weigh-packed-spec : {M : Type 1} → statement M
+bench-weigh-packed-spec =
+    tie.close
+    (tie.spec
+    test-packed-check-requires
+    code-requires
+    judge-requires
+    tell-requires
+    same-length
+    same-length-2
+    returns
+    weigh-packed-times-requires
+    zero-words-requires
+    zero-words-requires-2
+    judge-requires-2
+    tell-requires-2
+    same-length-3
+    same-length-4
+    returns-2)

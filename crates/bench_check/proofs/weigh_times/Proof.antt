@@ -1,0 +1,71 @@
+-- Each turn works out the same weight (`after-turn`); the working space keeps its lengths.
+-- Assumes nothing.
+use Prim.Native.Nat.{_-_, _≤_}
+use mathlib.Core.Path.{_≡_, refl, _∙_}
+use native.Mathlib.Omega.{arith}
+use lib.ListN.{length}
+use Rattle.trits.specs.Planes.{tritAt}
+use Rattle.checking.specs.Check.{heldWeight}
+use Rattle.bench_check.specs.{after}
+use Rattle.bench_check.proofs.Laws.{after-turn}
+use Rattle.bench_check.proofs.weigh_times.Statement.{statement}
+use Rattle.bench_check.proofs.weigh_times.Tie as tie
+
+abbrev Inv-loop : tie.InvT-loop
+Inv-loop held ones twos y-ones y-twos s-ones s-twos work-ones₀ work-twos₀ times weight₀ i₀ work-ones work-twos weight i =
+    (i ≤ times) × (length work-ones ≡ length work-ones₀) × (length work-twos ≡ length work-twos₀) × (weight ≡ after i (heldWeight held ones twos (tritAt y-ones y-twos) (tritAt s-ones s-twos)))
+
+abbrev μ-loop : tie.MeasureT-loop
+μ-loop held ones twos y-ones y-twos s-ones s-twos work-ones₀ work-twos₀ times weight₀ i₀ work-ones work-twos weight i = times - i
+
+loop-holds : tie.Need-loop-holds Inv-loop μ-loop
+unfolding after
+loop-holds c = (omega arith, refl, refl, refl)
+
+weigh-requires : tie.Need-weigh-requires Inv-loop μ-loop
+weigh-requires c κs =
+    let l = c .before .before .before .loop .inv in
+    let p = c .before .before .before .before .before .before .before .before .before .before .before .before .pre in
+    (p .0, (p .1 .0, (p .1 .1 .0, (l .1 ∙ p .1 .1 .1 .0, l .2 ∙ p .1 .1 .1 .1))))
+
+add-i : tie.Need-add-i Inv-loop μ-loop
+add-i c =
+    omega arith
+
+loop-less : tie.Need-loop-less Inv-loop μ-loop
+loop-less c =
+    omega arith
+
+loop-again : tie.Need-loop-again Inv-loop μ-loop
+loop-again c =
+    let l = c .before .before .before .before .before .before .before .before .loop in
+    (omega arith, c .before .before .before .work-ones .given ∙ l .inv .1, c .before .work-twos .given ∙ l .inv .2, after-turn (l .i) (c .before .before .before .before .weigh .ensures))
+
+same-length : tie.Need-same-length Inv-loop μ-loop
+same-length c =
+    c .before .loop .inv .1
+
+same-length-2 : tie.Need-same-length-2 Inv-loop μ-loop
+same-length-2 c =
+    c .before .loop .inv .2
+
+returns : tie.Need-returns Inv-loop μ-loop
+returns c =
+    let l = c .before .loop in
+    let e : l .i ≡ c .before .before .before .before .before .before .before .before .before .before .args .times = omega arith in
+    rw (← e) (l .inv .3)
+
+pub weigh-times-spec : {M : Type 1} → statement M
+weigh-times-spec =
+    tie.close
+    (tie.spec
+    Inv-loop
+    μ-loop
+    loop-holds
+    weigh-requires
+    add-i
+    loop-less
+    loop-again
+    same-length
+    same-length-2
+    returns)

@@ -1,0 +1,196 @@
+// The check in planes, and the weights of both checks with their tests made once: exported for the benchmark in C, and for nothing else.
+ghost use mathlib.Core.Path.{_≡_};
+ghost use lib.ListN.{length};
+ghost use Rattle.trits.specs.Planes.{tritAt};
+ghost use Rattle.packing.specs.Packed.{packedRow};
+ghost use Rattle.heldkey.specs.Held.{rowTrits, rowWords};
+ghost use Rattle.checking.specs.Check.{planesLengths, planesContents, packedLengths, packedContents, checkRefusal, checkPackedRefusal, heldWeight, checkAnswer, answered, spaceAtExit};
+ghost use Rattle.heldkey.specs.Steps.{Whole};
+ghost use Rattle.bench_check.specs.{after};
+use checking::Checked;
+use heldkey::state::Held;
+
+// The check of y and s in planes, in numbers.
+#[no_mangle]
+pub extern "C" fn bench_check(
+    held: Held,
+    number: u64,
+    ones: &[u64],
+    twos: &[u64],
+    y_ones: &[u64],
+    y_twos: &[u64],
+    s_ones: &[u64],
+    s_twos: &[u64],
+    work_ones: &mut [u64],
+    work_twos: &mut [u64],
+) -> Checked
+    ensures { λ r. ⌜ r ≡ checkAnswer held number (now (ones .entry)) (now (twos .entry)) (now («y_ones» .entry)) (now («y_twos» .entry)) (now («s_ones» .entry)) (now («s_twos» .entry))
+        (now («work_ones» .entry)) (now («work_twos» .entry)) ⌝ }
+    ensures { λ _. ⌜ now («work_ones» .exit) ≡ spaceAtExit (checkRefusal held number (now (ones .entry)) (now (twos .entry)) (now («y_ones» .entry)) (now («y_twos» .entry))
+        (now («s_ones» .entry)) (now («s_twos» .entry)) (now («work_ones» .entry)) (now («work_twos» .entry))) (now («work_ones» .entry)) ⌝ }
+    ensures { λ _. ⌜ now («work_twos» .exit) ≡ spaceAtExit (checkRefusal held number (now (ones .entry)) (now (twos .entry)) (now («y_ones» .entry)) (now («y_twos» .entry))
+        (now («s_ones» .entry)) (now («s_twos» .entry)) (now («work_ones» .entry)) (now («work_twos» .entry))) (now («work_twos» .entry)) ⌝ }
+{
+    let verdict = checker::check(
+        held,
+        number, // that the caller asks for
+        ones,
+        twos,
+        y_ones,
+        y_twos,
+        s_ones,
+        s_twos, // and not the ones again
+        work_ones,
+        work_twos,
+    );
+    checking::tell(verdict)
+}
+
+// The weight of y and s in planes is worked out so many times.
+fn weigh_times(
+    held: Held,
+    ones: &[u64],
+    twos: &[u64],
+    y_ones: &[u64],
+    y_twos: &[u64],
+    s_ones: &[u64],
+    s_twos: &[u64],
+    work_ones: &mut [u64],
+    work_twos: &mut [u64],
+    times: usize,
+) -> u64
+    requires { ⌜ Whole held (now ones) (now twos) ⌝ }
+    requires { ⌜ planesLengths held (length (now «y_ones»)) (length (now «y_twos»)) (length (now «s_ones»)) (length (now «s_twos»)) ≡ 0 ⌝ }
+    requires { ⌜ planesContents held (now ones) (now twos) (now «y_ones») (now «y_twos») (now «s_ones») (now «s_twos») ≡ 0 ⌝ }
+    requires { ⌜ (length (now «work_ones») ≡ rowWords held) × (length (now «work_twos») ≡ rowWords held) ⌝ }
+    ensures { λ r. ⌜ r ≡ after times (heldWeight held (now (ones .entry)) (now (twos .entry)) (tritAt (now («y_ones» .entry)) (now («y_twos» .entry))) (tritAt (now («s_ones» .entry)) (now («s_twos» .entry)))) ⌝ }
+{
+    let mut weight: u64 = 0;
+    let mut i = 0;
+    while i < times {
+        weight = checker::weighing::weigh(
+            held,
+            ones,
+            twos,
+            y_ones,
+            y_twos,
+            s_ones,
+            s_twos,
+            work_ones,
+            work_twos,
+        );
+        i += 1;
+    }
+    weight
+}
+
+// The check of y and s in planes: its tests once, its weight so many times.
+#[no_mangle]
+pub extern "C" fn bench_weigh(
+    held: Held,
+    number: u64,
+    ones: &[u64],
+    twos: &[u64],
+    y_ones: &[u64],
+    y_twos: &[u64],
+    s_ones: &[u64],
+    s_twos: &[u64],
+    work_ones: &mut [u64],
+    work_twos: &mut [u64],
+    times: usize,
+) -> Checked
+    ensures { λ r. ⌜ r ≡ answered (checkRefusal held number (now (ones .entry)) (now (twos .entry)) (now («y_ones» .entry)) (now («y_twos» .entry)) (now («s_ones» .entry)) (now («s_twos» .entry))
+        (now («work_ones» .entry)) (now («work_twos» .entry)))
+        (after times (heldWeight held (now (ones .entry)) (now (twos .entry)) (tritAt (now («y_ones» .entry)) (now («y_twos» .entry))) (tritAt (now («s_ones» .entry)) (now («s_twos» .entry))))) (held .w) ⌝ }
+    ensures { λ _. ⌜ now («work_ones» .exit) ≡ spaceAtExit (checkRefusal held number (now (ones .entry)) (now (twos .entry)) (now («y_ones» .entry)) (now («y_twos» .entry))
+        (now («s_ones» .entry)) (now («s_twos» .entry)) (now («work_ones» .entry)) (now («work_twos» .entry))) (now («work_ones» .entry)) ⌝ }
+    ensures { λ _. ⌜ now («work_twos» .exit) ≡ spaceAtExit (checkRefusal held number (now (ones .entry)) (now (twos .entry)) (now («y_ones» .entry)) (now («y_twos» .entry))
+        (now («s_ones» .entry)) (now («s_twos» .entry)) (now («work_ones» .entry)) (now («work_twos» .entry))) (now («work_twos» .entry)) ⌝ }
+{
+    let tested = checking::test_check(
+        held,
+        number,
+        ones,
+        twos,
+        y_ones,
+        y_twos,
+        s_ones,
+        s_twos,
+        work_ones,
+        work_twos,
+    );
+    if trits::refusal::code(tested) != 0 {
+        return checking::tell(checking::judge(tested, 0, held.w));
+    }
+    let weight = weigh_times(
+        held,
+        ones,
+        twos,
+        y_ones,
+        y_twos,
+        s_ones,
+        s_twos,
+        work_ones,
+        work_twos,
+        times,
+    );
+    trits::words::zero_words(work_ones);
+    trits::words::zero_words(work_twos); // both planes are left 0
+    checking::tell(checking::judge(tested, weight, held.w))
+}
+
+// The weight of packed y and s is worked out so many times.
+fn weigh_packed_times(
+    held: Held,
+    ones: &[u64],
+    twos: &[u64],
+    y: &[u8],
+    s: &[u8],
+    work_ones: &mut [u64],
+    work_twos: &mut [u64],
+    times: usize,
+) -> u64
+    requires { ⌜ Whole held (now ones) (now twos) ⌝ }
+    requires { ⌜ packedLengths held (length (now y)) (length (now s)) ≡ 0 ⌝ }
+    requires { ⌜ packedContents held (now ones) (now twos) (now y) (now s) ≡ 0 ⌝ }
+    requires { ⌜ (length (now «work_ones») ≡ rowWords held) × (length (now «work_twos») ≡ rowWords held) ⌝ }
+    ensures { λ r. ⌜ r ≡ after times (heldWeight held (now (ones .entry)) (now (twos .entry)) (packedRow (rowTrits held) (now (y .entry))) (packedRow (held .k) (now (s .entry)))) ⌝ }
+{
+    let mut weight: u64 = 0;
+    let mut i = 0;
+    while i < times {
+        weight = checker::weighing::weigh_packed(held, ones, twos, y, s, work_ones, work_twos);
+        i += 1;
+    }
+    weight
+}
+
+// The check of packed y and s: its tests once, its weight so many times.
+#[no_mangle]
+pub extern "C" fn bench_weigh_packed(
+    held: Held,
+    number: u64,
+    ones: &[u64],
+    twos: &[u64],
+    y: &[u8],
+    s: &[u8],
+    work_ones: &mut [u64],
+    work_twos: &mut [u64],
+    times: usize,
+) -> Checked
+    ensures { λ r. ⌜ r ≡ answered (checkPackedRefusal held number (now (ones .entry)) (now (twos .entry)) (now (y .entry)) (now (s .entry)) (now («work_ones» .entry)) (now («work_twos» .entry)))
+        (after times (heldWeight held (now (ones .entry)) (now (twos .entry)) (packedRow (rowTrits held) (now (y .entry))) (packedRow (held .k) (now (s .entry))))) (held .w) ⌝ }
+    ensures { λ _. ⌜ now («work_ones» .exit) ≡ spaceAtExit (checkPackedRefusal held number (now (ones .entry)) (now (twos .entry)) (now (y .entry)) (now (s .entry))
+        (now («work_ones» .entry)) (now («work_twos» .entry))) (now («work_ones» .entry)) ⌝ }
+    ensures { λ _. ⌜ now («work_twos» .exit) ≡ spaceAtExit (checkPackedRefusal held number (now (ones .entry)) (now (twos .entry)) (now (y .entry)) (now (s .entry))
+        (now («work_ones» .entry)) (now («work_twos» .entry))) (now («work_twos» .entry)) ⌝ }
+{
+    let tested = checking::test_packed_check(held, number, ones, twos, y, s, work_ones, work_twos);
+    if trits::refusal::code(tested) != 0 {
+        return checking::tell(checking::judge(tested, 0, held.w));
+    }
+    let weight = weigh_packed_times(held, ones, twos, y, s, work_ones, work_twos, times);
+    trits::words::zero_words(work_ones);
+    trits::words::zero_words(work_twos);
+    checking::tell(checking::judge(tested, weight, held.w))
+}

@@ -1,0 +1,103 @@
+-- After i turns the first i rows, each times its trit of s, are taken, and `taken` is the weight of these trits.
+-- Assumes nothing.
+use Prim.Native.Nat.{ℕ, _+_, _-_, _/_, _%_, _≤_}
+use mathlib.Core.Path.{_≡_, refl, ap, _∙_}
+use native.Mathlib.Omega.{arith}
+use lib.ListN.{length, getD}
+use denote.Ref.{now}
+use Rattle.trits.specs.Trit.{subT, zipV, tritOf, weightV, sumTo}
+use Rattle.trits.specs.Planes.{tritAt, Reads}
+use Rattle.trits.proofs.Reading.{reads-to}
+use Rattle.trits.proofs.Counts.{weight-le}
+use Rattle.packing.specs.Packed.{packedRow}
+use Rattle.packing.proofs.Digits.{digit-lt}
+use Rattle.packing.proofs.Keeping.{bytes-small}
+use Rattle.packing.proofs.Turned.{bytes-passed}
+use Rattle.verdict.specs.Verdict.{timesKey}
+use Rattle.heldkey.specs.Held.{heldKey}
+use Rattle.heldkey.proofs.Sizes.{sizes}
+use Rattle.checker.proofs.Product.{taken-none, turn-reads, turn-weight}
+use Rattle.packing.proofs.Digits.{packed-trit}
+use Rattle.checker.proofs.weighing.take_by_table.Statement.{statement}
+use Rattle.checker.proofs.weighing.take_by_table.Tie as tie
+
+abbrev Inv-loop : tie.InvT-loop
+Inv-loop held ones twos s work-ones₀ work-twos₀ table k taken₀ i₀ work-ones work-twos taken i =
+    (i ≤ held .k) × (taken ≡ weightV (packedRow (held .k) s) i)
+    × Reads work-ones work-twos (length work-ones₀) (zipV subT (tritAt work-ones₀ work-twos₀) (timesKey i (heldKey held ones twos) (packedRow (held .k) s)))
+
+abbrev μ-loop : tie.MeasureT-loop
+μ-loop held ones twos s work-ones₀ work-twos₀ table k taken₀ i₀ work-ones work-twos taken i = held .k - i
+
+loop-holds : tie.Need-loop-holds Inv-loop μ-loop
+unfolding sumTo
+loop-holds c =
+    (omega arith, refl, record { row = c .before .before .before .before .before .pre .1 .1 .0 .row; size = refl; trits = taken-none (tritAt (now (c .before .before .before .before .before .args .work-ones)) (now (c .before .before .before .before .before .args .work-twos))) (heldKey (c .before .before .before .before .before .args .held) (now (c .before .before .before .before .before .args .ones)) (now (c .before .before .before .before .before .args .twos))) (packedRow (c .before .before .before .before .before .args .held .k) (now (c .before .before .before .before .before .args .s))) })
+
+shared-slice-read-trit : tie.Need-shared-slice-read-trit Inv-loop μ-loop
+shared-slice-read-trit c =
+    let l = c .before .before .before .before .before .before .before .before .pre .1 .1 .1 .0 in
+    omega arith
+
+trit-requires : tie.Need-trit-requires Inv-loop μ-loop
+trit-requires c κs =
+    let l = c .before .before .before .before .before .before .before .before .pre .1 .1 .1 .0 in
+    let b = bytes-small (now (c .before .before .before .before .before .before .before .before .args .s)) (bytes-passed (now (c .before .before .before .before .before .before .before .before .args .s)) (c .before .before .before .before .before .before .before .before .pre .1 .1 .1 .1)) (c .before .before .loop .i / 5) (omega arith) in
+    (c .before .before .before .before .before .before .before .before .pre .1 .1 .1 .2, omega (arith, b))
+
+take-row-requires : tie.Need-take-row-requires Inv-loop μ-loop
+take-row-requires c κs =
+    let v = c .before .before .before .before .before .loop .inv .2 in
+    (c .before .before .before .before .before .before .before .before .before .before .before .pre .0, (c .before .before .before .before .before .before .before .before .before .before .before .pre .1 .0, (record { row = v .row; size = v .size ∙ c .before .before .before .before .before .before .before .before .before .before .before .pre .1 .1 .0 .size }, (omega arith, omega (arith, c .before .before .trit .ensures, digit-lt (getD (now (c .before .before .before .before .before .before .before .before .before .before .before .args .s)) (c .before .before .before .before .before .loop .i / 5) 0) (c .before .before .before .before .before .loop .i % 5))))))
+
+add-taken : tie.Need-add-taken Inv-loop μ-loop
+add-taken c =
+    let t = turn-weight (packedRow (c .before .before .before .before .before .before .before .before .before .before .before .before .before .before .before .before .args .held .k) (now (c .before .before .before .before .before .before .before .before .before .before .before .before .before .before .before .before .args .s))) (c .before .before .before .before .before .before .before .before .before .before .loop .i) (tritOf (c .before .before .before .before .before .before .before .trit .result)) (packed-trit (now (c .before .before .before .before .before .before .before .before .before .before .before .before .before .before .before .before .args .s)) (c .before .before .before .before .before .before .before .before .before .before .before .before .before .before .before .before .args .held .k) (c .before .before .before .before .before .before .before .before .before .before .loop .i) (c .before .before .before .before .before .before .before .trit .result) (omega arith) (c .before .before .before .before .before .before .before .trit .ensures)) (c .before .before .before .before .before .before .before .before .before .before .loop .inv .1) (c .before .before .before .before .take-row .ensures .0) in
+    omega (arith, t, weight-le (packedRow (c .before .before .before .before .before .before .before .before .before .before .before .before .before .before .before .before .args .held .k) (now (c .before .before .before .before .before .before .before .before .before .before .before .before .before .before .before .before .args .s))) (c .before .before .before .before .before .before .before .before .before .before .loop .i + 1), sizes (c .before .before .before .before .before .before .before .before .before .before .before .before .before .before .before .before .args .held) (c .before .before .before .before .before .before .before .before .before .before .before .before .before .before .before .before .pre .0 .is-sound))
+
+add-i : tie.Need-add-i Inv-loop μ-loop
+add-i c =
+    omega (arith, sizes (c .before .before .before .before .before .before .before .before .before .before .before .before .before .before .before .before .args .held) (c .before .before .before .before .before .before .before .before .before .before .before .before .before .before .before .before .pre .0 .is-sound))
+
+loop-less : tie.Need-loop-less Inv-loop μ-loop
+loop-less c =
+    omega arith
+
+loop-again : tie.Need-loop-again Inv-loop μ-loop
+loop-again c =
+    let x = (packed-trit (now (c .before .before .before .before .before .before .before .before .before .before .before .before .before .before .before .before .args .s)) (c .before .before .before .before .before .before .before .before .before .before .before .before .before .before .before .before .args .held .k) (c .before .before .before .before .before .before .before .before .before .before .loop .i) (c .before .before .before .before .before .before .before .trit .result) (omega arith) (c .before .before .before .before .before .before .before .trit .ensures)) in (
+      omega arith,
+      turn-weight (packedRow (c .before .before .before .before .before .before .before .before .before .before .before .before .before .before .before .before .args .held .k) (now (c .before .before .before .before .before .before .before .before .before .before .before .before .before .before .before .before .args .s))) (c .before .before .before .before .before .before .before .before .before .before .loop .i) (tritOf (c .before .before .before .before .before .before .before .trit .result)) x (c .before .before .before .before .before .before .before .before .before .before .loop .inv .1) (c .before .before .before .before .take-row .ensures .0),
+      turn-reads (tritAt (now (c .before .before .before .before .before .before .before .before .before .before .before .before .before .before .before .before .args .work-ones)) (now (c .before .before .before .before .before .before .before .before .before .before .before .before .before .before .before .before .args .work-twos))) (heldKey (c .before .before .before .before .before .before .before .before .before .before .before .before .before .before .before .before .args .held) (now (c .before .before .before .before .before .before .before .before .before .before .before .before .before .before .before .before .args .ones)) (now (c .before .before .before .before .before .before .before .before .before .before .before .before .before .before .before .before .args .twos))) (packedRow (c .before .before .before .before .before .before .before .before .before .before .before .before .before .before .before .before .args .held .k) (now (c .before .before .before .before .before .before .before .before .before .before .before .before .before .before .before .before .args .s))) (c .before .before .before .before .before .before .before .before .before .before .loop .i) (tritOf (c .before .before .before .before .before .before .before .trit .result)) x (c .before .before .before .before .before .before .before .before .before .before .loop .inv .2 .size) (c .before .before .before .before .before .before .before .before .before .before .loop .inv .2) (c .before .before .before .before .take-row .ensures .1),
+    )
+
+same-length : tie.Need-same-length Inv-loop μ-loop
+same-length c =
+    omega arith
+
+same-length-2 : tie.Need-same-length-2 Inv-loop μ-loop
+same-length-2 c =
+    omega arith
+
+returns : tie.Need-returns Inv-loop μ-loop
+returns c =
+    let e : c .before .loop .i ≡ c .before .before .before .before .before .before .before .args .held .k = omega arith in
+    (c .before .loop .inv .1 ∙ ap (weightV (packedRow (c .before .before .before .before .before .before .before .args .held .k) (now (c .before .before .before .before .before .before .before .args .s)))) e, reads-to (c .before .loop .inv .2) (ap (λ (x : ℕ). zipV subT (tritAt (now (c .before .before .before .before .before .before .before .args .work-ones)) (now (c .before .before .before .before .before .before .before .args .work-twos))) (timesKey x (heldKey (c .before .before .before .before .before .before .before .args .held) (now (c .before .before .before .before .before .before .before .args .ones)) (now (c .before .before .before .before .before .before .before .args .twos))) (packedRow (c .before .before .before .before .before .before .before .args .held .k) (now (c .before .before .before .before .before .before .before .args .s))))) e))
+
+pub take-by-table-spec : {M : Type 1} → statement M
+take-by-table-spec =
+    tie.close
+    (tie.spec
+    Inv-loop
+    μ-loop
+    loop-holds
+    shared-slice-read-trit
+    trit-requires
+    take-row-requires
+    add-taken
+    add-i
+    loop-less
+    loop-again
+    same-length
+    same-length-2
+    returns)

@@ -1,0 +1,27 @@
+-- The loop is lent the table that is made here.
+-- Assumes nothing.
+use borrow.Author.Needs.{needs}
+use Rattle.checker.proofs.weighing.take_packed_rows.Statement.{statement}
+use Rattle.checker.proofs.weighing.take_packed_rows.Tie as tie
+
+byte-table-requires : tie.Need-byte-table-requires
+byte-table-requires c κs = search needs
+
+take-by-table-requires : tie.Need-take-by-table-requires
+take-by-table-requires c κs =
+    let p = c .before .before .before .before .before .before .before .before .before .pre in
+    (p .0, (p .1 .0, (p .1 .1 .0, (p .1 .1 .1 .0, p .1 .1 .1 .1, c .before .before .before .byte-table .ensures))))
+
+same-length : tie.Need-same-length
+same-length c = search needs
+
+same-length-2 : tie.Need-same-length-2
+same-length-2 c = search needs
+
+returns : tie.Need-returns
+returns c = search needs
+
+pub take-packed-rows-spec : {M : Type 1} → statement M
+take-packed-rows-spec =
+    tie.close
+    (tie.spec byte-table-requires take-by-table-requires same-length same-length-2 returns)

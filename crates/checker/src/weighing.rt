@@ -1,0 +1,167 @@
+// The rows of the key taken from y, and the weight of the full word.
+ghost use mathlib.Core.Path.{_≡_};
+ghost use Prim.Native.Nat.{ℕ, _*_, _<_, _≤_};
+ghost use lib.ListN.{length};
+ghost use Rattle.trits.specs.Trit.{subT, mulT, nonZero, zipV, weightV, tritOf};
+ghost use Rattle.trits.specs.Planes.{tritAt, Row, Reads};
+ghost use Rattle.packing.specs.Packed.{bytesFor, byteTable, packedRow, packedRefusal};
+ghost use Rattle.verdict.specs.Verdict.{timesKey};
+ghost use Rattle.heldkey.specs.Held.{rowTrits, rowWords, heldKey};
+ghost use Rattle.heldkey.specs.Steps.{Whole, Work};
+ghost use Rattle.checking.specs.Check.{planesLengths, planesContents, packedLengths, packedContents, heldWeight};
+use heldkey::state::Held;
+
+// Row i of the key, times a trit, is taken from the word; whether a row was taken, as 1 or 0.
+fn take_row(
+    held: Held,
+    ones: &[u64],
+    twos: &[u64],
+    i: usize,
+    t: u8,
+    work_ones: &mut [u64],
+    work_twos: &mut [u64],
+) -> u64
+    requires { ⌜ Whole held (now ones) (now twos) ⌝ }
+    requires { ⌜ Row (now ones) (now twos) ⌝ }
+    requires { ⌜ Work held (now «work_ones») (now «work_twos») ⌝ }
+    requires { ⌜ (i < held .k) × (t < 3) ⌝ }
+    ensures { λ r. ⌜ r ≡ nonZero (tritOf t) ⌝ }
+    ensures { λ _. ⌜ Reads (now («work_ones» .exit)) (now («work_twos» .exit)) (length (now («work_ones» .entry)))
+        (zipV subT (tritAt (now («work_ones» .entry)) (now («work_twos» .entry))) (zipV mulT (λ (q : ℕ). tritOf t) (heldKey held (now (ones .entry)) (now (twos .entry)) i))) ⌝ }
+{
+    if t == 0 {
+        return 0;
+    }
+    let row_ones = heldkey::key::held_row(held, ones, i);
+    let row_twos = heldkey::key::held_row(held, twos, i);
+    if t == 1 {
+        trits::rows::sub_row(work_ones, work_twos, row_ones, row_twos);
+        return 1;
+    }
+    trits::rows::add_row(work_ones, work_twos, row_ones, row_twos);
+    1
+}
+
+// Each row of the key, times its trit of s in planes, is taken from the word; how many rows were taken.
+fn take_rows(
+    held: Held,
+    ones: &[u64],
+    twos: &[u64],
+    s_ones: &[u64],
+    s_twos: &[u64],
+    work_ones: &mut [u64],
+    work_twos: &mut [u64],
+) -> u64
+    requires { ⌜ Whole held (now ones) (now twos) ⌝ }
+    requires { ⌜ Row (now ones) (now twos) ⌝ }
+    requires { ⌜ Work held (now «work_ones») (now «work_twos») ⌝ }
+    requires { ⌜ (held .k ≤ 64 * length (now «s_ones»)) × (length (now «s_twos») ≡ length (now «s_ones»)) ⌝ }
+    ensures { λ r. ⌜ r ≡ weightV (tritAt (now («s_ones» .entry)) (now («s_twos» .entry))) (held .k) ⌝ }
+    ensures { λ _. ⌜ Reads (now («work_ones» .exit)) (now («work_twos» .exit)) (length (now («work_ones» .entry)))
+        (zipV subT (tritAt (now («work_ones» .entry)) (now («work_twos» .entry))) (timesKey (held .k) (heldKey held (now (ones .entry)) (now (twos .entry))) (tritAt (now («s_ones» .entry)) (now («s_twos» .entry))))) ⌝ }
+{
+    let k = held.k as usize;
+    let mut taken: u64 = 0;
+    let mut i = 0;
+    while i < k {
+        let t = trits::places::trit_at(s_ones, s_twos, i);
+        taken += take_row(held, ones, twos, i, t, work_ones, work_twos);
+        i += 1;
+    }
+    taken
+}
+
+// Each row of the key, times its trit of a packed s, is taken from the word; how many rows were taken.
+fn take_by_table(
+    held: Held,
+    ones: &[u64],
+    twos: &[u64],
+    s: &[u8],
+    work_ones: &mut [u64],
+    work_twos: &mut [u64],
+    table: &[u8; 1215],
+) -> u64
+    requires { ⌜ Whole held (now ones) (now twos) ⌝ }
+    requires { ⌜ Row (now ones) (now twos) ⌝ }
+    requires { ⌜ Work held (now «work_ones») (now «work_twos») ⌝ }
+    requires { ⌜ (length (now s) ≡ bytesFor (held .k)) × (packedRefusal (now s) ≡ 0) × (now table ≡ byteTable) ⌝ }
+    ensures { λ r. ⌜ r ≡ weightV (packedRow (held .k) (now (s .entry))) (held .k) ⌝ }
+    ensures { λ _. ⌜ Reads (now («work_ones» .exit)) (now («work_twos» .exit)) (length (now («work_ones» .entry)))
+        (zipV subT (tritAt (now («work_ones» .entry)) (now («work_twos» .entry))) (timesKey (held .k) (heldKey held (now (ones .entry)) (now (twos .entry))) (packedRow (held .k) (now (s .entry))))) ⌝ }
+{
+    let k = held.k as usize;
+    let mut taken: u64 = 0;
+    let mut i = 0;
+    while i < k {
+        let t = packing::table::trit(table, s[i / 5], i % 5);
+        taken += take_row(held, ones, twos, i, t, work_ones, work_twos);
+        i += 1;
+    }
+    taken
+}
+
+// The same; the byte table is made once.
+fn take_packed_rows(
+    held: Held,
+    ones: &[u64],
+    twos: &[u64],
+    s: &[u8],
+    work_ones: &mut [u64],
+    work_twos: &mut [u64],
+) -> u64
+    requires { ⌜ Whole held (now ones) (now twos) ⌝ }
+    requires { ⌜ Row (now ones) (now twos) ⌝ }
+    requires { ⌜ Work held (now «work_ones») (now «work_twos») ⌝ }
+    requires { ⌜ (length (now s) ≡ bytesFor (held .k)) × (packedRefusal (now s) ≡ 0) ⌝ }
+    ensures { λ r. ⌜ r ≡ weightV (packedRow (held .k) (now (s .entry))) (held .k) ⌝ }
+    ensures { λ _. ⌜ Reads (now («work_ones» .exit)) (now («work_twos» .exit)) (length (now («work_ones» .entry)))
+        (zipV subT (tritAt (now («work_ones» .entry)) (now («work_twos» .entry))) (timesKey (held .k) (heldKey held (now (ones .entry)) (now (twos .entry))) (packedRow (held .k) (now (s .entry))))) ⌝ }
+{
+    let table = packing::table::byte_table();
+    take_by_table(held, ones, twos, s, work_ones, work_twos, &table)
+}
+
+// The weight of the full word of y and s in planes; the working space holds its first part.
+pub fn weigh(
+    held: Held,
+    ones: &[u64],
+    twos: &[u64],
+    y_ones: &[u64],
+    y_twos: &[u64],
+    s_ones: &[u64],
+    s_twos: &[u64],
+    work_ones: &mut [u64],
+    work_twos: &mut [u64],
+) -> u64
+    requires { ⌜ Whole held (now ones) (now twos) ⌝ }
+    requires { ⌜ planesLengths held (length (now «y_ones»)) (length (now «y_twos»)) (length (now «s_ones»)) (length (now «s_twos»)) ≡ 0 ⌝ }
+    requires { ⌜ planesContents held (now ones) (now twos) (now «y_ones») (now «y_twos») (now «s_ones») (now «s_twos») ≡ 0 ⌝ }
+    requires { ⌜ (length (now «work_ones») ≡ rowWords held) × (length (now «work_twos») ≡ rowWords held) ⌝ }
+    ensures { λ r. ⌜ r ≡ heldWeight held (now (ones .entry)) (now (twos .entry)) (tritAt (now («y_ones» .entry)) (now («y_twos» .entry))) (tritAt (now («s_ones» .entry)) (now («s_twos» .entry))) ⌝ }
+{
+    trits::words::copy_words(work_ones, y_ones);
+    trits::words::copy_words(work_twos, y_twos);
+    let taken = take_rows(held, ones, twos, s_ones, s_twos, work_ones, work_twos);
+    trits::rows::weight(work_ones, work_twos) + taken
+}
+
+// The weight of the full word of packed y and s; the working space holds its first part.
+pub fn weigh_packed(
+    held: Held,
+    ones: &[u64],
+    twos: &[u64],
+    y: &[u8],
+    s: &[u8],
+    work_ones: &mut [u64],
+    work_twos: &mut [u64],
+) -> u64
+    requires { ⌜ Whole held (now ones) (now twos) ⌝ }
+    requires { ⌜ packedLengths held (length (now y)) (length (now s)) ≡ 0 ⌝ }
+    requires { ⌜ packedContents held (now ones) (now twos) (now y) (now s) ≡ 0 ⌝ }
+    requires { ⌜ (length (now «work_ones») ≡ rowWords held) × (length (now «work_twos») ≡ rowWords held) ⌝ }
+    ensures { λ r. ⌜ r ≡ heldWeight held (now (ones .entry)) (now (twos .entry)) (packedRow (rowTrits held) (now (y .entry))) (packedRow (held .k) (now (s .entry))) ⌝ }
+{
+    packing::write::write_packed(heldkey::state::row_trits(held), y, work_ones, work_twos);
+    let taken = take_packed_rows(held, ones, twos, s, work_ones, work_twos);
+    trits::rows::weight(work_ones, work_twos) + taken
+}

@@ -1,0 +1,3 @@
+-- The laws of a check's tests and of its answer.
+pub mod Passed
+pub mod Answers

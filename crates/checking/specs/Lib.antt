@@ -1,0 +1,2 @@
+-- The definitions of the check.
+pub mod Check

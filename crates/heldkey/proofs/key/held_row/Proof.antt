@@ -1,0 +1,55 @@
+-- A sound state that has stored row i hands out the part that `row_part` finds.
+-- Assumes nothing.
+use Prim.Native.Nat.{ℕ}
+use mathlib.Core.Path.{sym, ap, _∙_}
+use borrow.Author.Needs.{needs}
+use native.Mathlib.Omega.{arith}
+use denote.Ref.{now}
+use Rattle.heldkey.proofs.Sizes.{sizes}
+use Rattle.heldkey.proofs.Stretch.{row-unsound, row-missing, row-stored}
+use Rattle.trits.specs.Rows.{rowPart}
+use Rattle.heldkey.proofs.key.held_row.Statement.{statement}
+use Rattle.heldkey.proofs.key.held_row.Tie as tie
+
+is-sound-requires : tie.Need-is-sound-requires
+is-sound-requires c κs = search needs
+
+slice-aggregate-result : tie.Need-slice-aggregate-result
+slice-aggregate-result c = search needs
+
+returns : tie.Need-returns
+returns c =
+    row-missing (c .before .before .before .before .before .args .held) (now (c .before .before .before .before .before .args .plane)) (c .before .before .before .before .before .args .i) (sym (c .before .before .before .is-sound .ensures) ∙ c .before .before .if1 .taken) (c .before .if2 .taken)
+
+row-words-requires : tie.Need-row-words-requires
+row-words-requires c κs =
+    (sym (c .before .before .is-sound .ensures) ∙ c .before .if1 .taken)
+
+row-part-requires : tie.Need-row-part-requires
+row-part-requires c κs =
+    let z = sizes (c .before .before .before .before .before .args .held) (sym (c .before .before .before .is-sound .ensures) ∙ c .before .before .if1 .taken) in
+    omega (arith, c .row-words .ensures)
+
+returns-2 : tie.Need-returns-2
+returns-2 c =
+    c .row-part .ensures ∙ ap (λ (w : ℕ). rowPart (now (c .before .before .before .before .before .before .args .plane)) (c .before .before .before .before .before .before .args .held .k) w (c .before .before .before .before .before .before .args .i)) (c .before .row-words .ensures) ∙ row-stored (c .before .before .before .before .before .before .args .held) (now (c .before .before .before .before .before .before .args .plane)) (c .before .before .before .before .before .before .args .i) (sym (c .before .before .before .before .is-sound .ensures) ∙ c .before .before .before .if1 .taken) (c .before .before .if2 .left)
+
+slice-aggregate-result-2 : tie.Need-slice-aggregate-result-2
+slice-aggregate-result-2 c = search needs
+
+returns-3 : tie.Need-returns-3
+returns-3 c =
+    row-unsound (c .before .before .before .before .args .held) (now (c .before .before .before .before .args .plane)) (c .before .before .before .before .args .i) (sym (c .before .before .is-sound .ensures) ∙ c .before .if1 .left)
+
+pub held-row-spec : {M : Type 1} → statement M
+held-row-spec =
+    tie.close
+    (tie.spec
+    is-sound-requires
+    slice-aggregate-result
+    returns
+    row-words-requires
+    row-part-requires
+    returns-2
+    slice-aggregate-result-2
+    returns-3)

@@ -1,0 +1,5 @@
+-- The definitions of the held key, in the order of the paper: its state, beginning and storing, a key loaded; last, what inner functions ask.
+pub mod Held
+pub mod Store
+pub mod Load
+pub mod Steps

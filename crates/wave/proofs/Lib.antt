@@ -2,4 +2,6 @@
 pub mod Syndrome
 pub mod Reach
 pub mod Verifier
+pub mod Written
+pub mod Cut
 pub mod Cases

@@ -4,4 +4,6 @@ pub mod Reach
 pub mod Verifier
 pub mod Written
 pub mod Cut
+pub mod Passed
+pub mod ReachCalls
 pub mod Cases

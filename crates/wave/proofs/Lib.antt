@@ -6,4 +6,6 @@ pub mod Written
 pub mod Cut
 pub mod Passed
 pub mod ReachCalls
+pub mod Checks
+pub mod EndToEnd
 pub mod Cases

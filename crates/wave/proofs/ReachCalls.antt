@@ -44,13 +44,13 @@ module _ (z : Sizes) (i : Build) (b : Built z i) where
   abbrev s : Secret
   s = secretOf z (i .secret)
 
-  ones-row : (j : ℕ) → j < dim z → onesOf (upTo (codim z) (keyRow z s (i .start) j)) (keyWords z) ≡ rowPart (keyOnesExit z i) (dim z) (keyWords z) j
+  pub ones-row : (j : ℕ) → j < dim z → onesOf (upTo (codim z) (keyRow z (secretOf z (i .secret)) (i .start) j)) (keyWords z) ≡ rowPart (keyOnesExit z i) (dim z) (keyWords z) j
   unfolding keyOnesExit keyOnesOf
   ones-row j l =
       sym (ap (λ (x : List ℕ). rowPart x (dim z) (keyWords z) j) (sym (exit-new (keyOnesOf z s (i .start)) (i .keyOnes) b))
       ∙ rows-part (λ k. onesOf (upTo (codim z) (keyRow z s (i .start) k)) (keyWords z)) (keyWords z) (λ k. length-ones (upTo (codim z) (keyRow z s (i .start) k)) (keyWords z)) (dim z) j l)
 
-  twos-row : (j : ℕ) → j < dim z → twosOf (upTo (codim z) (keyRow z s (i .start) j)) (keyWords z) ≡ rowPart (keyTwosExit z i) (dim z) (keyWords z) j
+  pub twos-row : (j : ℕ) → j < dim z → twosOf (upTo (codim z) (keyRow z (secretOf z (i .secret)) (i .start) j)) (keyWords z) ≡ rowPart (keyTwosExit z i) (dim z) (keyWords z) j
   unfolding keyTwosExit keyTwosOf
   twos-row j l =
       sym (ap (λ (x : List ℕ). rowPart x (dim z) (keyWords z) j) (sym (exit-new (keyTwosOf z s (i .start)) (i .keyTwos) b))
@@ -102,7 +102,7 @@ under-releases z i g w l e u h =
 -- ---- from vectors to a call
 
 -- no size is large
-few : (z : Sizes) → sizesFit z ≡ true → z .n ≤ 16384
+pub few : (z : Sizes) → sizesFit z ≡ true → z .n ≤ 16384
 unfolding sizesFit
 few z h = leb-true (z .n) 16384 (and-eq-true-iff (leb (z .n) 16384) _ .0 (and-eq-true-iff (leb 4 (z .n)) _ .0 h .1) .0)
 

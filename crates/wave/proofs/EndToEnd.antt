@@ -3,6 +3,7 @@ use mathlib.Core.Path.{_≡_, refl, sym, ap, ap₂, _∙_}
 use mathlib.Core.Bool.{true, false, not, and-eq-true-iff}
 use mathlib.Core.List.{List}
 use Prim.Native.Nat.{ℕ, _+_, _-_, _*_, _%_, _≤_, _<_}
+use native.Mathlib.Nat.{le-refl}
 use native.Mathlib.Omega.{arith}
 use borrow.Author.Tests.{eqb-true, eq-eqb, leb-true, le-leb, le-ltb}
 use lib.Dec.{eqb, leb}
@@ -11,7 +12,7 @@ use Rattle.trits.specs.Trit.{Trit, t0, weightV, upTo}
 use Rattle.trits.specs.Planes.{tritAt, wordsFor, onesOf, twosOf}
 use Rattle.trits.specs.Rows.{rowPart}
 use Rattle.trits.specs.Refusal.{planesRefusal}
-use Rattle.trits.proofs.Refusals.{exit-new, planes-passed}
+use Rattle.trits.proofs.Refusals.{exit-new, passed-first, first-goes, planes-passed}
 use Rattle.trits.proofs.Reading.{length-ones, length-twos}
 use Rattle.trits.proofs.Ends.{upto-in, upto-out, upto-ended, upto-same}
 use Rattle.trits.proofs.Matrix.{one-row-past}
@@ -25,8 +26,14 @@ use Rattle.matrix.proofs.Places.{or-false-left, or-false-right}
 use Rattle.verdict.specs.Verdict.{Key, fullWeight}
 use Rattle.verdict.proofs.FullWord.{weight-cong, weight-of}
 use Rattle.checker.specs.Held.{sizesFit as heldFits}
-use Rattle.checker.specs.Check.{answered}
-use Rattle.checker.proofs.EndToEnd.{loaded}
+use Rattle.checker.specs.declared.state.Held.{Held}
+use Rattle.checker.specs.declared.checking.Checked.{Checked}
+use Rattle.checker.specs.Held.{rowTrits}
+use Rattle.checker.specs.Load.{Kept, offerAll}
+use Rattle.checker.specs.Check.{callRefusal, planesLengths, planesContents, checkRefusal, checkPackedRefusal, answered, checkPackedAnswer}
+use Rattle.checker.proofs.Passed.{check-packed-passed, packed-contents}
+use Rattle.checker.proofs.EndToEnd.{begun, offered, loaded}
+use Rattle.checker.proofs.Verdicts.{packed-agrees}
 use Rattle.signer.specs.declared.sizes.Sizes.{Sizes}
 use Rattle.signer.specs.Sizes.{half, places, dim, codim, gapV, gapU, sizesFit}
 use Rattle.signer.specs.Secret.{Secret}
@@ -37,10 +44,11 @@ use Rattle.calls.specs.Lent.{secretOf, pairDiffers}
 use Rattle.calls.specs.BuildCall.{Lent as Build, keyWords, orderExit, keyOnesExit, keyTwosExit}
 use Rattle.calls.specs.DrawCall.{Lent as Draw, choicesDiffer, lengthsDiffer, drawAnswer, wordOf, sOnesExit, sTwosExit}
 use Rattle.wave.specs.Demand.{Terms, Built, builtKey, sized, Under, HandsOut, KeyTerms}
-use Rattle.wave.specs.Verifier.{packedVerdict, Host, packedKeyRow, carriedCheck, yes}
+use Rattle.wave.specs.Verifier.{verdict, packedVerdict, Host, packedKeyRow, carried, carriedCheck, carriedPlanes, yes}
 use Rattle.wave.proofs.Written.{written-back, written-passes}
 use Rattle.wave.proofs.Passed.{differs, DrawPassed, draw-call}
 use Rattle.wave.proofs.Reach.{reach}
+use Rattle.wave.proofs.Checks.{packed-not-refused}
 use Rattle.wave.proofs.ReachCalls.{few, ones-row, twos-row, built-row, built-released, handed-word, under-releases}
 
 -- ---- a call of `pack`
@@ -199,3 +207,68 @@ module _ (z : Sizes) (i : Build) (b : Built z i) (g w : ℕ) (l : Draw) (u : Und
       ∙ ap (λ (x : ℕ). answered 0 x w)
       (ap (λ (k : ℕ). fullWeight k (dim z) (λ j. packedRow k (packedKeyRow z i m j)) (packedRow k yPacked) (packedRow (dim z) sPacked)) size ∙ weight-is)
       ∙ rw (eq-eqb w w refl)
+
+  -- ---- the same with y and s in planes
+
+  abbrev H : Held
+  H = record { begun = 1; number = m .number; n = z .n; k = dim z; w = w; rows = dim z }
+
+  abbrev key : Kept
+  key = carried z i w m
+
+  held-is : key .held ≡ H
+  held-is =
+      let f = fits-held Z (m .number) (passed .sizes) (m .number-fits) in
+      ap (λ (h : Held). offerAll (packedKeyRow z i m) (dim z) (record { held = h; ones = m .ones; twos = m .twos }) .held) (begun (m .number) (z .n) (dim z) w f (packedKeyRow z i m) row-size row-good (m .before) .1)
+      ∙ offered (m .number) (z .n) (dim z) w f (packedKeyRow z i m) row-size row-good (m .ones) (m .twos)
+      (m .ones-size ∙ ap (λ (x : ℕ). dim z * wordsFor x) (sym size)) (m .twos-size ∙ ap (λ (x : ℕ). dim z * wordsFor x) (sym size)) (dim z) (le-refl (dim z)) .held-is
+
+  packed-passed : checkPackedRefusal (key .held) (m .number) (key .ones) (key .twos) yPacked sPacked (m .workOnes) (m .workTwos) ≡ 0
+  packed-passed = packed-not-refused (carriedCheck z i g w l m) (ap (λ (x : Checked). x .refusal) end-to-end)
+
+  call-passes : callRefusal (key .held) (m .number) (length (key .ones)) (length (key .twos)) (length (m .workOnes)) (length (m .workTwos)) ≡ 0
+  unfolding checkPackedRefusal
+  call-passes = passed-first (callRefusal (key .held) (m .number) (length (key .ones)) (length (key .twos)) (length (m .workOnes)) (length (m .workTwos))) _ packed-passed .0
+
+  rows-pass : planesRefusal (key .ones) (key .twos) (key .held .k) (rowTrits (key .held)) ≡ 0
+  rows-pass =
+      packed-contents (key .held) (key .ones) (key .twos) yPacked sPacked
+      (check-packed-passed (key .held) (m .number) (key .ones) (key .twos) yPacked sPacked (m .workOnes) (m .workTwos) packed-passed .2) .0
+
+  lengths-pass : planesLengths (key .held) (length (l .yOnes)) (length (l .yTwos)) (length (sOnesExit Z l)) (length (sTwosExit Z l)) ≡ 0
+  unfolding planesLengths
+  lengths-pass =
+      let n = y-lengths Z l (passed .lengths) in
+      rw (
+        held-is,
+        size,
+        eq-eqb (length (l .yOnes)) (wordsFor (codim z)) (n .0),
+        eq-eqb (length (l .yTwos)) (wordsFor (codim z)) (n .1),
+        eq-eqb (length (sOnesExit Z l)) (wordsFor (dim z)) (ap length s-ones ∙ length-ones s (wordsFor (dim z))),
+        eq-eqb (length (sTwosExit Z l)) (wordsFor (dim z)) (ap length s-twos ∙ length-twos s (wordsFor (dim z))),
+      )
+
+  s-passes : planesRefusal (sOnesExit Z l) (sTwosExit Z l) 1 (dim z) ≡ 0
+  s-passes = ap₂ (λ (x y : List ℕ). planesRefusal x y 1 (dim z)) s-ones s-twos ∙ written-passes (dim z) (signature Z (wordOf Z l))
+
+  contents-pass : planesContents (key .held) (key .ones) (key .twos) (l .yOnes) (l .yTwos) (sOnesExit Z l) (sTwosExit Z l) ≡ 0
+  unfolding planesContents
+  contents-pass =
+      let e : rowTrits (key .held) ≡ codim z = ap (λ (h : Held). rowTrits h) held-is ∙ size in
+      let k : key .held .k ≡ dim z = ap (λ (h : Held). h .k) held-is in
+      sym (first-goes (sym rows-pass) refl
+      (first-goes (sym (ap (planesRefusal (l .yOnes) (l .yTwos) 1) e ∙ passed .syndrome)) refl (sym (ap (planesRefusal (sOnesExit Z l) (sTwosExit Z l) 1) k ∙ s-passes))))
+
+  planes-passed-all : checkRefusal (key .held) (m .number) (key .ones) (key .twos) (l .yOnes) (l .yTwos) (sOnesExit Z l) (sTwosExit Z l) (m .workOnes) (m .workTwos) ≡ 0
+  unfolding checkRefusal
+  planes-passed-all = sym (first-goes (sym call-passes) refl (first-goes (sym lengths-pass) refl (sym contents-pass)))
+
+  pub end-to-end-planes : verdict (carriedPlanes z i g w l m) ≡ yes w
+  end-to-end-planes =
+      let e : rowTrits (key .held) ≡ codim z = ap (λ (h : Held). rowTrits h) held-is ∙ size in
+      let k : key .held .k ≡ dim z = ap (λ (h : Held). h .k) held-is in
+      let t : tritAt (sOnesExit Z l) (sTwosExit Z l) ≡ s = ap₂ tritAt s-ones s-twos ∙ written-back (dim z) (signature Z (wordOf Z l)) in
+      sym (packed-agrees (key .held) (m .number) (key .ones) (key .twos) (l .yOnes) (l .yTwos) (sOnesExit Z l) (sTwosExit Z l) (m .workOnes) (m .workTwos) planes-passed-all)
+      ∙ ap₂ (λ (a b : List ℕ). checkPackedAnswer (key .held) (m .number) (key .ones) (key .twos) a b (m .workOnes) (m .workTwos))
+      (ap (λ (x : ℕ). packedBytes x y) e ∙ sym y-is) (ap₂ packedBytes k t ∙ sym s-is)
+      ∙ end-to-end

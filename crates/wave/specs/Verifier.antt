@@ -108,6 +108,21 @@ carriedCheck z i g w l m = record {
   workTwos = m .workTwos;
 }
 
+-- or y and that s in planes, as they are lent
+abbrev pub carriedPlanes : (z : Sizes) → Build → ℕ → ℕ → Draw → Host z → Check
+carriedPlanes z i g w l m = record {
+  held = carried z i w m .held;
+  number = m .number;
+  ones = carried z i w m .ones;
+  twos = carried z i w m .twos;
+  yOnes = l .yOnes;
+  yTwos = l .yTwos;
+  sOnes = sOnesExit (sized z g w) l;
+  sTwos = sTwosExit (sized z g w) l;
+  workOnes = m .workOnes;
+  workTwos = m .workTwos;
+}
+
 -- yes, with that weight
 abbrev pub yes : ℕ → Checked
 yes weight = record { refusal = 0; yes = 1; weight = weight }

@@ -47,9 +47,8 @@ use Rattle.wave.specs.Demand.{Terms, Built, builtKey, sized, Under, Hand
 use Rattle.wave.specs.Verifier.{verdict, packedVerdict, Host, packedKeyRow, carried, carriedCheck, carriedPlanes, yes}
 use Rattle.wave.proofs.Written.{written-back, written-passes}
 use Rattle.wave.proofs.Passed.{differs, DrawPassed, draw-call}
-use Rattle.wave.proofs.Reach.{reach}
 use Rattle.wave.proofs.Checks.{packed-not-refused}
-use Rattle.wave.proofs.ReachCalls.{few, ones-row, twos-row, built-row, built-released, handed-word, under-releases}
+use Rattle.wave.proofs.ReachCalls.{few, ones-row, twos-row, built-row, handed-ones, handed-twos, handed-signature, drawn-terms}
 
 -- ---- a call of `pack`
 
@@ -161,12 +160,10 @@ module _ (z : Sizes) (i : Build) (b : Built z i) (g w : ℕ) (l : Draw) (u : Und
   s = upTo (dim z) (signature Z (wordOf Z l))
 
   s-ones : sOnesExit Z l ≡ onesOf s (wordsFor (dim z))
-  unfolding sOnesExit
-  s-ones = sym (exit-new (onesOf s (wordsFor (dim z))) (l .sOnes) d)
+  s-ones = handed-ones Z l d
 
   s-twos : sTwosExit Z l ≡ twosOf s (wordsFor (dim z))
-  unfolding sTwosExit
-  s-twos = sym (exit-new (twosOf s (wordsFor (dim z))) (l .sTwos) d)
+  s-twos = handed-twos Z l d
 
   abbrev sPacked : List ℕ
   sPacked = packExit (dim z) (sOnesExit Z l) (sTwosExit Z l) (m .sBytes)
@@ -175,7 +172,7 @@ module _ (z : Sizes) (i : Build) (b : Built z i) (g w : ℕ) (l : Draw) (u : Und
   s-is =
       pack-writes (dim z) (sOnesExit Z l) (sTwosExit Z l) (m .sBytes) few-dim (ap length s-ones ∙ length-ones s (wordsFor (dim z))) (ap length s-twos ∙ length-twos s (wordsFor (dim z))) (m .s-bytes-size)
       (ap₂ (λ (x y : List ℕ). planesRefusal x y 1 (dim z)) s-ones s-twos ∙ written-passes (dim z) (signature Z (wordOf Z l)))
-      ∙ ap (packedBytes (dim z)) (ap₂ tritAt s-ones s-twos ∙ written-back (dim z) (signature Z (wordOf Z l)))
+      ∙ ap (packedBytes (dim z)) (handed-signature Z l d)
 
   s-back : packedRow (dim z) sPacked ≡ s
   s-back = ap (packedRow (dim z)) s-is ∙ packed-back (dim z) s ∙ upto-ended s (dim z) (λ q k. upto-out (signature Z (wordOf Z l)) (dim z) q k)
@@ -183,9 +180,7 @@ module _ (z : Sizes) (i : Build) (b : Built z i) (g w : ℕ) (l : Draw) (u : Und
   -- ---- the weight
 
   terms : KeyTerms z i g w (l .yOnes) (l .yTwos) (wordOf Z l)
-  terms =
-      reach z (secretOf z (i .secret)) (i .start) (orderExit z i) (builtKey z i) (built-released z i b) g w (passed .sizes) y (wordOf Z l) .0
-      (under-releases z i g w l (wordOf Z l) u (record { passed = d; word = λ q h. ap (λ (v : Vector). v q) (handed-word Z l d) ∙ upto-in (wordOf Z l) (places z) q h }))
+  terms = drawn-terms z i b g w l u d
 
   weight-is : fullWeight (codim z) (dim z) (λ j. packedRow (codim z) (packedKeyRow z i m j)) (packedRow (codim z) yPacked) (packedRow (dim z) sPacked) ≡ w
   weight-is =
@@ -267,7 +262,7 @@ module _ (z : Sizes) (i : Build) (b : Built z i) (g w : ℕ) (l : Draw) (u : Und
   end-to-end-planes =
       let e : rowTrits (key .held) ≡ codim z = ap (λ (h : Held). rowTrits h) held-is ∙ size in
       let k : key .held .k ≡ dim z = ap (λ (h : Held). h .k) held-is in
-      let t : tritAt (sOnesExit Z l) (sTwosExit Z l) ≡ s = ap₂ tritAt s-ones s-twos ∙ written-back (dim z) (signature Z (wordOf Z l)) in
+      let t : tritAt (sOnesExit Z l) (sTwosExit Z l) ≡ s = handed-signature Z l d in
       sym (packed-agrees (key .held) (m .number) (key .ones) (key .twos) (l .yOnes) (l .yTwos) (sOnesExit Z l) (sTwosExit Z l) (m .workOnes) (m .workTwos) planes-passed-all)
       ∙ ap₂ (λ (a b : List ℕ). checkPackedAnswer (key .held) (m .number) (key .ones) (key .twos) a b (m .workOnes) (m .workTwos))
       (ap (λ (x : ℕ). packedBytes x y) e ∙ sym y-is) (ap₂ packedBytes k t ∙ sym s-is)

@@ -10,3 +10,4 @@ pub mod Checks
 pub mod EndToEnd
 pub mod Demands
 pub mod Cases
+pub mod CallCases

@@ -24,12 +24,12 @@ use Rattle.signer.specs.declared.sizes.Sizes.{Sizes}
 use Rattle.signer.specs.Sizes.{half, places, dim, codim, gapU, sizesFit}
 use Rattle.signer.specs.Secret.{Secret}
 use Rattle.signer.specs.Build.{keyOrder, keyRow}
-use Rattle.signer.specs.Draw.{Choices, drawn, drawRefusal}
+use Rattle.signer.specs.Draw.{Choices, drawn, drawRefusal, signature}
 use Rattle.signer.proofs.Pairs.{zero-no}
 use Rattle.signer.proofs.Ranges.{sizes-fit}
 use Rattle.calls.specs.Lent.{secretOf, secretDiffers, secretRefusal}
 use Rattle.calls.specs.BuildCall.{Lent as Build, keyWords, buildAnswer, orderExit, keyOnesOf, keyTwosOf, keyOnesExit, keyTwosExit}
-use Rattle.calls.specs.DrawCall.{Lent as Draw, choicesOf, workWords, drawAnswer, wordOf, wordOnesExit, wordTwosExit}
+use Rattle.calls.specs.DrawCall.{Lent as Draw, choicesOf, workWords, drawAnswer, wordOf, wordOnesExit, wordTwosExit, sOnesExit, sTwosExit}
 use Rattle.wave.specs.Demand.{Terms, Built, builtKey, sized, LentSyndrome, Under, HandsOut, Bits, SomeDraw, KeyTerms}
 use Rattle.wave.specs.Vectors.{Released, Releases}
 use Rattle.wave.proofs.Written.{written-back, written-passes, ones-words, twos-words, zero-words, rows-part}
@@ -98,6 +98,25 @@ pub under-releases : (z : Sizes) (i : Build) (g w : ℕ) (l : Draw) (e : Vector)
 under-releases z i g w l e u h =
     subst (λ k. Releases (sized z g w) (secretOf z k) (orderExit z i) (tritAt (l .yOnes) (l .yTwos)) e) (u .secret-is)
     (subst (λ (p : List ℕ). Releases (sized z g w) (secretOf z (l .secret)) p (tritAt (l .yOnes) (l .yTwos)) e) (u .order-is) (call-releases (sized z g w) l e h))
+
+-- and s lent back is its last k trits
+pub handed-ones : (z : Sizes) (l : Draw) → drawAnswer z l ≡ 0 → sOnesExit z l ≡ onesOf (upTo (dim z) (signature z (wordOf z l))) (wordsFor (dim z))
+unfolding sOnesExit
+handed-ones z l d = sym (exit-new (onesOf (upTo (dim z) (signature z (wordOf z l))) (wordsFor (dim z))) (l .sOnes) d)
+
+pub handed-twos : (z : Sizes) (l : Draw) → drawAnswer z l ≡ 0 → sTwosExit z l ≡ twosOf (upTo (dim z) (signature z (wordOf z l))) (wordsFor (dim z))
+unfolding sTwosExit
+handed-twos z l d = sym (exit-new (twosOf (upTo (dim z) (signature z (wordOf z l))) (wordsFor (dim z))) (l .sTwos) d)
+
+pub handed-signature : (z : Sizes) (l : Draw) → drawAnswer z l ≡ 0 → tritAt (sOnesExit z l) (sTwosExit z l) ≡ upTo (dim z) (signature z (wordOf z l))
+handed-signature z l d = ap₂ tritAt (handed-ones z l d) (handed-twos z l d) ∙ written-back (dim z) (signature z (wordOf z l))
+
+-- the terms hold of the word that a draw under a built key made
+pub drawn-terms : (z : Sizes) (i : Build) → Built z i → (g w : ℕ) (l : Draw) → Under z i l → drawAnswer (sized z g w) l ≡ 0 → KeyTerms z i g w (l .yOnes) (l .yTwos) (wordOf (sized z g w) l)
+drawn-terms z i b g w l u d =
+    let e = wordOf (sized z g w) l in
+    reach z (secretOf z (i .secret)) (i .start) (orderExit z i) (builtKey z i) (built-released z i b) g w (draw-call (sized z g w) l d .sizes) (tritAt (l .yOnes) (l .yTwos)) e .0
+    (under-releases z i g w l e u (record { passed = d; word = λ q h. ap (λ (v : Vector). v q) (handed-word (sized z g w) l d) ∙ upto-in e (places z) q h }))
 
 -- ---- from vectors to a call
 

@@ -15,7 +15,6 @@ use Rattle.matrix.specs.Orders.{isOrder}
 use Rattle.matrix.proofs.Field.{set-not}
 use Rattle.matrix.proofs.Places.{elem-at}
 use Rattle.elimination.specs.Grid.{rowsOf}
-use Rattle.signer.specs.declared.sizes.Sizes.{Sizes}
 use Rattle.signer.specs.Sizes.{sizesFit}
 use Rattle.signer.specs.Secret.{secretMatrix}
 use Rattle.signer.specs.Build.{arrange, arranged, rowOfR, buildRefusal}

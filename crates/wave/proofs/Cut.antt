@@ -1,24 +1,23 @@
 -- A draw looks at k_V of the V trits and at k_U of the U values: those past them may be 0, as they are in lent planes. Assumes nothing.
-use mathlib.Core.Path.{_≡_, refl, sym, ap, ap₂, _∙_}
-use mathlib.Core.Bool.{true}
+use mathlib.Core.Path.{_≡_, refl, ap, ap₂, _∙_}
 use mathlib.Core.List.{List, [], _∷_}
 use Prim.Native.Nat.{ℕ, suc, _+_, _-_, _<_}
 use native.Mathlib.Omega.{arith}
-use lib.ListN.{length, getD, take, length-drop}
+use lib.ListN.{length, getD, length-drop}
 use lib.Seq.{length-take-le}
-use Rattle.trits.specs.Trit.{Trit, isSet, nonZero, weightV, putV, upTo}
+use Rattle.trits.specs.Trit.{Trit, isSet, nonZero, putV, upTo}
 use Rattle.trits.proofs.Counts.{sum-cong}
 use Rattle.trits.proofs.Ends.{upto-in}
-use Rattle.matrix.specs.Linear.{Vector, elem, zeros, times, solve, orZeros, without, fill}
+use Rattle.matrix.specs.Linear.{Vector, zeros, times, solve, orZeros, without, fill}
 use Rattle.matrix.proofs.Greedy.{pivots-elem}
 use Rattle.matrix.proofs.Orders.{order-good}
-use Rattle.matrix.proofs.Counts.{Within, without-length}
+use Rattle.matrix.proofs.Counts.{without-length}
 use Rattle.signer.specs.declared.sizes.Sizes.{Sizes}
 use Rattle.signer.specs.Sizes.{half, places, ru, rv, codim, gapV, gapU}
 use Rattle.signer.specs.Secret.{Secret, join, uOf, vOf, whole}
-use Rattle.signer.specs.Draw.{Choices, choicesFit, placed, firstV, pivotsV, suppliedV, drawV, firstU, pivotsU, lastU, forced, suppliedU, drawU, drawn, drawRefusal}
+use Rattle.signer.specs.Draw.{Choices, placed, firstV, pivotsV, suppliedV, drawV, firstU, pivotsU, lastU, forced, suppliedU, drawU, drawn, drawRefusal}
 use Rattle.signer.proofs.Ranges.{Ranges}
-use Rattle.signer.proofs.Draws.{Valid, choices-valid, valid-choices, Passes, passes-released, released-passes, parts, first-in, keptV, keptU}
+use Rattle.signer.proofs.Draws.{Valid, choices-valid, Passes, passes-released, released-passes, parts, first-in, keptV, keptU}
 use Rattle.wave.specs.Vectors.{Releases}
 
 -- as many trits are taken as there are places

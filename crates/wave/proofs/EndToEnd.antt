@@ -2,19 +2,19 @@
 use mathlib.Core.Path.{_≡_, refl, sym, ap, ap₂, _∙_}
 use mathlib.Core.Bool.{true, false, not, and-eq-true-iff}
 use mathlib.Core.List.{List}
-use Prim.Native.Nat.{ℕ, _+_, _-_, _*_, _%_, _≤_, _<_}
+use Prim.Native.Nat.{ℕ, _-_, _*_, _%_, _≤_, _<_}
 use native.Mathlib.Nat.{le-refl}
 use native.Mathlib.Omega.{arith}
 use borrow.Author.Tests.{eqb-true, eq-eqb, leb-true, le-leb, le-ltb}
 use lib.Dec.{eqb, leb}
 use lib.ListN.{length}
-use Rattle.trits.specs.Trit.{Trit, t0, weightV, upTo}
+use Rattle.trits.specs.Trit.{weightV, upTo}
 use Rattle.trits.specs.Planes.{tritAt, wordsFor, onesOf, twosOf}
 use Rattle.trits.specs.Rows.{rowPart}
 use Rattle.trits.specs.Refusal.{planesRefusal}
 use Rattle.trits.proofs.Refusals.{exit-new, passed-first, first-goes, planes-passed}
 use Rattle.trits.proofs.Reading.{length-ones, length-twos}
-use Rattle.trits.proofs.Ends.{upto-in, upto-out, upto-ended, upto-same}
+use Rattle.trits.proofs.Ends.{upto-in, upto-out, upto-ended}
 use Rattle.trits.proofs.Matrix.{one-row-past}
 use Rattle.trits.proofs.Tests.{past-zero}
 use Rattle.packing.specs.Packed.{bytesFor, packedRow, packedBytes, badByte}
@@ -36,16 +36,15 @@ use Rattle.checker.proofs.EndToEnd.{begun, offered, loaded}
 use Rattle.checker.proofs.Verdicts.{packed-agrees}
 use Rattle.signer.specs.declared.sizes.Sizes.{Sizes}
 use Rattle.signer.specs.Sizes.{half, places, dim, codim, gapV, gapU, sizesFit}
-use Rattle.signer.specs.Secret.{Secret}
 use Rattle.signer.specs.Build.{keyRow}
 use Rattle.signer.specs.Draw.{signature}
 use Rattle.signer.proofs.Ranges.{sizes-fit, codim-dim}
 use Rattle.calls.specs.Lent.{secretOf, pairDiffers}
-use Rattle.calls.specs.BuildCall.{Lent as Build, keyWords, orderExit, keyOnesExit, keyTwosExit}
+use Rattle.calls.specs.BuildCall.{Lent as Build, keyWords, keyOnesExit, keyTwosExit}
 use Rattle.calls.specs.DrawCall.{Lent as Draw, choicesDiffer, lengthsDiffer, drawAnswer, wordOf, sOnesExit, sTwosExit}
-use Rattle.wave.specs.Demand.{Terms, Built, builtKey, sized, Under, HandsOut, KeyTerms}
+use Rattle.wave.specs.Demand.{Built, builtKey, sized, Under, KeyTerms}
 use Rattle.wave.specs.Verifier.{verdict, packedVerdict, Host, packedKeyRow, carried, carriedCheck, carriedPlanes, yes}
-use Rattle.wave.proofs.Written.{written-back, written-passes}
+use Rattle.wave.proofs.Written.{written-passes}
 use Rattle.wave.proofs.Passed.{differs, DrawPassed, draw-call}
 use Rattle.wave.proofs.Checks.{packed-not-refused}
 use Rattle.wave.proofs.ReachCalls.{few, ones-row, twos-row, built-row, handed-ones, handed-twos, handed-signature, drawn-terms}

@@ -1,26 +1,24 @@
 -- What a call of the builder or of the signer that was not refused has passed, and that a draw passes which has all of that. Assumes nothing.
 use mathlib.Core.Path.{_≡_, refl, sym, ap, _∙_}
-use mathlib.Core.Bool.{Bool, true, false, not, _||_}
-use mathlib.Core.List.{List}
-use Prim.Native.Nat.{ℕ, _-_, _+_, _<_}
-use native.Mathlib.Omega.{arith}
+use mathlib.Core.Bool.{Bool, true, false, not}
+use Prim.Native.Nat.{ℕ, _-_, _+_}
 use borrow.Author.Tests.{eq-eqb}
-use lib.Dec.{eqb, lit<}
+use lib.Dec.{lit<}
 use lib.ListN.{length}
 use Rattle.trits.specs.Trit.{isSet, anyTo}
 use Rattle.trits.specs.Planes.{tritAt, wordsFor}
-use Rattle.trits.specs.Refusal.{first, demand, refuse, planesRefusal}
-use Rattle.trits.proofs.Refusals.{passed-refuse, passed-demand, passed-first, first-goes}
+use Rattle.trits.specs.Refusal.{first, planesRefusal}
+use Rattle.trits.proofs.Refusals.{passed-refuse, passed-demand, passed-first}
 use Rattle.matrix.specs.Linear.{Vector}
 use Rattle.matrix.specs.Orders.{isOrder}
-use Rattle.matrix.proofs.Places.{or-false-left, or-false-right}
+use Rattle.matrix.proofs.Places.{or-false-left}
 use Rattle.signer.specs.declared.sizes.Sizes.{Sizes}
 use Rattle.signer.specs.Sizes.{half, places, dim, ru, rv, codim, gapU, sizesFit}
-use Rattle.signer.specs.Secret.{Secret, noZero}
+use Rattle.signer.specs.Secret.{noZero}
 use Rattle.signer.specs.Build.{buildFits, buildRefusal}
-use Rattle.signer.specs.Draw.{Choices, choicesFit, drawRefusal}
-use Rattle.calls.specs.Lent.{Planes, halfWords, secretOf, pairDiffers, secretDiffers, hasZero, secretRefusal}
-use Rattle.calls.specs.BuildCall.{Lent as Build, keyDiffers, lengthsDiffer as buildLengths, buildAnswer}
+use Rattle.signer.specs.Draw.{choicesFit, drawRefusal}
+use Rattle.calls.specs.Lent.{Planes, secretOf, pairDiffers, secretDiffers, hasZero, secretRefusal}
+use Rattle.calls.specs.BuildCall.{Lent as Build, lengthsDiffer as buildLengths, buildAnswer}
 use Rattle.calls.specs.DrawCall.{Lent as Draw, syndromeOf, choicesOf, workWords, choicesDiffer, lengthsDiffer as drawLengths, choicesRefusal, drawAnswer}
 
 -- a trit that is 0 is there, or none is

@@ -3,7 +3,7 @@ use mathlib.Core.Path.{_≡_, refl, sym, ap, ap₂, _∙_, subst}
 use mathlib.Core.Bool.{true, false, and-eq-true-iff}
 use mathlib.Core.Logic.{_↔_}
 use mathlib.Core.List.{List}
-use Prim.Native.Nat.{ℕ, _+_, _-_, _*_, _^_, _≤_, _<_}
+use Prim.Native.Nat.{ℕ, _+_, _-_, _^_, _≤_, _<_}
 use native.Mathlib.Decide.{decLt}
 use native.Mathlib.Omega.{arith}
 use borrow.Author.Tests.{leb-true}
@@ -22,19 +22,20 @@ use Rattle.matrix.proofs.Places.{elem-at}
 use Rattle.matrix.proofs.Orders.{order-good, test-order}
 use Rattle.signer.specs.declared.sizes.Sizes.{Sizes}
 use Rattle.signer.specs.Sizes.{half, places, dim, codim, gapU, sizesFit}
-use Rattle.signer.specs.Secret.{Secret}
+use Rattle.signer.specs.Secret.{Secret, noZero}
 use Rattle.signer.specs.Build.{keyOrder, keyRow}
 use Rattle.signer.specs.Draw.{Choices, drawn, drawRefusal, signature}
 use Rattle.signer.proofs.Pairs.{zero-no}
 use Rattle.signer.proofs.Ranges.{sizes-fit}
+use Rattle.signer.proofs.Draws.{Valid}
 use Rattle.calls.specs.Lent.{secretOf, secretDiffers, secretRefusal}
-use Rattle.calls.specs.BuildCall.{Lent as Build, keyWords, buildAnswer, orderExit, keyOnesOf, keyTwosOf, keyOnesExit, keyTwosExit}
-use Rattle.calls.specs.DrawCall.{Lent as Draw, choicesOf, workWords, drawAnswer, wordOf, wordOnesExit, wordTwosExit, sOnesExit, sTwosExit}
-use Rattle.wave.specs.Demand.{Terms, Built, builtKey, sized, LentSyndrome, Under, HandsOut, Bits, SomeDraw, KeyTerms}
+use Rattle.calls.specs.BuildCall.{Lent as Build, keyWords, orderExit, keyOnesOf, keyTwosOf, keyOnesExit, keyTwosExit}
+use Rattle.calls.specs.DrawCall.{Lent as Draw, choicesOf, workWords, lengthsDiffer, drawAnswer, wordOf, wordOnesExit, wordTwosExit, sOnesExit, sTwosExit}
+use Rattle.wave.specs.Demand.{Built, builtKey, sized, LentSyndrome, Under, HandsOut, Bits, SomeDraw, KeyTerms}
 use Rattle.wave.specs.Vectors.{Released, Releases}
 use Rattle.wave.proofs.Written.{written-back, written-passes, ones-words, twos-words, zero-words, rows-part}
 use Rattle.wave.proofs.Cut.{cut, cut-valid, cut-passed, cut-word}
-use Rattle.wave.proofs.Passed.{none-zero, differs, build-call, build-fits, DrawPassed, draw-call, call-draws, choices-fit, choices-same, lengths-same}
+use Rattle.wave.proofs.Passed.{none-zero, build-call, build-fits, DrawPassed, draw-call, call-draws, choices-fit, choices-same, lengths-same}
 use Rattle.wave.proofs.Verifier.{build-ended}
 use Rattle.wave.proofs.Reach.{reach}
 
@@ -163,7 +164,7 @@ module _ (z : Sizes) (i : Build) (b : Built z i) (g w : ℕ) (fit : sizesFit (si
         workTwos = zeroWords (workWords z);
       }
 
-  valid : Rattle.signer.proofs.Draws.Valid Z ch
+  valid : Valid Z ch
   valid = cut-valid Z (s z i b) (orderExit z i) (tritAt yOnes yTwos) e (sizes-fit Z fit) re
 
   p-order : Order (places z) (orderExit z i)
@@ -174,7 +175,7 @@ module _ (z : Sizes) (i : Build) (b : Built z i) (g w : ℕ) (fit : sizesFit (si
       ap₂ (λ (v u : Vector). record { orderV = ch .orderV; tritsV = v; orderU = ch .orderU; valuesU = u })
       (written-back (z .kv) (re .choices .tritsV)) (written-back (z .ku) (re .choices .valuesU))
 
-  made-lengths : Rattle.calls.specs.DrawCall.lengthsDiffer Z made ≡ false
+  made-lengths : lengthsDiffer Z made ≡ false
   unfolding secretDiffers
   made-lengths =
       lengths-same Z made (build-call z i b .lengths)
@@ -199,7 +200,7 @@ module _ (z : Sizes) (i : Build) (b : Built z i) (g w : ℕ) (fit : sizesFit (si
         order-u = test-order (half z) (ch .orderU) (valid .orderU);
         values-u = written-passes (z .ku) (re .choices .valuesU);
         last-u = none-zero (z .ku - gapU Z) (λ j. choicesOf made .valuesU (gapU Z + j))
-            (ap (λ (c : Choices). Rattle.signer.specs.Secret.noZero (z .ku - gapU Z) (λ j. c .valuesU (gapU Z + j))) choices-are ∙ zero-no (z .ku - gapU Z) (λ j. ch .valuesU (gapU Z + j)) (valid .values));
+            (ap (λ (c : Choices). noZero (z .ku - gapU Z) (λ j. c .valuesU (gapU Z + j))) choices-are ∙ zero-no (z .ku - gapU Z) (λ j. ch .valuesU (gapU Z + j)) (valid .values));
         draws = ap (drawRefusal Z (s z i b) (orderExit z i) (tritAt yOnes yTwos)) choices-are ∙ cut-passed Z (s z i b) (orderExit z i) (tritAt yOnes yTwos) e (sizes-fit Z fit) re;
       }
 

@@ -1,4 +1,4 @@
--- The starred keys and draws of the paper ("At the edges") as calls: the answers and the words lent back, by computation; and the star that no draw makes, over every call. Assumes nothing.
+-- The starred keys and draws of the paper ("At the edges") as calls: the answers and the words lent back, by computation; the star that no draw makes, over every call; and the first key carried to the module. Assumes nothing.
 use mathlib.Core.Path.{_≡_, refl, sym, ap, ap₂, _∙_, subst}
 use mathlib.Core.Bool.{true}
 use mathlib.Core.List.{List, [], _∷_}
@@ -23,7 +23,9 @@ use Rattle.calls.specs.Lent.{Planes, secretDiffers, hasZero, secretRefusal, wor
 use Rattle.calls.specs.BuildCall.{Lent as Build, keyDiffers, lengthsDiffer as buildLengths, buildAnswer, orderExit, keyOnesOf, keyTwosOf, keyOnesExit, keyTwosExit, workOnesExit as buildWork}
 use Rattle.calls.specs.DrawCall.{Lent as Draw, choicesDiffer, lengthsDiffer as drawLengths, choicesRefusal, drawAnswer, wordOf, wordOnesExit, wordTwosExit, sOnesExit, sTwosExit, workOnesExit as drawWork}
 use Rattle.wave.specs.Demand.{Under}
+use Rattle.wave.specs.Verifier.{packedVerdict, Host, carriedCheck, yes}
 use Rattle.wave.proofs.ReachCalls.{handed-signature, drawn-terms}
+use Rattle.wave.proofs.EndToEnd.{end-to-end}
 use Rattle.wave.proofs.Cases.{sizes4}
 
 -- H_U = (1 1), H_V = (1 2), b = (0,1), c = (1,2)
@@ -181,3 +183,32 @@ never-drawn l u d s1 s2 =
     right zero h c = set-not c (none 0 (omega arith))
     right (suc zero) h c = set-not c (none 1 (omega arith))
     right (suc (suc q)) h c = absurd (omega arith)
+
+-- ---- the first key, carried to the module
+
+-- a host with key number 7 that never held a key; what it lends holds anything
+abbrev host4 : Host (sizes4 0 4)
+host4 = record {
+  number = 7;
+  before = record { begun = 0; number = 0; n = 0; k = 0; w = 0; rows = 0 };
+  ones = 5 ∷ 6 ∷ [];
+  twos = 7 ∷ 8 ∷ [];
+  rowBytes = λ j. 9 ∷ [];
+  yBytes = 9 ∷ [];
+  sBytes = 9 ∷ [];
+  workOnes = 5 ∷ [];
+  workTwos = 6 ∷ [];
+  number-fits = omega arith;
+  ones-size = refl;
+  twos-size = refl;
+  row-bytes-size = λ j l. refl;
+  y-bytes-size = refl;
+  s-bytes-size = refl;
+  work-ones-size = refl;
+  work-twos-size = refl;
+}
+
+-- y = 12 and the s of the release 2111, which is 11: yes with weight 4, as the paper's example of lines has it
+pub carried-2111 : packedVerdict (carriedCheck (sizes4 0 4) (build4 first-start) 0 4 (draw4 first-start 0 1 1 0) host4) ≡ yes 4
+carried-2111 =
+    end-to-end (sizes4 0 4) (build4 first-start) (starred-calls .answer-0123) 0 4 (draw4 first-start 0 1 1 0) (record { secret-is = refl; order-is = sym (starred-calls .order-0123) }) (starred-calls .answer-2111) host4

@@ -218,7 +218,6 @@ module _ (z : Sizes) (i : Build) (b : Built z i) (g w : ℕ) (fit : sizesFit (si
   some-draw : SomeDraw z i g w yOnes yTwos e
   some-draw =
       let n = few Z fit in
-      let o = build-call z i b in
       record {
         call = made;
         lendable = record {
@@ -242,6 +241,14 @@ module _ (z : Sizes) (i : Build) (b : Built z i) (g w : ℕ) (fit : sizesFit (si
       }
 
 -- ---- both ways
+
+-- every y of n-k trits can be lent
+pub syndrome-lent : (z : Sizes) (y : Vector) → LentSyndrome z (onesOf (upTo (codim z) y) (wordsFor (codim z))) (twosOf (upTo (codim z) y) (wordsFor (codim z)))
+syndrome-lent z y = record {
+  ones-size = length-ones (upTo (codim z) y) (wordsFor (codim z));
+  twos-size = length-twos (upTo (codim z) y) (wordsFor (codim z));
+  contents = written-passes (codim z) y;
+}
 
 pub reach-calls : (z : Sizes) (i : Build) → Built z i → (g w : ℕ) → sizesFit (sized z g w) ≡ true → (yOnes yTwos : List ℕ) → LentSyndrome z yOnes yTwos → (e : Vector)
     → SomeDraw z i g w yOnes yTwos e ↔ KeyTerms z i g w yOnes yTwos e

@@ -21,7 +21,7 @@ use Rattle.signer.specs.Sizes.{sizesFit}
 use Rattle.signer.specs.Secret.{Secret, noZero, secretMatrix}
 use Rattle.signer.specs.Build.{arrange, arranged, rowOfR, buildFits, buildRefusal, keyOrder, keyRow}
 use Rattle.signer.specs.Draw.{Choices, choicesFit, placed, pivotsV, suppliedV, drawV, pivotsU, suppliedU, drawU, drawn, drawRefusal, signature}
-use Rattle.wave.specs.Demand.{Released, Releases}
+use Rattle.wave.specs.Vectors.{Released, Releases}
 use Rattle.wave.proofs.Reach.{reach}
 
 -- H_U = (1 1), H_V = (1 2), b = (0,1), c = (1,2), at a gap and a weight

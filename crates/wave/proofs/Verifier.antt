@@ -16,7 +16,8 @@ use Rattle.signer.specs.Secret.{Secret, secretMatrix}
 use Rattle.signer.specs.Build.{arranged}
 use Rattle.signer.specs.Draw.{signature}
 use Rattle.signer.proofs.Ranges.{codim-dim, build-passed, build-ends}
-use Rattle.wave.specs.Demand.{sized, Released, Releases}
+use Rattle.wave.specs.Demand.{sized}
+use Rattle.wave.specs.Vectors.{Released, Releases}
 use Rattle.wave.proofs.Reach.{reach}
 
 module _ (z : Sizes) (s : Secret) (start p : List ℕ) (R : Key) (re : Released z s start p R) where

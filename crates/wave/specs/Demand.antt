@@ -1,36 +1,25 @@
--- Demand 3 in its terms, which the paper defines itself ("The words of demand 3"). Assumes nothing.
+-- Demand 3 in its terms, which the paper defines itself ("The words of demand 3"): over the answers of the calls and the words that they are lent. Assumes nothing.
 use mathlib.Core.Path.{_≡_}
 use mathlib.Core.Bool.{true}
 use mathlib.Core.List.{List}
-use Prim.Native.Nat.{ℕ, _+_, _-_, _<_}
-use lib.ListN.{length}
+use Prim.Native.Nat.{ℕ, _+_, _-_, _^_, _<_}
+use lib.ListN.{length, getD}
 use Rattle.trits.specs.Trit.{isSet, weightV}
+use Rattle.trits.specs.Planes.{tritAt, wordsFor}
+use Rattle.trits.specs.Rows.{rowPart}
+use Rattle.trits.specs.Refusal.{planesRefusal}
 use Rattle.matrix.specs.Linear.{Vector, elem, without, range, rank}
 use Rattle.matrix.specs.Orders.{Distinct}
 use Rattle.verdict.specs.Verdict.{Key, HasSyndrome}
 use Rattle.signer.specs.declared.sizes.Sizes.{Sizes}
 use Rattle.signer.specs.Sizes.{half, places, dim, ru, codim, gapU}
 use Rattle.signer.specs.Secret.{Secret}
-use Rattle.signer.specs.Build.{buildFits, buildRefusal, keyOrder, keyRow}
-use Rattle.signer.specs.Draw.{Choices, choicesFit, placed, drawn, drawRefusal}
+use Rattle.signer.specs.Draw.{placed}
+use Rattle.calls.specs.Lent.{secretOf}
+use Rattle.calls.specs.BuildCall.{Lent as Build, keyWords, buildAnswer, orderExit, keyOnesExit, keyTwosExit}
+use Rattle.calls.specs.DrawCall.{Lent as Draw, drawAnswer, wordOnesExit, wordTwosExit}
 
--- sizes with another gap and weight
-abbrev pub sized : Sizes → ℕ → ℕ → Sizes
-sized z g w = record { n = z .n; ku = z .ku; kv = z .kv; g = g; w = w }
-
--- p and R are what a build released: what it was given is in order, nothing was refused, and they are its order and its k rows of n-k trits
-pub record Released (z : Sizes) (s : Secret) (start p : List ℕ) (R : Key) : Type 0 where
-  pub given : buildFits z s start ≡ true
-  pub passed : buildRefusal z s ≡ 0
-  pub order : p ≡ keyOrder z s start
-  pub rows : (i j : ℕ) → i < dim z → j < codim z → R i j ≡ keyRow z s start i j
-
--- some draw for y releases the word e: choices in order, nothing refused, and the word handed out is e in its n places
-pub record Releases (z : Sizes) (s : Secret) (p : List ℕ) (y e : Vector) : Type 0 where
-  pub choices : Choices
-  pub given : choicesFit z choices ≡ true
-  pub passed : drawRefusal z s p y choices ≡ 0
-  pub word : (i : ℕ) → i < places z → drawn z s p y choices i ≡ e i
+-- ---- the terms
 
 -- so many of the N secret pairs, no two alike
 pub record PairSet (N count : ℕ) : Type 0 where
@@ -40,9 +29,74 @@ pub record PairSet (N count : ℕ) : Type 0 where
   pub below : (q : ℕ) → elem q pairs ≡ true → q < N
 
 -- the five terms: weight w; the syndrome y; k_U - g distinct secret pairs; both trits of each not 0; H_U keeps rank r_U on the other pairs
+-- (the word e is in public places, and `placed p e` is the same word in secret places: public trit i stands at secret place p(i), pair j is secret places j and N + j)
 pub record Terms (z : Sizes) (s : Secret) (p : List ℕ) (R : Key) (y e : Vector) : Type 0 where
   pub weighs : weightV e (places z) ≡ z .w
   pub has-syndrome : HasSyndrome (codim z) (dim z) R e y
   pub chosen : PairSet (half z) (z .ku - gapU z)
   pub both-nonzero : (q : ℕ) → elem q (chosen .pairs) ≡ true → (isSet (placed p e q) ≡ true) × (isSet (placed p e (half z + q)) ≡ true)
   pub keeps-rank : rank (ru z) (half z) (s .hu) (without (chosen .pairs) (range (half z))) ≡ ru z
+
+-- ---- a key that our builder released
+
+-- a call of the builder that was not refused; its p is the order lent back, `orderExit`
+abbrev pub Built : Sizes → Build → Type 0
+Built z i = buildAnswer z i ≡ 0
+
+-- and its R the key's words lent back: row j is that stretch of them
+unfoldable pub builtKey : Sizes → Build → Key
+builtKey z i j = tritAt (rowPart (keyOnesExit z i) (dim z) (keyWords z) j) (rowPart (keyTwosExit z i) (dim z) (keyWords z) j)
+
+-- ---- a draw under it
+
+-- the same sizes, but g and w may be others
+abbrev pub sized : Sizes → ℕ → ℕ → Sizes
+sized z g w = record { n = z .n; ku = z .ku; kv = z .kv; g = g; w = w }
+
+-- y as it is lent: n-k trits in two planes
+pub record LentSyndrome (z : Sizes) (ones twos : List ℕ) : Type 0 where
+  pub ones-size : length ones ≡ wordsFor (codim z)
+  pub twos-size : length twos ≡ wordsFor (codim z)
+  pub contents : planesRefusal ones twos 1 (codim z) ≡ 0
+
+-- a call of the signer with that build's secret and p
+pub record Under (z : Sizes) (i : Build) (l : Draw) : Type 0 where
+  pub secret-is : l .secret ≡ i .secret
+  pub order-is : l .p ≡ orderExit z i
+
+-- it releases the word e: it ends without a refusal and hands out that word, in its n places
+pub record HandsOut (z : Sizes) (l : Draw) (e : Vector) : Type 0 where
+  pub passed : drawAnswer z l ≡ 0
+  pub word : (q : ℕ) → q < places z → tritAt (wordOnesExit z l) (wordTwosExit z l) q ≡ e q
+
+-- numbers of b bits, as a slice has them
+abbrev pub Bits : ℕ → List ℕ → Type 0
+Bits b l = (j : ℕ) → getD l j 0 < 2 ^ b
+
+-- what is supplied to a draw can be lent: orders of 16-bit numbers, planes of 64-bit words
+pub record Lendable (l : Draw) : Type 0 where
+  pub order-v : Bits 16 (l .orderV)
+  pub v-ones : Bits 64 (l .vOnes)
+  pub v-twos : Bits 64 (l .vTwos)
+  pub order-u : Bits 16 (l .orderU)
+  pub u-ones : Bits 64 (l .uOnes)
+  pub u-twos : Bits 64 (l .uTwos)
+  pub word-ones : Bits 64 (l .wordOnes)
+  pub word-twos : Bits 64 (l .wordTwos)
+  pub s-ones : Bits 64 (l .sOnes)
+  pub s-twos : Bits 64 (l .sTwos)
+  pub work-ones : Bits 64 (l .workOnes)
+  pub work-twos : Bits 64 (l .workTwos)
+
+-- some draw under the key releases e for y, with any V order, V trits, U order and U values
+pub record SomeDraw (z : Sizes) (i : Build) (g w : ℕ) (yOnes yTwos : List ℕ) (e : Vector) : Type 0 where
+  pub call : Draw
+  pub lendable : Lendable call
+  pub under : Under z i call
+  pub y-ones : call .yOnes ≡ yOnes
+  pub y-twos : call .yTwos ≡ yTwos
+  pub releases : HandsOut (sized z g w) call e
+
+-- the terms of the word e for y under that key, at that g and w
+abbrev pub KeyTerms : Sizes → Build → ℕ → ℕ → List ℕ → List ℕ → Vector → Type 0
+KeyTerms z i g w yOnes yTwos e = Terms (sized z g w) (secretOf z (i .secret)) (orderExit z i) (builtKey z i) (tritAt yOnes yTwos) e

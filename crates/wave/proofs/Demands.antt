@@ -1,0 +1,20 @@
+-- Demand 3 holds, whole. Assumes nothing.
+use Rattle.wave.specs.DemandThree.{DemandThree}
+use Rattle.wave.proofs.ReachCalls.{reach-calls}
+use Rattle.wave.proofs.Checks.{says-yes, packed-says-yes, one-word, packed-one-word}
+use Rattle.wave.proofs.EndToEnd.{end-to-end, end-to-end-planes}
+
+pub demand-three : DemandThree
+demand-three =
+    record {
+      -- from a call to its choices as vectors, and back: lent planes and the vectors that they hold; `reach` of Reach between
+      reach = reach-calls;
+      -- the full word of y and s is the one word that has the syndrome and extends s
+      verifier = says-yes;
+      packed-verifier = packed-says-yes;
+      one-word = one-word;
+      packed-one-word = packed-one-word;
+      -- what is stored is what was packed, and a released word has the syndrome and weight w
+      end-to-end = end-to-end;
+      end-to-end-planes = end-to-end-planes;
+    }

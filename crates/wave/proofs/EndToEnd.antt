@@ -1,0 +1,268 @@
+-- A built key's rows, packed and stored, then y and the s of a release, packed: the check answers yes, with weight w. Assumes nothing.
+use mathlib.Core.Path.{_≡_, refl, sym, ap, ap₂, _∙_}
+use mathlib.Core.Bool.{true, false, not, and-eq-true-iff}
+use mathlib.Core.List.{List}
+use Prim.Native.Nat.{ℕ, _-_, _*_, _%_, _≤_, _<_}
+use native.Mathlib.Nat.{le-refl}
+use native.Mathlib.Omega.{arith}
+use borrow.Author.Tests.{eqb-true, eq-eqb, leb-true, le-leb, le-ltb}
+use lib.Dec.{eqb, leb}
+use lib.ListN.{length}
+use Rattle.trits.specs.Trit.{weightV, upTo}
+use Rattle.trits.specs.Planes.{tritAt, wordsFor, onesOf, twosOf}
+use Rattle.trits.specs.Rows.{rowPart}
+use Rattle.trits.specs.Refusal.{planesRefusal}
+use Rattle.trits.proofs.Refusals.{exit-new, passed-first, first-goes, planes-passed}
+use Rattle.trits.proofs.Reading.{length-ones, length-twos}
+use Rattle.trits.proofs.Ends.{upto-in, upto-out, upto-ended}
+use Rattle.trits.proofs.Matrix.{one-row-past}
+use Rattle.trits.proofs.Tests.{past-zero}
+use Rattle.packing.specs.Packed.{bytesFor, packedRow, packedBytes, badByte}
+use Rattle.packing.specs.Calls.{packRefusal, packExit}
+use Rattle.packing.proofs.RoundTrip.{packed-length, packed-back, packed-good}
+use Rattle.matrix.specs.Linear.{Vector}
+use Rattle.matrix.proofs.Field.{not-false}
+use Rattle.matrix.proofs.Places.{or-false-left, or-false-right}
+use Rattle.verdict.specs.Verdict.{Key, fullWeight}
+use Rattle.verdict.proofs.FullWord.{weight-cong, weight-of}
+use Rattle.checker.specs.Held.{sizesFit as heldFits}
+use Rattle.checker.specs.declared.state.Held.{Held}
+use Rattle.checker.specs.declared.checking.Checked.{Checked}
+use Rattle.checker.specs.Held.{rowTrits}
+use Rattle.checker.specs.Load.{Kept, offerAll}
+use Rattle.checker.specs.Check.{callRefusal, planesLengths, planesContents, checkRefusal, checkPackedRefusal, answered, checkPackedAnswer}
+use Rattle.checker.proofs.Passed.{check-packed-passed, packed-contents}
+use Rattle.checker.proofs.EndToEnd.{begun, offered, loaded}
+use Rattle.checker.proofs.Verdicts.{packed-agrees}
+use Rattle.signer.specs.declared.sizes.Sizes.{Sizes}
+use Rattle.signer.specs.Sizes.{half, places, dim, codim, gapV, gapU, sizesFit}
+use Rattle.signer.specs.Build.{keyRow}
+use Rattle.signer.specs.Draw.{signature}
+use Rattle.signer.proofs.Ranges.{sizes-fit, codim-dim}
+use Rattle.calls.specs.Lent.{secretOf, pairDiffers}
+use Rattle.calls.specs.BuildCall.{Lent as Build, keyWords, keyOnesExit, keyTwosExit}
+use Rattle.calls.specs.DrawCall.{Lent as Draw, choicesDiffer, lengthsDiffer, drawAnswer, wordOf, sOnesExit, sTwosExit}
+use Rattle.wave.specs.Demand.{Built, builtKey, sized, Under, KeyTerms}
+use Rattle.wave.specs.Verifier.{verdict, packedVerdict, Host, packedKeyRow, carried, carriedCheck, carriedPlanes, yes}
+use Rattle.wave.proofs.Written.{written-passes}
+use Rattle.wave.proofs.Passed.{differs, DrawPassed, draw-call}
+use Rattle.wave.proofs.Checks.{packed-not-refused}
+use Rattle.wave.proofs.ReachCalls.{few, ones-row, twos-row, built-row, handed-ones, handed-twos, handed-signature, drawn-terms}
+
+-- ---- a call of `pack`
+
+module _ (m : ℕ) (ones twos bytes : List ℕ) (few : m ≤ 16384) (o : length ones ≡ wordsFor m) (t : length twos ≡ wordsFor m) (b : length bytes ≡ bytesFor m) (p : planesRefusal ones twos 1 m ≡ 0) where
+  packs : packRefusal m ones twos bytes ≡ 0
+  unfolding packRefusal
+  packs = rw (le-ltb 16384 m few, eq-eqb (length ones) (wordsFor m) o, eq-eqb (length twos) (wordsFor m) t, eq-eqb (length bytes) (bytesFor m) b) p
+
+  pack-writes : packExit m ones twos bytes ≡ packedBytes m (tritAt ones twos)
+  unfolding packExit
+  pack-writes = sym (exit-new (packedBytes m (tritAt ones twos)) bytes packs)
+
+-- a row in planes that is not refused is 0 past its length
+ended : (ones twos : List ℕ) (m : ℕ) → planesRefusal ones twos 1 m ≡ 0 → length ones ≡ wordsFor m → length twos ≡ wordsFor m → upTo m (tritAt ones twos) ≡ tritAt ones twos
+ended ones twos m e lo lt =
+    upto-ended (tritAt ones twos) m (past-zero ones twos m (lt ∙ sym lo) (sym (one-row-past ones twos m lo lt) ∙ planes-passed ones twos 1 m e .1))
+
+-- ---- sizes
+
+-- those of a draw are those of a key
+fits-held : (z : Sizes) (number : ℕ) → sizesFit z ≡ true → number ≤ 255 → heldFits number (z .n) (dim z) (z .w) ≡ true
+unfolding sizesFit heldFits
+fits-held z number h l =
+    let a = and-eq-true-iff (leb 4 (z .n)) _ .0 h in
+    let b = and-eq-true-iff (leb (z .n) 16384) _ .0 (a .1) in
+    let c = and-eq-true-iff (eqb (z .n % 2) 0) _ .0 (b .1) in
+    let d = and-eq-true-iff (leb 1 (z .ku)) _ .0 (c .1) in
+    let e = and-eq-true-iff (leb (z .ku) (half z - 1)) _ .0 (d .1) in
+    let f = and-eq-true-iff (leb 1 (z .kv)) _ .0 (e .1) in
+    let g = and-eq-true-iff (leb (z .kv) (half z - 1)) _ .0 (f .1) in
+    let i = and-eq-true-iff (leb (gapU z) (z .ku)) _ .0 (g .1) in
+    let j = and-eq-true-iff (leb (gapV z) (z .kv)) _ .0 (i .1) in
+    let k = and-eq-true-iff (leb 1 (z .w)) _ .0 (j .1) in
+    let ku = leb-true 1 (z .ku) (d .0) in
+    let kv = leb-true 1 (z .kv) (f .0) in
+    let low = leb-true (z .ku) (half z - 1) (e .0) in
+    let lowv = leb-true (z .kv) (half z - 1) (g .0) in
+    rw (le-leb number 255 l, a .0, b .0, c .0, le-leb 2 (dim z) (omega arith), le-leb (dim z) (z .n - 2) (omega arith), k .0, k .1)
+
+-- y has its lengths
+both-lengths : (m a b : ℕ) → pairDiffers m a b ≡ false → (a ≡ m) × (b ≡ m)
+both-lengths m a b e =
+    (eqb-true a m (not-false (eqb a m) (or-false-left (not (eqb a m)) (not (eqb b m)) e)), eqb-true b m (not-false (eqb b m) (or-false-right (not (eqb a m)) (not (eqb b m)) e)))
+
+y-lengths : (z : Sizes) (l : Draw) → lengthsDiffer z l ≡ false → (length (l .yOnes) ≡ wordsFor (codim z)) × (length (l .yTwos) ≡ wordsFor (codim z))
+unfolding lengthsDiffer choicesDiffer
+y-lengths z l e =
+    let a = or-false-right (differs z (l .secret)) _ e in
+    let b = or-false-right (not (eqb (length (l .p)) (places z))) _ a in
+    both-lengths (wordsFor (codim z)) (length (l .yOnes)) (length (l .yTwos)) (or-false-left (pairDiffers (wordsFor (codim z)) (length (l .yOnes)) (length (l .yTwos))) _ b)
+
+module _ (z : Sizes) (i : Build) (b : Built z i) (g w : ℕ) (l : Draw) (u : Under z i l) (d : drawAnswer (sized z g w) l ≡ 0) (m : Host z) where
+  abbrev Z : Sizes
+  Z = sized z g w
+
+  passed : DrawPassed Z l
+  passed = draw-call Z l d
+
+  size : z .n - dim z ≡ codim z
+  size = let r = sizes-fit Z (passed .sizes) in omega (arith, codim-dim Z r, r .even)
+
+  few-places : places z ≤ 16384
+  few-places = let r = sizes-fit Z (passed .sizes) in omega (arith, few Z (passed .sizes), r .even)
+
+  few-dim : dim z ≤ 16384
+  few-dim = omega (arith, few-places, codim-dim Z (sizes-fit Z (passed .sizes)))
+
+  few-codim : codim z ≤ 16384
+  few-codim = omega (arith, few-places, codim-dim Z (sizes-fit Z (passed .sizes)))
+
+  -- ---- the rows
+
+  row-is : (j : ℕ) → j < dim z → packedKeyRow z i m j ≡ packedBytes (codim z) (builtKey z i j)
+  unfolding builtKey
+  row-is j h =
+      let v : Vector = upTo (codim z) (keyRow z (secretOf z (i .secret)) (i .start) j) in
+      pack-writes (codim z) (rowPart (keyOnesExit z i) (dim z) (keyWords z) j) (rowPart (keyTwosExit z i) (dim z) (keyWords z) j) (m .rowBytes j) few-codim
+      (ap length (sym (ones-row z i b j h)) ∙ length-ones v (keyWords z)) (ap length (sym (twos-row z i b j h)) ∙ length-twos v (keyWords z)) (m .row-bytes-size j h)
+      (ap₂ (λ (x y : List ℕ). planesRefusal x y 1 (codim z)) (sym (ones-row z i b j h)) (sym (twos-row z i b j h)) ∙ written-passes (codim z) (keyRow z (secretOf z (i .secret)) (i .start) j))
+
+  row-size : (j : ℕ) → j < dim z → length (packedKeyRow z i m j) ≡ bytesFor (z .n - dim z)
+  row-size j h = ap length (row-is j h) ∙ packed-length (codim z) (builtKey z i j) ∙ ap bytesFor (sym size)
+
+  row-good : (j : ℕ) → j < dim z → badByte (packedKeyRow z i m j) ≡ false
+  row-good j h = ap badByte (row-is j h) ∙ packed-good (codim z) (builtKey z i j)
+
+  row-back : (j : ℕ) → j < dim z → packedRow (codim z) (packedKeyRow z i m j) ≡ builtKey z i j
+  row-back j h =
+      ap (packedRow (codim z)) (row-is j h) ∙ packed-back (codim z) (builtKey z i j)
+      ∙ upto-ended (builtKey z i j) (codim z) (λ q k. ap (λ (v : Vector). v q) (built-row z i b j h) ∙ upto-out (keyRow z (secretOf z (i .secret)) (i .start) j) (codim z) q k)
+
+  -- ---- y
+
+  abbrev y : Vector
+  y = tritAt (l .yOnes) (l .yTwos)
+
+  abbrev yPacked : List ℕ
+  yPacked = packExit (codim z) (l .yOnes) (l .yTwos) (m .yBytes)
+
+  y-is : yPacked ≡ packedBytes (codim z) y
+  y-is = let n = y-lengths Z l (passed .lengths) in pack-writes (codim z) (l .yOnes) (l .yTwos) (m .yBytes) few-codim (n .0) (n .1) (m .y-bytes-size) (passed .syndrome)
+
+  y-back : packedRow (codim z) yPacked ≡ y
+  y-back = let n = y-lengths Z l (passed .lengths) in ap (packedRow (codim z)) y-is ∙ packed-back (codim z) y ∙ ended (l .yOnes) (l .yTwos) (codim z) (passed .syndrome) (n .0) (n .1)
+
+  -- ---- s
+
+  abbrev s : Vector
+  s = upTo (dim z) (signature Z (wordOf Z l))
+
+  s-ones : sOnesExit Z l ≡ onesOf s (wordsFor (dim z))
+  s-ones = handed-ones Z l d
+
+  s-twos : sTwosExit Z l ≡ twosOf s (wordsFor (dim z))
+  s-twos = handed-twos Z l d
+
+  abbrev sPacked : List ℕ
+  sPacked = packExit (dim z) (sOnesExit Z l) (sTwosExit Z l) (m .sBytes)
+
+  s-is : sPacked ≡ packedBytes (dim z) s
+  s-is =
+      pack-writes (dim z) (sOnesExit Z l) (sTwosExit Z l) (m .sBytes) few-dim (ap length s-ones ∙ length-ones s (wordsFor (dim z))) (ap length s-twos ∙ length-twos s (wordsFor (dim z))) (m .s-bytes-size)
+      (ap₂ (λ (x y : List ℕ). planesRefusal x y 1 (dim z)) s-ones s-twos ∙ written-passes (dim z) (signature Z (wordOf Z l)))
+      ∙ ap (packedBytes (dim z)) (handed-signature Z l d)
+
+  s-back : packedRow (dim z) sPacked ≡ s
+  s-back = ap (packedRow (dim z)) s-is ∙ packed-back (dim z) s ∙ upto-ended s (dim z) (λ q k. upto-out (signature Z (wordOf Z l)) (dim z) q k)
+
+  -- ---- the weight
+
+  terms : KeyTerms z i g w (l .yOnes) (l .yTwos) (wordOf Z l)
+  terms = drawn-terms z i b g w l u d
+
+  weight-is : fullWeight (codim z) (dim z) (λ j. packedRow (codim z) (packedKeyRow z i m j)) (packedRow (codim z) yPacked) (packedRow (dim z) sPacked) ≡ w
+  weight-is =
+      let K : Key = λ j. packedRow (codim z) (packedKeyRow z i m j) in
+      ap₂ (fullWeight (codim z) (dim z) K) y-back s-back
+      ∙ weight-cong (codim z) (dim z) K y s (builtKey z i) (λ j q h. ap (λ (v : Vector). v q) (row-back j h))
+      ∙ weight-of (codim z) (dim z) (builtKey z i) y s (wordOf Z l) (terms .has-syndrome) (λ k h. sym (upto-in (signature Z (wordOf Z l)) (dim z) k h))
+      ∙ ap (weightV (wordOf Z l)) (codim-dim Z (sizes-fit Z (passed .sizes))) ∙ terms .weighs
+
+  -- the answer
+  pub end-to-end : packedVerdict (carriedCheck z i g w l m) ≡ yes w
+  unfolding answered
+  end-to-end =
+      loaded (m .number) (z .n) (dim z) w (fits-held Z (m .number) (passed .sizes) (m .number-fits)) (packedKeyRow z i m) row-size row-good (m .before) (m .ones) (m .twos) yPacked sPacked (m .workOnes) (m .workTwos)
+      (m .ones-size ∙ ap (λ (x : ℕ). dim z * wordsFor x) (sym size)) (m .twos-size ∙ ap (λ (x : ℕ). dim z * wordsFor x) (sym size))
+      (ap length y-is ∙ packed-length (codim z) y ∙ ap bytesFor (sym size)) (ap length s-is ∙ packed-length (dim z) s)
+      (ap badByte y-is ∙ packed-good (codim z) y) (ap badByte s-is ∙ packed-good (dim z) s)
+      (m .work-ones-size ∙ ap wordsFor (sym size)) (m .work-twos-size ∙ ap wordsFor (sym size))
+      ∙ ap (λ (x : ℕ). answered 0 x w)
+      (ap (λ (k : ℕ). fullWeight k (dim z) (λ j. packedRow k (packedKeyRow z i m j)) (packedRow k yPacked) (packedRow (dim z) sPacked)) size ∙ weight-is)
+      ∙ rw (eq-eqb w w refl)
+
+  -- ---- the same with y and s in planes
+
+  abbrev H : Held
+  H = record { begun = 1; number = m .number; n = z .n; k = dim z; w = w; rows = dim z }
+
+  abbrev key : Kept
+  key = carried z i w m
+
+  held-is : key .held ≡ H
+  held-is =
+      let f = fits-held Z (m .number) (passed .sizes) (m .number-fits) in
+      ap (λ (h : Held). offerAll (packedKeyRow z i m) (dim z) (record { held = h; ones = m .ones; twos = m .twos }) .held) (begun (m .number) (z .n) (dim z) w f (packedKeyRow z i m) row-size row-good (m .before) .1)
+      ∙ offered (m .number) (z .n) (dim z) w f (packedKeyRow z i m) row-size row-good (m .ones) (m .twos)
+      (m .ones-size ∙ ap (λ (x : ℕ). dim z * wordsFor x) (sym size)) (m .twos-size ∙ ap (λ (x : ℕ). dim z * wordsFor x) (sym size)) (dim z) (le-refl (dim z)) .held-is
+
+  packed-passed : checkPackedRefusal (key .held) (m .number) (key .ones) (key .twos) yPacked sPacked (m .workOnes) (m .workTwos) ≡ 0
+  packed-passed = packed-not-refused (carriedCheck z i g w l m) (ap (λ (x : Checked). x .refusal) end-to-end)
+
+  call-passes : callRefusal (key .held) (m .number) (length (key .ones)) (length (key .twos)) (length (m .workOnes)) (length (m .workTwos)) ≡ 0
+  unfolding checkPackedRefusal
+  call-passes = passed-first (callRefusal (key .held) (m .number) (length (key .ones)) (length (key .twos)) (length (m .workOnes)) (length (m .workTwos))) _ packed-passed .0
+
+  rows-pass : planesRefusal (key .ones) (key .twos) (key .held .k) (rowTrits (key .held)) ≡ 0
+  rows-pass =
+      packed-contents (key .held) (key .ones) (key .twos) yPacked sPacked
+      (check-packed-passed (key .held) (m .number) (key .ones) (key .twos) yPacked sPacked (m .workOnes) (m .workTwos) packed-passed .2) .0
+
+  lengths-pass : planesLengths (key .held) (length (l .yOnes)) (length (l .yTwos)) (length (sOnesExit Z l)) (length (sTwosExit Z l)) ≡ 0
+  unfolding planesLengths
+  lengths-pass =
+      let n = y-lengths Z l (passed .lengths) in
+      rw (
+        held-is,
+        size,
+        eq-eqb (length (l .yOnes)) (wordsFor (codim z)) (n .0),
+        eq-eqb (length (l .yTwos)) (wordsFor (codim z)) (n .1),
+        eq-eqb (length (sOnesExit Z l)) (wordsFor (dim z)) (ap length s-ones ∙ length-ones s (wordsFor (dim z))),
+        eq-eqb (length (sTwosExit Z l)) (wordsFor (dim z)) (ap length s-twos ∙ length-twos s (wordsFor (dim z))),
+      )
+
+  s-passes : planesRefusal (sOnesExit Z l) (sTwosExit Z l) 1 (dim z) ≡ 0
+  s-passes = ap₂ (λ (x y : List ℕ). planesRefusal x y 1 (dim z)) s-ones s-twos ∙ written-passes (dim z) (signature Z (wordOf Z l))
+
+  contents-pass : planesContents (key .held) (key .ones) (key .twos) (l .yOnes) (l .yTwos) (sOnesExit Z l) (sTwosExit Z l) ≡ 0
+  unfolding planesContents
+  contents-pass =
+      let e : rowTrits (key .held) ≡ codim z = ap (λ (h : Held). rowTrits h) held-is ∙ size in
+      let k : key .held .k ≡ dim z = ap (λ (h : Held). h .k) held-is in
+      sym (first-goes (sym rows-pass) refl
+      (first-goes (sym (ap (planesRefusal (l .yOnes) (l .yTwos) 1) e ∙ passed .syndrome)) refl (sym (ap (planesRefusal (sOnesExit Z l) (sTwosExit Z l) 1) k ∙ s-passes))))
+
+  planes-passed-all : checkRefusal (key .held) (m .number) (key .ones) (key .twos) (l .yOnes) (l .yTwos) (sOnesExit Z l) (sTwosExit Z l) (m .workOnes) (m .workTwos) ≡ 0
+  unfolding checkRefusal
+  planes-passed-all = sym (first-goes (sym call-passes) refl (first-goes (sym lengths-pass) refl (sym contents-pass)))
+
+  pub end-to-end-planes : verdict (carriedPlanes z i g w l m) ≡ yes w
+  end-to-end-planes =
+      let e : rowTrits (key .held) ≡ codim z = ap (λ (h : Held). rowTrits h) held-is ∙ size in
+      let k : key .held .k ≡ dim z = ap (λ (h : Held). h .k) held-is in
+      let t : tritAt (sOnesExit Z l) (sTwosExit Z l) ≡ s = handed-signature Z l d in
+      sym (packed-agrees (key .held) (m .number) (key .ones) (key .twos) (l .yOnes) (l .yTwos) (sOnesExit Z l) (sTwosExit Z l) (m .workOnes) (m .workTwos) planes-passed-all)
+      ∙ ap₂ (λ (a b : List ℕ). checkPackedAnswer (key .held) (m .number) (key .ones) (key .twos) a b (m .workOnes) (m .workTwos))
+      (ap (λ (x : ℕ). packedBytes x y) e ∙ sym y-is) (ap₂ packedBytes k t ∙ sym s-is)
+      ∙ end-to-end

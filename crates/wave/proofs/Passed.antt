@@ -1,0 +1,160 @@
+-- What a call of the builder or of the signer that was not refused has passed, and that a draw passes which has all of that. Assumes nothing.
+use mathlib.Core.Path.{_≡_, refl, sym, ap, _∙_}
+use mathlib.Core.Bool.{Bool, true, false, not}
+use Prim.Native.Nat.{ℕ, _-_, _+_}
+use borrow.Author.Tests.{eq-eqb}
+use lib.Dec.{lit<}
+use lib.ListN.{length}
+use Rattle.trits.specs.Trit.{isSet, anyTo}
+use Rattle.trits.specs.Planes.{tritAt, wordsFor}
+use Rattle.trits.specs.Refusal.{first, planesRefusal}
+use Rattle.trits.proofs.Refusals.{passed-refuse, passed-demand, passed-first}
+use Rattle.matrix.specs.Linear.{Vector}
+use Rattle.matrix.specs.Orders.{isOrder}
+use Rattle.matrix.proofs.Places.{or-false-left}
+use Rattle.signer.specs.declared.sizes.Sizes.{Sizes}
+use Rattle.signer.specs.Sizes.{half, places, dim, ru, rv, codim, gapU, sizesFit}
+use Rattle.signer.specs.Secret.{noZero}
+use Rattle.signer.specs.Build.{buildFits, buildRefusal}
+use Rattle.signer.specs.Draw.{choicesFit, drawRefusal}
+use Rattle.calls.specs.Lent.{Planes, secretOf, pairDiffers, secretDiffers, hasZero, secretRefusal}
+use Rattle.calls.specs.BuildCall.{Lent as Build, lengthsDiffer as buildLengths, buildAnswer}
+use Rattle.calls.specs.DrawCall.{Lent as Draw, syndromeOf, choicesOf, workWords, choicesDiffer, lengthsDiffer as drawLengths, choicesRefusal, drawAnswer}
+
+-- a trit that is 0 is there, or none is
+pub zero-none : (m : ℕ) (v : Vector) → hasZero m v ≡ false → noZero m v ≡ true
+unfolding hasZero noZero
+zero-none m v e = ap not e
+
+pub none-zero : (m : ℕ) (v : Vector) → noZero m v ≡ true → hasZero m v ≡ false
+unfolding hasZero noZero
+none-zero m v e = by (hasZero m v) refl e
+  where
+    by : (t : Bool) → anyTo (λ i. not (isSet (v i))) m ≡ t → not (anyTo (λ i. not (isSet (v i))) m) ≡ true → anyTo (λ i. not (isSet (v i))) m ≡ false
+    by true q h = q ∙ sym (ap not (sym q) ∙ h)
+    by false q h = q
+
+-- ---- the secret, whatever g and w are
+
+-- the lengths of its planes, in both calls
+abbrev pub differs : Sizes → Planes → Bool
+differs z k =
+    secretDiffers z (length (k .huOnes)) (length (k .huTwos)) (length (k .hvOnes)) (length (k .hvTwos)) (length (k .bOnes)) (length (k .bTwos)) (length (k .cOnes)) (length (k .cTwos))
+
+-- c is nowhere 0
+pub secret-unit : (z : Sizes) (k : Planes) → secretRefusal z k ≡ 0 → noZero (half z) (tritAt (k .cOnes) (k .cTwos)) ≡ true
+unfolding secretRefusal
+secret-unit z k e =
+    let a = passed-first (planesRefusal (k .huOnes) (k .huTwos) (ru z) (half z)) _ e in
+    let b = passed-first (planesRefusal (k .hvOnes) (k .hvTwos) (rv z) (half z)) _ (a .1) in
+    let c = passed-first (planesRefusal (k .bOnes) (k .bTwos) 1 (half z)) _ (b .1) in
+    let d = passed-first (planesRefusal (k .cOnes) (k .cTwos) 1 (half z)) _ (c .1) in
+    zero-none (half z) (tritAt (k .cOnes) (k .cTwos)) (passed-refuse (hasZero (half z) (tritAt (k .cOnes) (k .cTwos))) 8 0 (lit< tt) (d .1) .0)
+
+-- ---- a build
+
+pub record BuildPassed (z : Sizes) (i : Build) : Type 0 where
+  pub sizes : sizesFit z ≡ true
+  pub lengths : differs z (i .secret) ≡ false
+  pub contents : secretRefusal z (i .secret) ≡ 0
+  pub start : isOrder (places z) (i .start) ≡ true
+  pub ranks : buildRefusal z (secretOf z (i .secret)) ≡ 0
+
+pub build-call : (z : Sizes) (i : Build) → buildAnswer z i ≡ 0 → BuildPassed z i
+unfolding buildAnswer buildLengths
+build-call z i e =
+    let a = passed-demand (sizesFit z) 1 _ (lit< tt) e in
+    let b = passed-refuse (buildLengths z i) 2 _ (lit< tt) (a .1) in
+    let c = passed-first (secretRefusal z (i .secret)) _ (b .1) in
+    let d = passed-demand (isOrder (places z) (i .start)) 7 _ (lit< tt) (c .1) in
+    record { sizes = a .0; lengths = or-false-left (differs z (i .secret)) _ (b .0); contents = c .0; start = d .0; ranks = d .1 }
+
+-- what it was given is in order
+pub build-fits : (z : Sizes) (i : Build) → BuildPassed z i → buildFits z (secretOf z (i .secret)) (i .start) ≡ true
+unfolding buildFits
+build-fits z i p = rw (p .sizes, secret-unit z (i .secret) (p .contents), p .start)
+
+-- ---- a draw
+
+pub record DrawPassed (z : Sizes) (l : Draw) : Type 0 where
+  pub sizes : sizesFit z ≡ true
+  pub lengths : drawLengths z l ≡ false
+  pub contents : secretRefusal z (l .secret) ≡ 0
+  pub order : isOrder (places z) (l .p) ≡ true
+  pub syndrome : planesRefusal (l .yOnes) (l .yTwos) 1 (codim z) ≡ 0
+  pub order-v : isOrder (half z) (l .orderV) ≡ true
+  pub trits-v : planesRefusal (l .vOnes) (l .vTwos) 1 (z .kv) ≡ 0
+  pub order-u : isOrder (half z) (l .orderU) ≡ true
+  pub values-u : planesRefusal (l .uOnes) (l .uTwos) 1 (z .ku) ≡ 0
+  pub last-u : hasZero (z .ku - gapU z) (λ j. tritAt (l .uOnes) (l .uTwos) (gapU z + j)) ≡ false
+  pub draws : drawRefusal z (secretOf z (l .secret)) (l .p) (syndromeOf l) (choicesOf l) ≡ 0
+
+pub draw-call : (z : Sizes) (l : Draw) → drawAnswer z l ≡ 0 → DrawPassed z l
+unfolding drawAnswer choicesRefusal
+draw-call z l e =
+    let a = passed-demand (sizesFit z) 1 _ (lit< tt) e in
+    let b = passed-refuse (drawLengths z l) 2 _ (lit< tt) (a .1) in
+    let c = passed-first (secretRefusal z (l .secret)) _ (b .1) in
+    let d = passed-first (choicesRefusal z l) (drawRefusal z (secretOf z (l .secret)) (l .p) (syndromeOf l) (choicesOf l)) (c .1) in
+    let f = passed-demand (isOrder (places z) (l .p)) 7 _ (lit< tt) (d .0) in
+    let g = passed-first (planesRefusal (l .yOnes) (l .yTwos) 1 (codim z)) _ (f .1) in
+    let h = passed-demand (isOrder (half z) (l .orderV)) 7 _ (lit< tt) (g .1) in
+    let i = passed-first (planesRefusal (l .vOnes) (l .vTwos) 1 (z .kv)) _ (h .1) in
+    let j = passed-demand (isOrder (half z) (l .orderU)) 7 _ (lit< tt) (i .1) in
+    let k = passed-first (planesRefusal (l .uOnes) (l .uTwos) 1 (z .ku)) _ (j .1) in
+    let m = passed-refuse (hasZero (z .ku - gapU z) (λ j. tritAt (l .uOnes) (l .uTwos) (gapU z + j))) 8 0 (lit< tt) (k .1) in
+    record {
+      sizes = a .0;
+      lengths = b .0;
+      contents = c .0;
+      order = f .0;
+      syndrome = g .0;
+      order-v = h .0;
+      trits-v = i .0;
+      order-u = j .0;
+      values-u = k .0;
+      last-u = m .0;
+      draws = d .1;
+    }
+
+-- and the other way
+pub call-draws : (z : Sizes) (l : Draw) → DrawPassed z l → drawAnswer z l ≡ 0
+unfolding drawAnswer choicesRefusal first
+call-draws z l p =
+    rw (p .sizes, p .lengths, p .contents, p .order, p .syndrome, p .order-v, p .trits-v, p .order-u, p .values-u, p .last-u) (p .draws)
+
+-- the choices are in order
+pub choices-fit : (z : Sizes) (l : Draw) → DrawPassed z l → choicesFit z (choicesOf l) ≡ true
+unfolding choicesFit
+choices-fit z l p = rw (p .order-v, p .order-u, zero-none (z .ku - gapU z) (λ j. tritAt (l .uOnes) (l .uTwos) (gapU z + j)) (p .last-u))
+
+-- ---- lengths that are right
+
+same-pair : (m a b : ℕ) → a ≡ m → b ≡ m → pairDiffers m a b ≡ false
+same-pair m a b p q = rw (eq-eqb a m p, eq-eqb b m q)
+
+pub choices-same : (z : Sizes) {p y1 y2 ov v1 v2 ou u1 u2 e1 e2 s1 s2 w1 w2 : ℕ}
+    → p ≡ places z → y1 ≡ wordsFor (codim z) → y2 ≡ wordsFor (codim z) → ov ≡ half z → v1 ≡ wordsFor (z .kv) → v2 ≡ wordsFor (z .kv)
+    → ou ≡ half z → u1 ≡ wordsFor (z .ku) → u2 ≡ wordsFor (z .ku) → e1 ≡ wordsFor (places z) → e2 ≡ wordsFor (places z)
+    → s1 ≡ wordsFor (dim z) → s2 ≡ wordsFor (dim z) → w1 ≡ workWords z → w2 ≡ workWords z
+    → choicesDiffer z p y1 y2 ov v1 v2 ou u1 u2 e1 e2 s1 s2 w1 w2 ≡ false
+unfolding choicesDiffer
+choices-same z {p} {y1} {y2} {ov} {v1} {v2} {ou} {u1} {u2} {e1} {e2} {s1} {s2} {w1} {w2} ep ey1 ey2 eov ev1 ev2 eou eu1 eu2 ee1 ee2 es1 es2 ew1 ew2 =
+    rw (
+      eq-eqb p (places z) ep,
+      same-pair (wordsFor (codim z)) y1 y2 ey1 ey2,
+      same-pair (half z) ov ou eov eou,
+      same-pair (wordsFor (z .kv)) v1 v2 ev1 ev2,
+      same-pair (wordsFor (z .ku)) u1 u2 eu1 eu2,
+      same-pair (wordsFor (places z)) e1 e2 ee1 ee2,
+      same-pair (wordsFor (dim z)) s1 s2 es1 es2,
+      same-pair (workWords z) w1 w2 ew1 ew2,
+    )
+
+-- every length of a draw
+pub lengths-same : (z : Sizes) (l : Draw) → differs z (l .secret) ≡ false
+    → choicesDiffer z (length (l .p)) (length (l .yOnes)) (length (l .yTwos)) (length (l .orderV)) (length (l .vOnes)) (length (l .vTwos)) (length (l .orderU)) (length (l .uOnes)) (length (l .uTwos))
+    (length (l .wordOnes)) (length (l .wordTwos)) (length (l .sOnes)) (length (l .sTwos)) (length (l .workOnes)) (length (l .workTwos)) ≡ false
+    → drawLengths z l ≡ false
+unfolding drawLengths
+lengths-same z l a b = rw (a, b)

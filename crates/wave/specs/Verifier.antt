@@ -1,0 +1,128 @@
+-- The verifier, which is the checker's call that gives the verdict ("The words of demand 3"), and a key and a signature on their way from the editor to the module ("The two halves"). Assumes nothing.
+use mathlib.Core.Path.{_≡_}
+use mathlib.Core.List.{List}
+use Prim.Native.Nat.{ℕ, _*_, _≤_, _<_}
+use lib.ListN.{length}
+use Rattle.trits.specs.Trit.{weightV}
+use Rattle.trits.specs.Planes.{wordsFor}
+use Rattle.trits.specs.Rows.{rowPart}
+use Rattle.packing.specs.Packed.{bytesFor}
+use Rattle.packing.specs.Calls.{packExit}
+use Rattle.matrix.specs.Linear.{Vector}
+use Rattle.verdict.specs.Verdict.{HasSyndrome, Extends}
+use Rattle.checker.specs.declared.state.Held.{Held}
+use Rattle.checker.specs.declared.checking.Checked.{Checked}
+use Rattle.checker.specs.Held.{mostKeyNumber, rowTrits, heldKey}
+use Rattle.checker.specs.Store.{beginHeld}
+use Rattle.checker.specs.Load.{Kept, offerAll}
+use Rattle.checker.specs.Check.{checkAnswer, checkPackedAnswer}
+use Rattle.signer.specs.declared.sizes.Sizes.{Sizes}
+use Rattle.signer.specs.Sizes.{dim, codim}
+use Rattle.calls.specs.BuildCall.{Lent as Build, keyWords, keyOnesExit, keyTwosExit}
+use Rattle.calls.specs.DrawCall.{Lent as Draw, sOnesExit, sTwosExit}
+use Rattle.wave.specs.Demand.{sized}
+
+-- ---- a call of the check
+
+-- with y and s in planes: what it is lent, and its answer
+pub record Check : Type 0 where
+  pub held : Held
+  pub number : ℕ
+  pub ones : List ℕ
+  pub twos : List ℕ
+  pub yOnes : List ℕ
+  pub yTwos : List ℕ
+  pub sOnes : List ℕ
+  pub sTwos : List ℕ
+  pub workOnes : List ℕ
+  pub workTwos : List ℕ
+
+abbrev pub verdict : Check → Checked
+verdict c = checkAnswer (c .held) (c .number) (c .ones) (c .twos) (c .yOnes) (c .yTwos) (c .sOnes) (c .sTwos) (c .workOnes) (c .workTwos)
+
+-- with packed y and s
+pub record PackedCheck : Type 0 where
+  pub held : Held
+  pub number : ℕ
+  pub ones : List ℕ
+  pub twos : List ℕ
+  pub y : List ℕ
+  pub s : List ℕ
+  pub workOnes : List ℕ
+  pub workTwos : List ℕ
+
+abbrev pub packedVerdict : PackedCheck → Checked
+packedVerdict c = checkPackedAnswer (c .held) (c .number) (c .ones) (c .twos) (c .y) (c .s) (c .workOnes) (c .workTwos)
+
+-- the word e of n trits has the syndrome y under the whole key, any k rows that the call finds held, and extends s
+pub record Extending (h : Held) (ones twos : List ℕ) (y s e : Vector) : Type 0 where
+  pub has-syndrome : HasSyndrome (rowTrits h) (h .k) (heldKey h ones twos) e y
+  pub extends : Extends (rowTrits h) (h .k) e s
+
+-- there is one of weight w
+pub record Found (h : Held) (ones twos : List ℕ) (y s : Vector) : Type 0 where
+  pub word : Vector
+  pub weighs : weightV word (h .n) ≡ h .w
+  pub extending : Extending h ones twos y s word
+
+-- ---- end to end
+
+-- what the hosts lend on the way, beside what build and draw are lent: a key number; a state of any content; planes for the key, bytes for its rows, y and s, working space, of any content too, of the lengths that the sizes say
+pub record Host (z : Sizes) : Type 0 where
+  pub number : ℕ
+  pub before : Held
+  pub ones : List ℕ
+  pub twos : List ℕ
+  pub rowBytes : ℕ → List ℕ
+  pub yBytes : List ℕ
+  pub sBytes : List ℕ
+  pub workOnes : List ℕ
+  pub workTwos : List ℕ
+  pub number-fits : number ≤ mostKeyNumber
+  pub ones-size : length ones ≡ dim z * wordsFor (codim z)
+  pub twos-size : length twos ≡ dim z * wordsFor (codim z)
+  pub row-bytes-size : (j : ℕ) → j < dim z → length (rowBytes j) ≡ bytesFor (codim z)
+  pub y-bytes-size : length yBytes ≡ bytesFor (codim z)
+  pub s-bytes-size : length sBytes ≡ bytesFor (dim z)
+  pub work-ones-size : length workOnes ≡ wordsFor (codim z)
+  pub work-twos-size : length workTwos ≡ wordsFor (codim z)
+
+-- row j of the built key, packed by a call of `pack` from its stretch of the key's words
+abbrev pub packedKeyRow : (z : Sizes) → Build → Host z → ℕ → List ℕ
+packedKeyRow z i m j = packExit (codim z) (rowPart (keyOnesExit z i) (dim z) (keyWords z) j) (rowPart (keyTwosExit z i) (dim z) (keyWords z) j) (m .rowBytes j)
+
+-- the module begins a key with these numbers, and its k packed rows are stored one after another
+abbrev pub carried : (z : Sizes) → Build → ℕ → Host z → Kept
+carried z i w m = offerAll (packedKeyRow z i m) (dim z) (record { held = beginHeld (m .before) (m .number) (z .n) (dim z) w; ones = m .ones; twos = m .twos })
+
+-- then it checks y and the s that the draw handed out, each packed by a call of `pack`
+abbrev pub carriedCheck : (z : Sizes) → Build → ℕ → ℕ → Draw → Host z → PackedCheck
+carriedCheck z i g w l m = record {
+  held = carried z i w m .held;
+  number = m .number;
+  ones = carried z i w m .ones;
+  twos = carried z i w m .twos;
+  y = packExit (codim z) (l .yOnes) (l .yTwos) (m .yBytes);
+  s = packExit (dim z) (sOnesExit (sized z g w) l) (sTwosExit (sized z g w) l) (m .sBytes);
+  workOnes = m .workOnes;
+  workTwos = m .workTwos;
+}
+
+-- or y and that s in planes, as they are lent
+abbrev pub carriedPlanes : (z : Sizes) → Build → ℕ → ℕ → Draw → Host z → Check
+carriedPlanes z i g w l m = record {
+  held = carried z i w m .held;
+  number = m .number;
+  ones = carried z i w m .ones;
+  twos = carried z i w m .twos;
+  yOnes = l .yOnes;
+  yTwos = l .yTwos;
+  sOnes = sOnesExit (sized z g w) l;
+  sTwos = sTwosExit (sized z g w) l;
+  workOnes = m .workOnes;
+  workTwos = m .workTwos;
+}
+
+-- yes, with that weight
+abbrev pub yes : ℕ → Checked
+yes weight = record { refusal = 0; yes = 1; weight = weight }

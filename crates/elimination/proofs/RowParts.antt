@@ -1,12 +1,13 @@
 -- One row of a matrix in planes: lent as a part and back, handed out, and read or put trit by trit. Assumes nothing.
 use mathlib.Core.Path.{_≡_, refl, sym, ap, ap₂, _∙_, subst, fun-ext}
 use mathlib.Core.Bool.{Bool, cond}
+use mathlib.Core.Logic.{_⊎_, inl, inr}
 use mathlib.Core.List.{List}
 use Prim.Native.Nat.{ℕ, _+_, _*_, _≤_, _<_}
 use native.Mathlib.Decide.{decLt, ℕ-discrete}
 use native.Mathlib.Omega.{arith}
 use borrow.Author.Tests.{eq-eqb, ne-eqb}
-use borrow.Rule.Slice.PartMut.{putMid}
+use borrow.Rule.Slice.PartMut.{midOf, putMid}
 use lib.ListN.{length}
 use Rattle.trits.specs.Trit.{Trit, t0, t1, t2, number, tritOf, putV, upTo, zipAt}
 use Rattle.trits.specs.Planes.{tritAt, Row, Reads}
@@ -14,10 +15,10 @@ use Rattle.trits.specs.Rows.{matrixAt, rowPart}
 use Rattle.trits.proofs.Reading.{read-past}
 use Rattle.trits.proofs.Ends.{upto-in, upto-out}
 use Rattle.trits.proofs.Parts.{part-back}
-use Rattle.trits.proofs.Matrix.{row-le, part-reads, part-length, part-trits}
-use Rattle.matrix.specs.Linear.{Vector}
+use Rattle.trits.proofs.Matrix.{row-le, rows-apart, part-there, part-reads, part-length, part-trits}
+use Rattle.matrix.specs.Linear.{Vector, Matrix}
 use Rattle.elimination.specs.Grid.{Rows, Grid, putRow}
-use Rattle.elimination.proofs.Cells.{cell}
+use Rattle.elimination.proofs.Cells.{cell, cell-past, grid-by}
 use Rattle.elimination.proofs.Joins.{row-op}
 
 -- planes after both were copied
@@ -53,6 +54,57 @@ module _ {o₀ t₀ : List ℕ} {r : ℕ} (w j : ℕ) (g : Rows o₀ t₀ r w) (
 -- a row has 0 past its words
 pub past-words : {o t : List ℕ} (w : ℕ) → Row o t → length o ≡ w → (q : ℕ) → 64 * w ≤ q → tritAt o t q ≡ t0
 past-words {o} {t} w r e q l = read-past o t w q e (r .same ∙ e) l
+
+-- a part that is lent holds the row's trits
+pub lent-trits : {o t : List ℕ} {r : ℕ} (w i k : ℕ) → Rows o t r w → i < r → k ≡ w → tritAt (midOf (i * w) k o) (midOf (i * w) k t) ≡ matrixAt w o t i
+lent-trits {o} {t} {r} w i k g h e =
+    ap (λ (n : ℕ). tritAt (midOf (i * w) n o) (midOf (i * w) n t)) e
+    ∙ ap₂ tritAt (part-there o r w i (g .size) h) (part-there t r w i (g .row .same ∙ g .size) h)
+    ∙ fun-ext (λ q. part-trits r w i (g .row) (g .size) h q)
+
+-- ---- a matrix with another row
+
+module _ (j : ℕ) (v : Vector) (A : Matrix) (k : ℕ) where
+  pub put-here : k ≡ j → putRow j v A k ≡ v
+  put-here e = fun-ext (λ q. ap (λ (b : Bool). cond b (v q) (A k q)) (eq-eqb k j e))
+
+  pub put-else : (k ≡ j → ⊥) → putRow j v A k ≡ A k
+  put-else f = fun-ext (λ q. ap (λ (b : Bool). cond b (v q) (A k q)) (ne-eqb k j f))
+
+-- ---- one trit put into a row
+
+module _ {o₀ t₀ o t : List ℕ} {r w : ℕ} (i p : ℕ) (x : Trit) (g : Rows o₀ t₀ r w) (l : p < 64 * w) where
+  pub put-cell : Reads o t (length o₀) (putV (tritAt o₀ t₀) (64 * (i * w) + p) x) → Grid o t r w (putRow i (putV (matrixAt w o₀ t₀ i) p x) (matrixAt w o₀ t₀))
+  put-cell d =
+      grid-by (record { row = d .row; size = d .size ∙ g .size }) (λ k q h. ap (λ (u : Vector). u (64 * (k * w) + q)) (d .trits) ∙ at k q h (ℕ-discrete k i) (ℕ-discrete q p))
+      (λ k q h. past k q h (ℕ-discrete k i))
+    where
+      A : Matrix
+      A = matrixAt w o₀ t₀
+
+      else : (k q : ℕ) → (64 * (k * w) + q ≡ 64 * (i * w) + p → ⊥) → q < 64 * w → putV (tritAt o₀ t₀) (64 * (i * w) + p) x (64 * (k * w) + q) ≡ A k q
+      else k q f h = ap (λ (b : Bool). cond b x (tritAt o₀ t₀ (64 * (k * w) + q))) (ne-eqb (64 * (k * w) + q) (64 * (i * w) + p) f) ∙ sym (cell w o₀ t₀ k q h)
+
+      apart : (k q : ℕ) → q < 64 * w → (k * w + w ≤ i * w) ⊎ (i * w + w ≤ k * w) → 64 * (k * w) + q ≡ 64 * (i * w) + p → ⊥
+      apart k q h (inl m) e = omega arith
+      apart k q h (inr m) e = omega arith
+
+      at : (k q : ℕ) → q < 64 * w → Dec (k ≡ i) → Dec (q ≡ p) → putV (tritAt o₀ t₀) (64 * (i * w) + p) x (64 * (k * w) + q) ≡ putRow i (putV (A i) p x) A k q
+      at k q h (yes e) (yes f) =
+          ap (λ (b : Bool). cond b x (tritAt o₀ t₀ (64 * (k * w) + q))) (eq-eqb (64 * (k * w) + q) (64 * (i * w) + p) (ap₂ (λ (a b : ℕ). 64 * (a * w) + b) e f))
+          ∙ sym (ap (λ (u : Vector). u q) (put-here i (putV (A i) p x) A k e) ∙ ap (λ (b : Bool). cond b x (A i q)) (eq-eqb q p f))
+      at k q h (yes e) (no f) =
+          else k q (λ z. f (same z)) h ∙ ap (λ (n : ℕ). A n q) e
+          ∙ sym (ap (λ (u : Vector). u q) (put-here i (putV (A i) p x) A k e) ∙ ap (λ (b : Bool). cond b x (A i q)) (ne-eqb q p f))
+        where
+          same : 64 * (k * w) + q ≡ 64 * (i * w) + p → q ≡ p
+          same z = omega (arith, ap (λ (n : ℕ). n * w) e)
+      at k q h (no f) d = else k q (apart k q h (rows-apart k i w f)) h ∙ sym (ap (λ (u : Vector). u q) (put-else i (putV (A i) p x) A k f))
+
+      past : (k q : ℕ) → 64 * w ≤ q → Dec (k ≡ i) → t0 ≡ putRow i (putV (A i) p x) A k q
+      past k q h (yes e) =
+          sym (ap (λ (u : Vector). u q) (put-here i (putV (A i) p x) A k e) ∙ ap (λ (b : Bool). cond b x (A i q)) (ne-eqb q p (λ z. omega arith)) ∙ cell-past w o₀ t₀ i q h)
+      past k q h (no f) = sym (ap (λ (u : Vector). u q) (put-else i (putV (A i) p x) A k f) ∙ cell-past w o₀ t₀ k q h)
 
 -- ---- trits that are read and put one after another
 

@@ -10,13 +10,14 @@ use borrow.Author.Tests.{eq-eqb, ne-eqb}
 use borrow.Rule.Slice.PartMut.{midOf, putMid}
 use lib.ListN.{length}
 use Rattle.trits.specs.Trit.{Trit, t0, t1, t2, number, tritOf, putV, upTo, zipAt}
-use Rattle.trits.specs.Planes.{tritAt, Row, Reads}
+use Rattle.trits.specs.Planes.{tritAt, zeroWords, Row, Reads}
 use Rattle.trits.specs.Rows.{matrixAt, rowPart}
 use Rattle.trits.proofs.Reading.{read-past}
-use Rattle.trits.proofs.Ends.{upto-in, upto-out}
+use Rattle.trits.proofs.Ends.{upto-in, upto-out, upto-none, zeros-hold}
+use Rattle.trits.proofs.Lists.{length-zeros}
 use Rattle.trits.proofs.Parts.{part-back}
 use Rattle.trits.proofs.Matrix.{row-le, rows-apart, part-there, part-reads, part-length, part-trits}
-use Rattle.matrix.specs.Linear.{Vector, Matrix}
+use Rattle.matrix.specs.Linear.{Vector, Matrix, zeros}
 use Rattle.elimination.specs.Grid.{Rows, Grid, putRow}
 use Rattle.elimination.proofs.Cells.{cell, cell-past, grid-by}
 use Rattle.elimination.proofs.Joins.{row-op}
@@ -61,6 +62,15 @@ lent-trits {o} {t} {r} w i k g h e =
     ap (λ (n : ℕ). tritAt (midOf (i * w) n o) (midOf (i * w) n t)) e
     ∙ ap₂ tritAt (part-there o r w i (g .size) h) (part-there t r w i (g .row .same ∙ g .size) h)
     ∙ fun-ext (λ q. part-trits r w i (g .row) (g .size) h q)
+
+-- ---- planes made 0
+
+pub zeros-grid : {o t : List ℕ} {n k : ℕ} (r w : ℕ) → o ≡ zeroWords n → t ≡ zeroWords k → k ≡ n → n ≡ r * w → Grid o t r w (λ (i q : ℕ). t0)
+zeros-grid {o} {t} {n} r w p q e s =
+    let d = zeros-hold zeros p q e in
+    grid-by (record { row = d .row; size = ap length p ∙ length-zeros n ∙ s })
+    (λ i j h. ap (λ (v : Vector). v (64 * (i * w) + j)) (d .trits ∙ upto-none zeros))
+    (λ i j h. refl)
 
 -- ---- a matrix with another row
 
@@ -118,11 +128,18 @@ number-back t0 = refl
 number-back t1 = refl
 number-back t2 = refl
 
+-- the number that was read of a trit
+pub read-trit : (t : Trit) (x : ℕ) → x ≡ number t → tritOf x ≡ t
+read-trit t x e = ap tritOf e ∙ number-back t
+
+pub trit-lt : (t : Trit) (x : ℕ) → x ≡ number t → x < 3
+trit-lt t x e = omega (arith, number-lt t, e)
+
 pub read-lt : (o t : List ℕ) (p x : ℕ) → x ≡ number (tritAt o t p) → x < 3
-read-lt o t p x e = omega (arith, number-lt (tritAt o t p), e)
+read-lt o t p x e = trit-lt (tritAt o t p) x e
 
 pub read-column : (w : ℕ) (o t : List ℕ) (i q x : ℕ) → q < 64 * w → x ≡ number (tritAt o t (64 * (i * w) + q)) → tritOf x ≡ matrixAt w o t i q
-read-column w o t i q x h e = ap tritOf e ∙ number-back (tritAt o t (64 * (i * w) + q)) ∙ sym (cell w o t i q h)
+read-column w o t i q x h e = read-trit (tritAt o t (64 * (i * w) + q)) x e ∙ sym (cell w o t i q h)
 
 upto-more : (v : Vector) (i : ℕ) → putV (upTo i v) i (v i) ≡ upTo (i + 1) v
 upto-more v i = fun-ext (λ p. by p (ℕ-discrete p i) (decLt p i))

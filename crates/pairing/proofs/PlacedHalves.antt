@@ -6,16 +6,15 @@ use mathlib.Core.List.{List}
 use Prim.Native.Nat.{ℕ, _+_, _-_, _*_, _≤_, _<_}
 use native.Mathlib.Decide.{decLt, ℕ-discrete}
 use native.Mathlib.Omega.{arith}
-use borrow.Author.Tests.{eq-eqb, ne-eqb, lt-ltb, le-ltb}
-use lib.Dec.{eqb}
-use lib.ListN.{length, getD}
+use borrow.Author.Tests.{eq-eqb, lt-ltb, le-ltb}
+use lib.ListN.{getD}
 use Rattle.trits.specs.Trit.{Trit, t0, addT, subT, mulT, number, tritOf, zipV, putV, upTo}
 use Rattle.trits.specs.Planes.{tritAt}
 use Rattle.trits.specs.Rows.{matrixAt}
 use Rattle.trits.proofs.Ends.{upto-in, upto-out, upto-same, upto-ended}
-use Rattle.matrix.specs.Linear.{Vector, Matrix, zeros, elem, fill}
+use Rattle.matrix.specs.Linear.{Vector, Matrix, zeros, elem}
 use Rattle.matrix.specs.Orders.{Order}
-use Rattle.matrix.proofs.Dots.{put-same, put-other}
+use Rattle.matrix.proofs.Dots.{put-other}
 use Rattle.matrix.proofs.Places.{elem-at, fill-at, fill-off}
 use Rattle.matrix.proofs.Greedy.{bool-cases}
 use Rattle.matrix.proofs.Orders.{order-good, elem-index}
@@ -112,14 +111,14 @@ module _ (l N q : ℕ) (x : Vector) (y : Trit) (A : Matrix) where
 
 -- ---- the first i trits of y at the places of an order
 
+pub order-below : (n : ℕ) (p : List ℕ) → Order n p → (i : ℕ) → i < n → getD p i 0 < n
+order-below n p o i h = order-good n p o .1 (getD p i 0) (elem-at p i (omega (arith, o .size)))
+
 -- 0 past a start
 past-start : (i : ℕ) (y : Vector) (j : ℕ) → i ≤ j → join i y zeros j ≡ t0
 past-start i y j h = ap (λ (b : Bool). cond b (y j) t0) (le-ltb j i h)
 
 module _ (n : ℕ) (p : List ℕ) (o : Order n p) (y : Vector) where
-  start : ℕ → Vector
-  start i = placed p (join i y zeros)
-
   at-place : (i j : ℕ) → j < n → placed p (join i y zeros) (getD p j 0) ≡ join i y zeros j
   at-place i j h = fill-at p (join i y zeros) zeros j (order-good n p o .0) (omega (arith, o .size))
 
@@ -151,9 +150,6 @@ module _ (n : ℕ) (p : List ℕ) (o : Order n p) (y : Vector) where
       by q (no f) (inr m) =
           put-other (placed p (join i y zeros)) (getD p i 0) (y i) q f ∙ fill-off p (join i y zeros) zeros q m ∙ sym (fill-off p (join (i + 1) y zeros) zeros q m)
 
-  pub order-below : (i : ℕ) → i < n → getD p i 0 < n
-  order-below i h = order-good n p o .1 (getD p i 0) (elem-at p i (omega (arith, o .size)))
-
 -- rows of 0 hold the halves of 0
 pub placed-begun : (l N : ℕ) (A : Matrix) → A l ≡ zeros → A (l + 1) ≡ zeros → A ≡ placedRows l N zeros A
 placed-begun l N A a b =
@@ -178,12 +174,12 @@ module _ (l N : ℕ) (p : List ℕ) (o : Order (N + N) p) (y : Vector) (A : Matr
   pub place-begun : {os ts : List ℕ} {r w : ℕ} → Rows os ts r w → matrixAt w os ts ≡ A → A l ≡ zeros → A (l + 1) ≡ zeros → Grid os ts r w (placedRows l N (placed p (join 0 y zeros)) A)
   place-begun g e a b = record { rows = g; cells = e ∙ placed-begun l N A a b ∙ ap (λ (x : Vector). placedRows l N x A) (placed-none (N + N) p o y) }
 
-  pub place-turn : {os ts os′ ts′ : List ℕ} {r w : ℕ} (i m x : ℕ) → i < N + N → Grid os ts r w (placedRows l N (placed p (join i y zeros)) A) → tritOf x ≡ y i
+  pub place-turn : {os ts os′ ts′ : List ℕ} {r w : ℕ} (i x : ℕ) → i < N + N → Grid os ts r w (placedRows l N (placed p (join i y zeros)) A) → tritOf x ≡ y i
       → Grid os′ ts′ r w (putPlace l (l + 1) N (getD p i 0) (tritOf x) (matrixAt w os ts)) → Grid os′ ts′ r w (placedRows l N (placed p (join (i + 1) y zeros)) A)
-  place-turn i m x h g e d =
+  place-turn i x h g e d =
       grid-to d
       (ap₂ (λ (t : Trit) (B : Matrix). putPlace l (l + 1) N (getD p i 0) t B) e (g .cells)
-      ∙ place-more l N (getD p i 0) (placed p (join i y zeros)) (y i) A (order-below (N + N) p o y i h)
+      ∙ place-more l N (getD p i 0) (placed p (join i y zeros)) (y i) A (order-below (N + N) p o i h)
       ∙ ap (λ (x : Vector). placedRows l N x A) (placed-more (N + N) p o y i h))
 
   pub place-done : {os ts : List ℕ} {r w : ℕ} (i m : ℕ) → i ≡ m → Grid os ts r w (placedRows l N (placed p (join i y zeros)) A) → Grid os ts r w (placedRows l N (placed p (join m y zeros)) A)

@@ -13,15 +13,7 @@ ghost use Rattle.signer.specs.Draw.{placed};
 ghost use Rattle.pairing.specs.Halves.{putPlace, placedRows, writtenFrom};
 
 // The trit t is put at place q of row i.
-pub fn put_at(
-    ones: &mut [u64],
-    twos: &mut [u64],
-    rows: usize,
-    w: usize,
-    i: usize,
-    q: usize,
-    t: u8,
-)
+pub fn put_at(ones: &mut [u64], twos: &mut [u64], rows: usize, w: usize, i: usize, q: usize, t: u8)
     requires { ⌜ Rows (now ones) (now twos) rows w ⌝ }
     requires { ⌜ (length (now ones) ≤ 4294967296) × (i < rows) × (q < 64 * w) × (t < 3) ⌝ }
     ensures { λ _. ⌜ Grid (now (ones .exit)) (now (twos .exit)) rows w

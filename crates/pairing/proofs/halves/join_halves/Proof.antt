@@ -1,15 +1,12 @@
 -- b·e_V is added to e_U, which is e_L, and c·e_L to e_V (`joined-grid`; what the rows are: `joined-left`, `joined-right`).
 -- Assumes nothing.
-use borrow.Author.Needs.{needs}
-use Rattle.pairing.proofs.PlacedHalves.{joined-grid}
-use Rattle.trits.specs.Planes.{tritAt}
-use denote.Ref.{now}
 use mathlib.Core.Path.{sym}
+use borrow.Author.Needs.{needs}
+use denote.Ref.{now}
+use Rattle.trits.specs.Planes.{tritAt}
+use Rattle.pairing.proofs.PlacedHalves.{joined-grid}
 use Rattle.pairing.proofs.halves.join_halves.Statement.{statement}
 use Rattle.pairing.proofs.halves.join_halves.Tie as tie
-use Rattle.pairing.proofs.halves.join_halves.Reads as reads
-use Rattle.pairing.proofs.halves.join_halves.Lts as lts
-use Rattle.pairing.proofs.products.add_product.Reads as add-product-reads
 
 add-product-requires : tie.Need-add-product-requires
 add-product-requires c κs =

@@ -1,15 +1,12 @@
 -- c·L is taken from R, which is x_V, and b·x_V from L (`parted-grid`; what the rows are: `parted-left`, `parted-right`).
 -- Assumes nothing.
-use borrow.Author.Needs.{needs}
-use Rattle.pairing.proofs.PlacedHalves.{parted-grid}
-use Rattle.trits.specs.Planes.{tritAt}
-use denote.Ref.{now}
 use native.Mathlib.Omega.{arith}
+use borrow.Author.Needs.{needs}
+use denote.Ref.{now}
+use Rattle.trits.specs.Planes.{tritAt}
+use Rattle.pairing.proofs.PlacedHalves.{parted-grid}
 use Rattle.pairing.proofs.halves.part_halves.Statement.{statement}
 use Rattle.pairing.proofs.halves.part_halves.Tie as tie
-use Rattle.pairing.proofs.halves.part_halves.Reads as reads
-use Rattle.pairing.proofs.halves.part_halves.Lts as lts
-use Rattle.pairing.proofs.products.sub_product.Reads as sub-product-reads
 
 add-r : tie.Need-add-r
 add-r c =

@@ -1,16 +1,12 @@
 -- The product is made in row t, and row t is added to row a (`joined-grid`).
 -- Assumes nothing.
 use borrow.Author.Needs.{needs}
-use Rattle.pairing.proofs.RowProducts.{joined-grid}
+use denote.Ref.{now}
 use Rattle.trits.specs.Planes.{tritAt}
 use Rattle.trits.specs.Trit.{addT}
-use denote.Ref.{now}
+use Rattle.pairing.proofs.RowProducts.{joined-grid}
 use Rattle.pairing.proofs.products.add_product.Statement.{statement}
 use Rattle.pairing.proofs.products.add_product.Tie as tie
-use Rattle.pairing.proofs.products.add_product.Reads as reads
-use Rattle.pairing.proofs.products.add_product.Lts as lts
-use Rattle.elimination.proofs.rows.add_rows.Reads as add-rows-reads
-use Rattle.pairing.proofs.products.put_product.Reads as put-product-reads
 
 put-product-requires : tie.Need-put-product-requires
 put-product-requires c κs =

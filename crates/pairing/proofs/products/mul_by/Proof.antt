@@ -1,18 +1,15 @@
 -- The row is lent as a part, multiplied, and comes back as row i (`mul-grid`).
 -- Assumes nothing.
+use Prim.Native.Nat.{_+_, _-_, _*_}
+use native.Mathlib.Omega.{arith}
 use borrow.Author.Needs.{needs}
-use Rattle.pairing.proofs.RowProducts.{mul-grid}
+use denote.Ref.{now}
 use Rattle.trits.specs.Planes.{tritAt}
 use Rattle.trits.proofs.Parts.{length-mid, part-row}
 use Rattle.trits.proofs.Matrix.{row-le}
-use denote.Ref.{now}
-use native.Mathlib.Omega.{arith}
-use Prim.Native.Nat.{_+_, _-_, _*_}
+use Rattle.pairing.proofs.RowProducts.{mul-grid}
 use Rattle.pairing.proofs.products.mul_by.Statement.{statement}
 use Rattle.pairing.proofs.products.mul_by.Tie as tie
-use Rattle.pairing.proofs.products.mul_by.Reads as reads
-use Rattle.pairing.proofs.products.mul_by.Lts as lts
-use Rattle.trits.proofs.rows.mul_row.Reads as mul-row-reads
 
 mul-a : tie.Need-mul-a
 mul-a c =

@@ -1,16 +1,11 @@
 -- Row t is made 0, row i is added to it, and it is multiplied (`made-grid`).
 -- Assumes nothing.
 use borrow.Author.Needs.{needs}
-use Rattle.pairing.proofs.RowProducts.{made-grid}
-use Rattle.trits.specs.Planes.{tritAt}
 use denote.Ref.{now}
+use Rattle.trits.specs.Planes.{tritAt}
+use Rattle.pairing.proofs.RowProducts.{made-grid}
 use Rattle.pairing.proofs.products.put_product.Statement.{statement}
 use Rattle.pairing.proofs.products.put_product.Tie as tie
-use Rattle.pairing.proofs.products.put_product.Reads as reads
-use Rattle.pairing.proofs.products.put_product.Lts as lts
-use Rattle.elimination.proofs.rows.add_rows.Reads as add-rows-reads
-use Rattle.pairing.proofs.products.mul_by.Reads as mul-by-reads
-use Rattle.pairing.proofs.products.zero_row.Reads as zero-row-reads
 
 zero-row-requires : tie.Need-zero-row-requires
 zero-row-requires c κs =

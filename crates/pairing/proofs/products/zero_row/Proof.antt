@@ -1,17 +1,14 @@
 -- The row is lent as a part, made 0, and comes back as row i (`zero-grid`).
 -- Assumes nothing.
+use Prim.Native.Nat.{_+_, _-_, _*_}
+use native.Mathlib.Omega.{arith}
 use borrow.Author.Needs.{needs}
-use Rattle.pairing.proofs.RowProducts.{zero-grid}
+use denote.Ref.{now}
 use Rattle.trits.proofs.Parts.{length-mid}
 use Rattle.trits.proofs.Matrix.{row-le}
-use denote.Ref.{now}
-use native.Mathlib.Omega.{arith}
-use Prim.Native.Nat.{_+_, _-_, _*_}
+use Rattle.pairing.proofs.RowProducts.{zero-grid}
 use Rattle.pairing.proofs.products.zero_row.Statement.{statement}
 use Rattle.pairing.proofs.products.zero_row.Tie as tie
-use Rattle.pairing.proofs.products.zero_row.Reads as reads
-use Rattle.pairing.proofs.products.zero_row.Lts as lts
-use Rattle.trits.proofs.words.zero_words.Reads as zero-words-reads
 
 mul-a : tie.Need-mul-a
 mul-a c =

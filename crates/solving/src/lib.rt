@@ -1,1 +1,2 @@
 // One half of a draw, in rows of a grid: the matrix reduced along an order, the supplied trits, and the pivots' values.
+pub mod walk; // the places of an order walked in a reduced matrix

@@ -1,2 +1,3 @@
 -- The laws.
 pub mod Walked
+pub mod Fronts

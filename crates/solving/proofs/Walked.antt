@@ -10,15 +10,17 @@ use lib.Dec.{eqb, ltb}
 use lib.ListN.{length, take, drop, take-append-drop}
 use Rattle.trits.specs.Trit.{Trit, t0, t1, subT, mulT, isSet, putV, dotV}
 use Rattle.trits.proofs.Arithmetic.{add-zero-r, mul-assoc, add-neg}
-use Rattle.matrix.specs.Linear.{Vector, Matrix, zeros, times, elem, pivots, without}
+use Rattle.matrix.specs.Linear.{Vector, Matrix, zeros, times, elem, pivots, rank, without}
 use Rattle.matrix.specs.Orders.{Distinct, Order}
 use Rattle.matrix.specs.Eliminate.{swapRows, clearRows, pivotRow, hasPivot, stepOf, Stage, tried, eliminate, eliminated, begun}
 use Rattle.matrix.proofs.Field.{mul-zero, mul-one, square}
 use Rattle.matrix.proofs.Dots.{put-same, put-other}
 use Rattle.matrix.proofs.Places.{Below, or-false-left, or-false-right, or-none}
 use Rattle.matrix.proofs.Orders.{order-good}
+use Rattle.matrix.proofs.Greedy.{pivots-kept}
+use Rattle.matrix.proofs.Elimination.{Reduced, reduced-cong}
 use Rattle.matrix.proofs.Steps.{has-row, has-none, step-has, step-none}
-use Rattle.matrix.proofs.Kept.{tried-cells, tried-kept, tried-count, eliminate-pivots}
+use Rattle.matrix.proofs.Kept.{tried-cells, tried-kept, tried-count, eliminate-pivots, eliminated-reduced}
 use Rattle.signer.proofs.Draws.{parts, first-below}
 use Rattle.solving.specs.Walk.{over, isNext, taken, passed}
 
@@ -344,3 +346,17 @@ module _ (r : ℕ) (F A : Matrix) (c : ℕ) (qs : List ℕ) where
 
   pub passed-over : passed r (over r F A) c qs ≡ passed r F c qs
   passed-over = passed-cong r (over r F A) F (over-row r F A) qs c
+
+-- what the definitions ask of the grid's matrix: it is reduced at the pivots
+pub order-reduced : (r n : ℕ) (H A : Matrix) (k : ℕ) (order : List ℕ) → Order n order
+    → Reduced r n H (over r (eliminated r H (take k order)) A) (pivots r n H (take k order))
+order-reduced r n H A k order o =
+    let F : Matrix = eliminated r H (take k order) in
+    let ps : List ℕ = pivots r n H (take k order) in
+    let b = first-below n k order o in
+    reduced-cong r n H F (over r F A) ps (pivots-kept r n H (take k order) b .below) (λ i q l m. sym (ap (λ (u : Vector). u q) (over-row r F A i l))) (eliminated-reduced r n H (take k order) b)
+
+-- a rank that is full is that of r pivots
+pub rank-full : (r n : ℕ) (H : Matrix) (ps : List ℕ) → rank r n H ps ≡ r → length (pivots r n H ps) ≡ r
+unfolding rank
+rank-full r n H ps e = e

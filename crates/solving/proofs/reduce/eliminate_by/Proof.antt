@@ -37,7 +37,7 @@ count-column-requires c κs =
     let s = c .before .before .before .before .before .before .before .before in
     let l = c .before .before .before .before .loop in
     let p = place-below (now (s .args .order)) (length (now (s .args .order))) (l .i) (s .pre .1 .0) (omega arith) in
-    (l .inv .1 .grid .rows, (omega (arith, l .inv .1 .grid .rows .size), omega (arith, p), l .inv .1 .room))
+    (l .inv .1 .grid .rows, (omega (arith, l .inv .1 .grid .rows .size), omega (arith, p), omega (arith, l .inv .1 .room)))
 
 add-i : tie.Need-add-i Inv-loop μ-loop
 add-i c = omega arith

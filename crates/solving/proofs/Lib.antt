@@ -1,3 +1,5 @@
 -- The laws.
+pub mod Walked
+pub mod Fronts
 pub mod Puts
 pub mod Supplied

@@ -1,27 +1,29 @@
 -- The walk along an order, place by place: what it takes, what it passes over, and the word that row e has so far. Assumes nothing.
 use mathlib.Core.Path.{_≡_, refl, sym, ap, ap₂, _∙_, subst, fun-ext}
-use mathlib.Core.Bool.{Bool, true, false, _&&_, cond, true≢false}
+use mathlib.Core.Bool.{Bool, true, false, cond, true≢false}
 use mathlib.Core.Logic.{_⊎_, inl, inr}
 use mathlib.Core.List.{List, [], _∷_, _++_, append-nil}
 use Prim.Native.Nat.{ℕ, suc, _+_, _-_, _≤_, _<_}
 use native.Mathlib.Numerals.{add-one}
-use native.Mathlib.Decide.{decLt, ℕ-discrete}
+use native.Mathlib.Decide.{ℕ-discrete}
 use native.Mathlib.Omega.{arith}
-use borrow.Author.Tests.{eq-eqb, ne-eqb, eqb-false, le-ltb}
-use lib.Dec.{eqb, ltb}
+use borrow.Author.Tests.{eq-eqb, ne-eqb, eqb-false}
+use lib.Dec.{eqb}
 use lib.ListN.{length, getD, take, drop, length-append, length-drop, take-append-drop}
 use lib.Seq.{take-suc, take-take, drop-cons, getD-drop, length-take-le, take-all}
-use Rattle.trits.specs.Trit.{Trit, isSet, putV, dotV}
+use Rattle.trits.specs.Trit.{Trit, putV, dotV}
 use Rattle.trits.specs.Rows.{matrixAt}
 use Rattle.matrix.specs.Linear.{Vector, Matrix, times, elem, fill}
 use Rattle.matrix.specs.Orders.{Distinct, Order}
-use Rattle.matrix.proofs.Places.{or-false-left, or-false-right, or-none, elem-at, elem-here}
+use Rattle.matrix.proofs.Places.{or-false-left, or-false-right, or-none, elem-here}
 use Rattle.matrix.proofs.Greedy.{bool-cases}
 use Rattle.matrix.proofs.Orders.{order-good}
 use Rattle.matrix.proofs.Counts.{distinct-parts}
 use Rattle.elimination.specs.Grid.{Rows, Grid, putRow}
 use Rattle.elimination.proofs.Cells.{grid-to}
 use Rattle.solving.specs.Walk.{isNext, taken, passed, forcedBy}
+use Rattle.solving.proofs.Walked.{taken-append, passed-append, taken-within, next-cong}
+use Rattle.solving.proofs.Fronts.{take-next}
 use Rattle.solving.proofs.Puts.{put-own, next-lt}
 
 -- ---- words filled place by place
@@ -69,9 +71,6 @@ before-place l i d h = by (bool-cases (elem (getD l i 0) (take i l)))
     by (inl m) = absurd (true≢false (sym there ∙ distinct-parts (take i l) (drop i l) split .2 (getD l i 0) m))
     by (inr m) = m
 
-pub place-below : (l : List ℕ) (i : ℕ) → Order (length l) l → i < length l → getD l i 0 < length l
-place-below l i o h = order-good (length l) l o .1 (getD l i 0) (elem-at l i h)
-
 pub place-fresh : (l : List ℕ) (i : ℕ) → Order (length l) l → i < length l → elem (getD l i 0) (take i l) ≡ false
 place-fresh l i o h = before-place l i (order-good (length l) l o .0) h
 
@@ -81,34 +80,6 @@ distinct-last l a o = distinct-parts (take a l) (drop a l) (subst (λ (x : List 
 -- ---- what the walk takes and passes over
 
 module _ (r : ℕ) (A : Matrix) where
-  pub taken-append : (c : ℕ) (xs ys : List ℕ) → taken r A c (xs ++ ys) ≡ taken r A c xs ++ taken r A (c + length (taken r A c xs)) ys
-  unfolding taken
-  taken-append c [] ys = let e : c ≡ c + 0 = omega arith in ap (λ (n : ℕ). taken r A n ys) e
-  taken-append c (q ∷ xs) ys = by (taken-append (suc c) xs ys) (taken-append c xs ys) (isNext r A c q)
-    where
-      by : taken r A (suc c) (xs ++ ys) ≡ taken r A (suc c) xs ++ taken r A (suc c + length (taken r A (suc c) xs)) ys
-          → taken r A c (xs ++ ys) ≡ taken r A c xs ++ taken r A (c + length (taken r A c xs)) ys
-          → (b : Bool) → cond b (q ∷ taken r A (suc c) (xs ++ ys)) (taken r A c (xs ++ ys))
-          ≡ cond b (q ∷ taken r A (suc c) xs) (taken r A c xs) ++ taken r A (c + length (cond b (q ∷ taken r A (suc c) xs) (taken r A c xs))) ys
-      by f g true =
-          let e : suc c + length (taken r A (suc c) xs) ≡ c + suc (length (taken r A (suc c) xs)) = omega arith in
-          ap (λ (l : List ℕ). q ∷ l) (f ∙ ap (λ (n : ℕ). taken r A (suc c) xs ++ taken r A n ys) e)
-      by f g false = g
-
-  pub passed-append : (c : ℕ) (xs ys : List ℕ) → passed r A c (xs ++ ys) ≡ passed r A c xs ++ passed r A (c + length (taken r A c xs)) ys
-  unfolding taken passed
-  passed-append c [] ys = let e : c ≡ c + 0 = omega arith in ap (λ (n : ℕ). passed r A n ys) e
-  passed-append c (q ∷ xs) ys = by (passed-append (suc c) xs ys) (passed-append c xs ys) (isNext r A c q)
-    where
-      by : passed r A (suc c) (xs ++ ys) ≡ passed r A (suc c) xs ++ passed r A (suc c + length (taken r A (suc c) xs)) ys
-          → passed r A c (xs ++ ys) ≡ passed r A c xs ++ passed r A (c + length (taken r A c xs)) ys
-          → (b : Bool) → cond b (passed r A (suc c) (xs ++ ys)) (q ∷ passed r A c (xs ++ ys))
-          ≡ cond b (passed r A (suc c) xs) (q ∷ passed r A c xs) ++ passed r A (c + length (cond b (q ∷ taken r A (suc c) xs) (taken r A c xs))) ys
-      by f g true =
-          let e : suc c + length (taken r A (suc c) xs) ≡ c + suc (length (taken r A (suc c) xs)) = omega arith in
-          f ∙ ap (λ (n : ℕ). passed r A (suc c) xs ++ passed r A n ys) e
-      by f g false = ap (λ (l : List ℕ). q ∷ l) g
-
   -- each place is one or the other
   pub walk-length : (c : ℕ) (ps : List ℕ) → length (taken r A c ps) + length (passed r A c ps) ≡ length ps
   unfolding taken passed
@@ -119,15 +90,6 @@ module _ (r : ℕ) (A : Matrix) where
           → (b : Bool) → length (cond b (q ∷ taken r A (suc c) ps) (taken r A c ps)) + length (cond b (passed r A (suc c) ps) (q ∷ passed r A c ps)) ≡ suc (length ps)
       by f g true = omega arith
       by f g false = omega arith
-
-  pub taken-out : (c : ℕ) (ps : List ℕ) (x : ℕ) → elem x ps ≡ false → elem x (taken r A c ps) ≡ false
-  unfolding taken
-  taken-out c [] x h = refl
-  taken-out c (q ∷ ps) x h = by (taken-out (suc c) ps x (or-false-right (eqb x q) (elem x ps) h)) (taken-out c ps x (or-false-right (eqb x q) (elem x ps) h)) (isNext r A c q)
-    where
-      by : elem x (taken r A (suc c) ps) ≡ false → elem x (taken r A c ps) ≡ false → (b : Bool) → elem x (cond b (q ∷ taken r A (suc c) ps) (taken r A c ps)) ≡ false
-      by f g true = or-none (eqb x q) (elem x (taken r A (suc c) ps)) (or-false-left (eqb x q) (elem x ps) h) f
-      by f g false = g
 
   pub passed-out : (c : ℕ) (ps : List ℕ) (x : ℕ) → elem x ps ≡ false → elem x (passed r A c ps) ≡ false
   unfolding passed
@@ -149,18 +111,18 @@ module _ (r : ℕ) (A : Matrix) where
     one-passed = let z : 0 + length (taken r A 0 ps) ≡ c = omega arith in ap (λ (n : ℕ). passed r A n (q ∷ [])) z
 
     pub taken-yes : isNext r A c q ≡ true → taken r A 0 (ps ++ (q ∷ [])) ≡ taken r A 0 ps ++ (q ∷ [])
-    taken-yes h = taken-append 0 ps (q ∷ []) ∙ ap (λ (l : List ℕ). taken r A 0 ps ++ l) (one-taken ∙ ap (λ (b : Bool). cond b (q ∷ []) []) h)
+    taken-yes h = taken-append r A ps (q ∷ []) 0 ∙ ap (λ (l : List ℕ). taken r A 0 ps ++ l) (one-taken ∙ ap (λ (b : Bool). cond b (q ∷ []) []) h)
 
     pub taken-no : isNext r A c q ≡ false → taken r A 0 (ps ++ (q ∷ [])) ≡ taken r A 0 ps
     taken-no h =
-        taken-append 0 ps (q ∷ []) ∙ ap (λ (l : List ℕ). taken r A 0 ps ++ l) (one-taken ∙ ap (λ (b : Bool). cond b (q ∷ []) []) h) ∙ append-nil (taken r A 0 ps)
+        taken-append r A ps (q ∷ []) 0 ∙ ap (λ (l : List ℕ). taken r A 0 ps ++ l) (one-taken ∙ ap (λ (b : Bool). cond b (q ∷ []) []) h) ∙ append-nil (taken r A 0 ps)
 
     pub passed-yes : isNext r A c q ≡ true → passed r A 0 (ps ++ (q ∷ [])) ≡ passed r A 0 ps
     passed-yes h =
-        passed-append 0 ps (q ∷ []) ∙ ap (λ (l : List ℕ). passed r A 0 ps ++ l) (one-passed ∙ ap (λ (b : Bool). cond b [] (q ∷ [])) h) ∙ append-nil (passed r A 0 ps)
+        passed-append r A ps (q ∷ []) 0 ∙ ap (λ (l : List ℕ). passed r A 0 ps ++ l) (one-passed ∙ ap (λ (b : Bool). cond b [] (q ∷ [])) h) ∙ append-nil (passed r A 0 ps)
 
     pub passed-no : isNext r A c q ≡ false → passed r A 0 (ps ++ (q ∷ [])) ≡ passed r A 0 ps ++ (q ∷ [])
-    passed-no h = passed-append 0 ps (q ∷ []) ∙ ap (λ (l : List ℕ). passed r A 0 ps ++ l) (one-passed ∙ ap (λ (b : Bool). cond b [] (q ∷ [])) h)
+    passed-no h = passed-append r A ps (q ∷ []) 0 ∙ ap (λ (l : List ℕ). passed r A 0 ps ++ l) (one-passed ∙ ap (λ (b : Bool). cond b [] (q ∷ [])) h)
 
     pub taken-count : {n : ℕ} → n ≡ cond (isNext r A c q) (suc c) c → n ≡ length (taken r A 0 (ps ++ (q ∷ [])))
     taken-count d = d ∙ by (bool-cases (isNext r A c q))
@@ -168,30 +130,6 @@ module _ (r : ℕ) (A : Matrix) where
         by : (isNext r A c q ≡ true) ⊎ (isNext r A c q ≡ false) → cond (isNext r A c q) (suc c) c ≡ length (taken r A 0 (ps ++ (q ∷ [])))
         by (inl h) = ap (λ (b : Bool). cond b (suc c) c) h ∙ ap suc e ∙ sym (add-one (length (taken r A 0 ps))) ∙ sym (length-append (taken r A 0 ps) (q ∷ [])) ∙ ap (λ (l : List ℕ). length l) (sym (taken-yes h))
         by (inr h) = ap (λ (b : Bool). cond b (suc c) c) h ∙ e ∙ ap (λ (l : List ℕ). length l) (sym (taken-no h))
-
--- only the first r rows count
-module _ (r : ℕ) (A B : Matrix) (f : (i : ℕ) → i < r → A i ≡ B i) where
-  pub next-rows : (c q : ℕ) → isNext r A c q ≡ isNext r B c q
-  next-rows c q = by (decLt c r)
-    where
-      by : Dec (c < r) → isNext r A c q ≡ isNext r B c q
-      by (yes l) = ap (λ (v : Vector). ltb c r && isSet (v q)) (f c l)
-      by (no n) =
-          ap (λ (b : Bool). b && isSet (A c q)) (le-ltb c r (omega arith)) ∙ sym (ap (λ (b : Bool). b && isSet (B c q)) (le-ltb c r (omega arith)))
-
-  pub taken-rows : (c : ℕ) (ps : List ℕ) → taken r A c ps ≡ taken r B c ps
-  unfolding taken
-  taken-rows c [] = refl
-  taken-rows c (q ∷ ps) =
-      ap (λ (b : Bool). cond b (q ∷ taken r A (suc c) ps) (taken r A c ps)) (next-rows c q)
-      ∙ ap₂ (λ (x y : List ℕ). cond (isNext r B c q) (q ∷ x) y) (taken-rows (suc c) ps) (taken-rows c ps)
-
-  pub passed-rows : (c : ℕ) (ps : List ℕ) → passed r A c ps ≡ passed r B c ps
-  unfolding passed
-  passed-rows c [] = refl
-  passed-rows c (q ∷ ps) =
-      ap (λ (b : Bool). cond b (passed r A (suc c) ps) (q ∷ passed r A c ps)) (next-rows c q)
-      ∙ ap₂ (λ (x y : List ℕ). cond (isNext r B c q) x (q ∷ y)) (passed-rows (suc c) ps) (passed-rows c ps)
 
 -- ---- rows of a matrix of which row e is another
 
@@ -221,27 +159,27 @@ put-turn e q A u x g h =
 -- ---- the walk in a matrix of which row e is being made
 
 -- the places ps are walked, c of them are taken, and row e is u
-pub record Walked (rows w r e : ℕ) (A : Matrix) (u : Vector) (ps : List ℕ) (c : ℕ) (o t : List ℕ) : Type 0 where
+pub record Walking (rows w r e : ℕ) (A : Matrix) (u : Vector) (ps : List ℕ) (c : ℕ) (o t : List ℕ) : Type 0 where
   pub grid : Grid o t rows w (putRow e u A)
   pub count : c ≡ length (taken r A 0 ps)
 
-module _ {rows w r e : ℕ} {A : Matrix} {u : Vector} {ps : List ℕ} {c : ℕ} {os ts : List ℕ} (k : Walked rows w r e A u ps c os ts) (z : r ≤ e) where
+module _ {rows w r e : ℕ} {A : Matrix} {u : Vector} {ps : List ℕ} {c : ℕ} {os ts : List ℕ} (k : Walking rows w r e A u ps c os ts) (z : r ≤ e) where
   -- the matrix is read as it was
-  pub walked-next : (q : ℕ) → isNext r (matrixAt w os ts) c q ≡ isNext r A c q
-  walked-next q =
-      ap (λ (B : Matrix). isNext r B c q) (k .grid .cells) ∙ next-rows r (putRow e u A) A (λ i l. put-else e u A i (λ d. omega arith)) c q
+  pub walking-next : (q : ℕ) → isNext r (matrixAt w os ts) c q ≡ isNext r A c q
+  walking-next q =
+      ap (λ (B : Matrix). isNext r B c q) (k .grid .cells) ∙ next-cong r (putRow e u A) A c q (λ i l. put-else e u A i (λ d. omega arith))
 
   -- a turn: x is what row e is where the place is taken, y where it is passed over
-  pub walked-turn : {n : ℕ} {o t : List ℕ} (q : ℕ) (x y : Matrix → Vector) (v : Vector) → n ≡ cond (isNext r (matrixAt w os ts) c q) (suc c) c
+  pub walking-turn : {n : ℕ} {o t : List ℕ} (q : ℕ) (x y : Matrix → Vector) (v : Vector) → n ≡ cond (isNext r (matrixAt w os ts) c q) (suc c) c
       → Grid o t rows w (putRow e (cond (isNext r (matrixAt w os ts) c q) (x (matrixAt w os ts)) (y (matrixAt w os ts))) (matrixAt w os ts))
-      → (isNext r A c q ≡ true → x (putRow e u A) ≡ v) → (isNext r A c q ≡ false → y (putRow e u A) ≡ v) → Walked rows w r e A v (ps ++ (q ∷ [])) n o t
-  walked-turn q x y v d g f h = record {
+      → (isNext r A c q ≡ true → x (putRow e u A) ≡ v) → (isNext r A c q ≡ false → y (putRow e u A) ≡ v) → Walking rows w r e A v (ps ++ (q ∷ [])) n o t
+  walking-turn q x y v d g f h = record {
     grid = grid-to g
-        (ap (λ (b : Bool). putRow e (cond b (x (matrixAt w os ts)) (y (matrixAt w os ts))) (matrixAt w os ts)) (walked-next q)
+        (ap (λ (b : Bool). putRow e (cond b (x (matrixAt w os ts)) (y (matrixAt w os ts))) (matrixAt w os ts)) (walking-next q)
         ∙ ap (λ (B : Matrix). putRow e (cond (isNext r A c q) (x B) (y B)) B) (k .grid .cells)
         ∙ ap (λ (s : Vector). putRow e s (putRow e u A)) (by (bool-cases (isNext r A c q)))
         ∙ put-again e u A v);
-    count = taken-count r A ps q c (k .count) (d ∙ ap (λ (b : Bool). cond b (suc c) c) (walked-next q));
+    count = taken-count r A ps q c (k .count) (d ∙ ap (λ (b : Bool). cond b (suc c) c) (walking-next q));
   }
     where
       by : (isNext r A c q ≡ true) ⊎ (isNext r A c q ≡ false) → cond (isNext r A c q) (x (putRow e u A)) (y (putRow e u A)) ≡ v
@@ -249,10 +187,10 @@ module _ {rows w r e : ℕ} {A : Matrix} {u : Vector} {ps : List ℕ} {c : ℕ} 
       by (inr a) = ap (λ (b : Bool). cond b (x (putRow e u A)) (y (putRow e u A))) a ∙ h a
 
 -- nothing is walked yet
-pub walked-none : {rows w r : ℕ} {o t : List ℕ} (e : ℕ) (l : List ℕ) (ps : Matrix → List ℕ) (v : Vector) → Rows o t rows w → ps (matrixAt w o t) ≡ []
-    → Walked rows w r e (matrixAt w o t) (fill (ps (matrixAt w o t)) v (matrixAt w o t e)) (take 0 l) 0 o t
+pub walking-none : {rows w r : ℕ} {o t : List ℕ} (e : ℕ) (l : List ℕ) (ps : Matrix → List ℕ) (v : Vector) → Rows o t rows w → ps (matrixAt w o t) ≡ []
+    → Walking rows w r e (matrixAt w o t) (fill (ps (matrixAt w o t)) v (matrixAt w o t e)) (take 0 l) 0 o t
 unfolding taken fill
-walked-none {w = w} {o = o} {t = t} e l ps v g d = record {
+walking-none {w = w} {o = o} {t = t} e l ps v g d = record {
   grid = record { rows = g; cells = put-own e (matrixAt w o t) ∙ ap (λ (x : List ℕ). putRow e (fill x v (matrixAt w o t e)) (matrixAt w o t)) (sym d) };
   count = refl;
 }
@@ -267,11 +205,8 @@ passed-nil r A l = refl
 
 -- ---- the loops: i places of the order are walked
 
-next-place : (l : List ℕ) (i : ℕ) → i < length l → take (i + 1) l ≡ take i l ++ (getD l i 0 ∷ [])
-next-place l i h = ap (λ (k : ℕ). take k l) (add-one i) ∙ take-suc l i 0 h
-
 module _ {rows w r e : ℕ} (l : List ℕ) (A : Matrix) {i c : ℕ} {os ts : List ℕ} (o : Order (length l) l) (h : i < length l) (z : r ≤ e) where
-  module _ {u : Vector} (k : Walked rows w r e A u (take i l) c os ts) where
+  module _ {u : Vector} (k : Walking rows w r e A u (take i l) c os ts) where
     pub passed-count : i ≡ c + length (passed r A 0 (take i l))
     passed-count = omega (arith, k .count, walk-length r A 0 (take i l), length-take-le i l (omega arith))
 
@@ -287,29 +222,29 @@ module _ {rows w r e : ℕ} (l : List ℕ) (A : Matrix) {i c : ℕ} {os ts : Lis
 
         long : length (passed r A 0 (take (i + 1) l)) ≤ length (passed r A 0 (take m l))
         long =
-            let p = ap (λ (x : List ℕ). length (passed r A 0 x)) split ∙ ap (λ (x : List ℕ). length x) (passed-append r A 0 (take (i + 1) l) rest)
+            let p = ap (λ (x : List ℕ). length (passed r A 0 x)) split ∙ ap (λ (x : List ℕ). length x) (passed-append r A (take (i + 1) l) rest 0)
             ∙ length-append (passed r A 0 (take (i + 1) l)) (passed r A (0 + length (taken r A 0 (take (i + 1) l))) rest) in
             omega arith
 
         by : (isNext r A c (getD l i 0) ≡ true) ⊎ (isNext r A c (getD l i 0) ≡ false) → (isNext r (matrixAt w os ts) c (getD l i 0) ≡ true) ⊎ (i - c < N)
-        by (inl f) = inl (walked-next k z (getD l i 0) ∙ f)
+        by (inl f) = inl (walking-next k z (getD l i 0) ∙ f)
         by (inr f) =
-            let p = ap (λ (x : List ℕ). length x) (ap (λ (x : List ℕ). passed r A 0 x) (next-place l i h) ∙ passed-no r A (take i l) (getD l i 0) c (k .count) f)
+            let p = ap (λ (x : List ℕ). length x) (ap (λ (x : List ℕ). passed r A 0 x) (take-next l i h) ∙ passed-no r A (take i l) (getD l i 0) c (k .count) f)
             ∙ length-append (passed r A 0 (take i l)) (getD l i 0 ∷ []) in
             inr (omega (arith, passed-count, long, p))
 
   -- the place at i takes the next trit, or none
-  pub supply-turn : {n : ℕ} {o₁ t₁ : List ℕ} (v : Vector) → Walked rows w r e A (fill (passed r A 0 (take i l)) v (A e)) (take i l) c os ts
+  pub supply-turn : {n : ℕ} {o₁ t₁ : List ℕ} (v : Vector) → Walking rows w r e A (fill (passed r A 0 (take i l)) v (A e)) (take i l) c os ts
       → n ≡ cond (isNext r (matrixAt w os ts) c (getD l i 0)) (suc c) c
       → Grid o₁ t₁ rows w (putRow e (cond (isNext r (matrixAt w os ts) c (getD l i 0)) (matrixAt w os ts e) (putV (matrixAt w os ts e) (getD l i 0) (v (i - c)))) (matrixAt w os ts))
-      → Walked rows w r e A (fill (passed r A 0 (take (i + 1) l)) v (A e)) (take (i + 1) l) n o₁ t₁
+      → Walking rows w r e A (fill (passed r A 0 (take (i + 1) l)) v (A e)) (take (i + 1) l) n o₁ t₁
   supply-turn {n} {o₁} {t₁} v k d g =
       let q = getD l i 0 in
       let ps = take i l in
       let u : Vector = fill (passed r A 0 ps) v (A e) in
       let m : i - c ≡ length (passed r A 0 ps) = omega (arith, passed-count k) in
-      subst (λ (x : List ℕ). Walked rows w r e A (fill (passed r A 0 x) v (A e)) x n o₁ t₁) (sym (next-place l i h))
-      (walked-turn k z q (λ B. B e) (λ B. putV (B e) q (v (i - c))) (fill (passed r A 0 (ps ++ (q ∷ []))) v (A e)) d g
+      subst (λ (x : List ℕ). Walking rows w r e A (fill (passed r A 0 x) v (A e)) x n o₁ t₁) (sym (take-next l i h))
+      (walking-turn k z q (λ B. B e) (λ B. putV (B e) q (v (i - c))) (fill (passed r A 0 (ps ++ (q ∷ []))) v (A e)) d g
       (λ f. put-here e u A ∙ ap (λ (x : List ℕ). fill x v (A e)) (sym (passed-yes r A ps q c (k .count) f)))
       (λ f.
       ap₂ (λ (y : Vector) (j : ℕ). putV y q (v j)) (put-here e u A) m
@@ -317,24 +252,24 @@ module _ {rows w r e : ℕ} (l : List ℕ) (A : Matrix) {i c : ℕ} {os ts : Lis
       ∙ ap (λ (x : List ℕ). fill x v (A e)) (sym (passed-no r A ps q c (k .count) f))))
 
   -- the place at i takes its row's product, or nothing
-  pub solve-turn : {n : ℕ} {o₁ t₁ : List ℕ} (x m : ℕ) → (x ≡ e → ⊥) → Walked rows w r e A (fill (taken r A 0 (take i l)) (times m A (A x)) (A e)) (take i l) c os ts
+  pub solve-turn : {n : ℕ} {o₁ t₁ : List ℕ} (x m : ℕ) → (x ≡ e → ⊥) → Walking rows w r e A (fill (taken r A 0 (take i l)) (times m A (A x)) (A e)) (take i l) c os ts
       → n ≡ cond (isNext r (matrixAt w os ts) c (getD l i 0)) (suc c) c
       → Grid o₁ t₁ rows w
       (putRow e (cond (isNext r (matrixAt w os ts) c (getD l i 0)) (putV (matrixAt w os ts e) (getD l i 0) (dotV (matrixAt w os ts c) (matrixAt w os ts x) m)) (matrixAt w os ts e)) (matrixAt w os ts))
-      → Walked rows w r e A (fill (taken r A 0 (take (i + 1) l)) (times m A (A x)) (A e)) (take (i + 1) l) n o₁ t₁
+      → Walking rows w r e A (fill (taken r A 0 (take (i + 1) l)) (times m A (A x)) (A e)) (take (i + 1) l) n o₁ t₁
   solve-turn {n} {o₁} {t₁} x m a k d g =
       let q = getD l i 0 in
       let ps = take i l in
       let v : Vector = times m A (A x) in
       let u : Vector = fill (taken r A 0 ps) v (A e) in
-      subst (λ (y : List ℕ). Walked rows w r e A (fill (taken r A 0 y) v (A e)) y n o₁ t₁) (sym (next-place l i h))
-      (walked-turn k z q (λ B. putV (B e) q (dotV (B c) (B x) m)) (λ B. B e) (fill (taken r A 0 (ps ++ (q ∷ []))) v (A e)) d g
+      subst (λ (y : List ℕ). Walking rows w r e A (fill (taken r A 0 y) v (A e)) y n o₁ t₁) (sym (take-next l i h))
+      (walking-turn k z q (λ B. putV (B e) q (dotV (B c) (B x) m)) (λ B. B e) (fill (taken r A 0 (ps ++ (q ∷ []))) v (A e)) d g
       (λ f.
       let p = next-lt r A c q f in
       ap (λ (y : Vector). putV y q (dotV (putRow e u A c) (putRow e u A x) m)) (put-here e u A)
       ∙ ap₂ (λ (s t : Vector). putV u q (dotV s t m)) (put-else e u A c (λ b. omega arith)) (put-else e u A x a)
       ∙ ap (λ (j : ℕ). putV u q (v j)) (k .count)
-      ∙ sym (fill-more (taken r A 0 ps) q v (A e) (taken-out r A 0 ps q (place-fresh l i o h)))
+      ∙ sym (fill-more (taken r A 0 ps) q v (A e) (taken-within r A ps 0 q (place-fresh l i o h)))
       ∙ ap (λ (y : List ℕ). fill y v (A e)) (sym (taken-yes r A ps q c (k .count) f)))
       (λ f. put-here e u A ∙ ap (λ (y : List ℕ). fill y v (A e)) (sym (taken-no r A ps q c (k .count) f))))
 

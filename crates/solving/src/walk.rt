@@ -191,7 +191,7 @@ pub fn supply_forced(
     requires { ⌜ Row (now bo) (now bt) × Row (now co) (now ct) × Row (now uo) (now ut) ⌝ }
     requires { ⌜ Order (length (now order)) (now order) ⌝ }
     requires { ⌜ (length (now ones) ≤ 4294967296) × (w ≤ 65536) × (length (now order) ≤ 64 * w) × (from ≤ length (now order)) × (ev < rows) × (e < rows) × (ev ≢ e) ⌝ }
-    requires { ⌜ (length (now order) ≤ 64 * length (now bo)) × (length (now order) ≤ 64 * length (now co)) × (g + (length (now order) - from) ≤ 64 * length (now uo)) × (g ≤ 65536) ⌝ }
+    requires { ⌜ (length (now order) ≤ 64 * length (now bo)) × (length (now order) ≤ 64 * length (now co)) × (g + (length (now order) - from) ≤ 64 * length (now uo)) × (g ≤ from) ⌝ }
     ensures { λ _. ⌜ Grid (now (ones .exit)) (now (twos .exit)) rows w
         (putRow e (fill (drop from (now (order .entry)))
         (λ j. forcedBy (tritAt (now (bo .entry)) (now (bt .entry))) (tritAt (now (co .entry)) (now (ct .entry))) (matrixAt w (now (ones .entry)) (now (twos .entry)) ev)

@@ -1,11 +1,12 @@
 -- Each turn walks one place more (`solve-turn`); rows c and x are not the row that changes.
 -- Assumes nothing.
-use Rattle.solving.proofs.Supplied.{Walked, walked-none, taken-nil, place-below, solve-turn}
+use Rattle.solving.proofs.Fronts.{place-below}
+use Rattle.solving.proofs.Supplied.{Walking, walking-none, taken-nil, solve-turn}
 use Rattle.solving.specs.Walk.{taken}
 use Rattle.matrix.specs.Linear.{times, fill}
 use Rattle.trits.specs.Rows.{matrixAt}
 use denote.Ref.{now}
-use lib.ListN.{take}
+use lib.ListN.{length, take}
 use native.Mathlib.Omega.{arith}
 use mathlib.Core.Path.{_≡_}
 use Prim.Native.Nat.{_-_, _*_, _≤_}
@@ -13,7 +14,7 @@ use Rattle.solving.proofs.walk.solve_pivots.Statement.{statement}
 use Rattle.solving.proofs.walk.solve_pivots.Tie as tie
 
 abbrev Inv-loop : tie.InvT-loop
-Inv-loop ones₀ twos₀ rows w r order m x e c₀ i₀ ones twos c i = (i ≤ m) × Walked rows w r e (matrixAt w ones₀ twos₀) (fill (taken r (matrixAt w ones₀ twos₀) 0 (take i order)) (times (64 * w) (matrixAt w ones₀ twos₀) ((matrixAt w ones₀ twos₀) x)) ((matrixAt w ones₀ twos₀) e)) (take i order) c ones twos
+Inv-loop ones₀ twos₀ rows w r order m x e c₀ i₀ ones twos c i = (i ≤ m) × Walking rows w r e (matrixAt w ones₀ twos₀) (fill (taken r (matrixAt w ones₀ twos₀) 0 (take i order)) (times (64 * w) (matrixAt w ones₀ twos₀) ((matrixAt w ones₀ twos₀) x)) ((matrixAt w ones₀ twos₀) e)) (take i order) c ones twos
 
 abbrev μ-loop : tie.MeasureT-loop
 μ-loop ones₀ twos₀ rows w r order m x e c₀ i₀ ones twos c i = m - i
@@ -22,7 +23,7 @@ loop-holds : tie.Need-loop-holds Inv-loop μ-loop
 loop-holds c =
     let s = c .before .before .before in
     let a = s .args in
-    (omega arith, walked-none (a .e) (now (a .order)) (λ B. taken (a .r) B 0 (take 0 (now (a .order)))) (times (64 * a .w) (matrixAt (a .w) (now (a .ones)) (now (a .twos))) ((matrixAt (a .w) (now (a .ones)) (now (a .twos))) (a .x))) (s .pre .0) (taken-nil (a .r) (matrixAt (a .w) (now (a .ones)) (now (a .twos))) (now (a .order))))
+    (omega arith, walking-none (a .e) (now (a .order)) (λ B. taken (a .r) B 0 (take 0 (now (a .order)))) (times (64 * a .w) (matrixAt (a .w) (now (a .ones)) (now (a .twos))) ((matrixAt (a .w) (now (a .ones)) (now (a .twos))) (a .x))) (s .pre .0) (taken-nil (a .r) (matrixAt (a .w) (now (a .ones)) (now (a .twos))) (now (a .order))))
 
 mul-q : tie.Need-mul-q Inv-loop μ-loop
 mul-q c = omega arith
@@ -39,7 +40,7 @@ solve-place-requires c κs =
     let s = c .before .before .before .before .before .before .before .before in
     let a = s .args in
     let l = c .before .before .before .before .loop in
-    let q = place-below (now (a .order)) (l .i) (s .pre .1 .0) (omega arith) in
+    let q = place-below (now (a .order)) (length (now (a .order))) (l .i) (s .pre .1 .0) (omega arith) in
     (l .inv .1 .grid .rows, (omega (arith, l .inv .1 .grid .rows .size, s .pre .0 .size), s .pre .1 .1 .0 .1, omega (arith, q), omega arith, s .pre .1 .1 .1 .2, s .pre .1 .1 .1 .1))
 
 add-i : tie.Need-add-i Inv-loop μ-loop

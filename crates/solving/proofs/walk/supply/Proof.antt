@@ -1,6 +1,7 @@
 -- Each turn walks one place more (`supply-turn`); a place passed over finds a trit (`supply-room`).
 -- Assumes nothing.
-use Rattle.solving.proofs.Supplied.{Walked, walked-none, passed-nil, passed-count, place-below, supply-room, supply-turn}
+use Rattle.solving.proofs.Fronts.{place-below}
+use Rattle.solving.proofs.Supplied.{Walking, walking-none, passed-nil, passed-count, supply-room, supply-turn}
 use Rattle.solving.specs.Walk.{passed}
 use Rattle.matrix.specs.Linear.{fill}
 use Rattle.trits.specs.Rows.{matrixAt}
@@ -14,7 +15,7 @@ use Rattle.solving.proofs.walk.supply.Statement.{statement}
 use Rattle.solving.proofs.walk.supply.Tie as tie
 
 abbrev Inv-loop : tie.InvT-loop
-Inv-loop ones₀ twos₀ rows w r order m vo vt e c₀ i₀ ones twos c i = (i ≤ m) × Walked rows w r e (matrixAt w ones₀ twos₀) (fill (passed r (matrixAt w ones₀ twos₀) 0 (take i order)) (tritAt vo vt) ((matrixAt w ones₀ twos₀) e)) (take i order) c ones twos
+Inv-loop ones₀ twos₀ rows w r order m vo vt e c₀ i₀ ones twos c i = (i ≤ m) × Walking rows w r e (matrixAt w ones₀ twos₀) (fill (passed r (matrixAt w ones₀ twos₀) 0 (take i order)) (tritAt vo vt) ((matrixAt w ones₀ twos₀) e)) (take i order) c ones twos
 
 abbrev μ-loop : tie.MeasureT-loop
 μ-loop ones₀ twos₀ rows w r order m vo vt e c₀ i₀ ones twos c i = m - i
@@ -23,7 +24,7 @@ loop-holds : tie.Need-loop-holds Inv-loop μ-loop
 loop-holds c =
     let s = c .before .before .before .before .before in
     let a = s .args in
-    (omega arith, walked-none (a .e) (now (a .order)) (λ B. passed (a .r) B 0 (take 0 (now (a .order)))) (tritAt (now (a .vo)) (now (a .vt))) (s .pre .0) (passed-nil (a .r) (matrixAt (a .w) (now (a .ones)) (now (a .twos))) (now (a .order))))
+    (omega arith, walking-none (a .e) (now (a .order)) (λ B. passed (a .r) B 0 (take 0 (now (a .order)))) (tritAt (now (a .vo)) (now (a .vt))) (s .pre .0) (passed-nil (a .r) (matrixAt (a .w) (now (a .ones)) (now (a .twos))) (now (a .order))))
 
 mul-q : tie.Need-mul-q Inv-loop μ-loop
 mul-q c = omega arith
@@ -47,7 +48,7 @@ supply-place-requires c κs =
     let s = c .before .before .before .before .before .before .before .before .before .before in
     let a = s .args in
     let l = c .before .before .before .before .loop in
-    let q = place-below (now (a .order)) (l .i) (s .pre .1 .1 .0) (omega arith) in (
+    let q = place-below (now (a .order)) (length (now (a .order))) (l .i) (s .pre .1 .1 .0) (omega arith) in (
       l .inv .1 .grid .rows,
       (
         s .pre .1 .0,

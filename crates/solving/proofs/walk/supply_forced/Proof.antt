@@ -1,6 +1,7 @@
 -- Each turn puts the value of one place more of the last part (`forced-turn`); row ev is not the row that changes.
 -- Assumes nothing.
-use Rattle.solving.proofs.Supplied.{forcedAt, forced-start, forced-turn, forced-all, place-below}
+use Rattle.solving.proofs.Fronts.{place-below}
+use Rattle.solving.proofs.Supplied.{forcedAt, forced-start, forced-turn, forced-all}
 use Rattle.elimination.specs.Grid.{Grid, putRow}
 use Rattle.matrix.specs.Linear.{fill}
 use Rattle.trits.specs.Rows.{matrixAt}
@@ -42,14 +43,14 @@ add-j : tie.Need-add-j Inv-loop μ-loop
 add-j c =
     let s = c .before .before .before .before .before .before .before .before .before .before .before .before in
     let p = s .pre .1 .1 .1 in
-    omega (arith, p .0 .1, p .0 .2, p .1 .3)
+    omega (arith, p .0 .1, p .0 .2, p .0 .3, p .1 .3)
 
 force-place-requires : tie.Need-force-place-requires Inv-loop μ-loop
 force-place-requires c κs =
     let s = c .before .before .before .before .before .before .before .before .before .before .before .before .before .before in
     let a = s .args in
     let l = c .before .before .before .before .loop in
-    let q = place-below (now (a .order)) (l .i) (s .pre .1 .1 .0) (omega arith) in
+    let q = place-below (now (a .order)) (length (now (a .order))) (l .i) (s .pre .1 .1 .0) (omega arith) in
     (l .inv .1 .rows, (s .pre .1 .0, (omega (arith, l .inv .1 .rows .size, s .pre .0 .size), omega (arith, q), s .pre .1 .1 .1 .0 .4, s .pre .1 .1 .1 .0 .5, omega (arith, q), omega (arith, q), omega arith)))
 
 add-i : tie.Need-add-i Inv-loop μ-loop

@@ -3,3 +3,4 @@ pub mod Walked
 pub mod Fronts
 pub mod Puts
 pub mod Supplied
+pub mod HalfWords

@@ -11,11 +11,11 @@ use Rattle.trits.specs.Planes.{tritAt}
 use Rattle.packing.specs.Packed.{packedRow}
 use Rattle.matrix.specs.Linear.{Vector}
 use Rattle.verdict.proofs.FullWord.{extends-once}
-use Rattle.checker.specs.declared.state.Held.{Held}
-use Rattle.checker.specs.Held.{sound, rowTrits, heldKey}
-use Rattle.checker.specs.Check.{checkRefusal, checkPackedRefusal, answered, checkAnswer, checkPackedAnswer}
-use Rattle.checker.proofs.Sizes.{sizes}
-use Rattle.checker.proofs.Passed.{check-passed, check-packed-passed}
+use Rattle.heldkey.specs.declared.state.Held.{Held}
+use Rattle.heldkey.specs.Held.{sound, rowTrits, heldKey}
+use Rattle.checking.specs.Check.{checkRefusal, checkPackedRefusal, answered, checkAnswer, checkPackedAnswer}
+use Rattle.heldkey.proofs.Sizes.{sizes}
+use Rattle.checking.proofs.Passed.{check-passed, check-packed-passed}
 use Rattle.checker.proofs.Verdicts.{Found as Word, check-verdict, check-packed-verdict}
 use Rattle.wave.specs.Verifier.{Check, verdict, PackedCheck, packedVerdict, Extending, Found}
 

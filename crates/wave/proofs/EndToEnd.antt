@@ -25,13 +25,13 @@ use Rattle.matrix.proofs.Field.{not-false}
 use Rattle.matrix.proofs.Places.{or-false-left, or-false-right}
 use Rattle.verdict.specs.Verdict.{Key, fullWeight}
 use Rattle.verdict.proofs.FullWord.{weight-cong, weight-of}
-use Rattle.checker.specs.Held.{sizesFit as heldFits}
-use Rattle.checker.specs.declared.state.Held.{Held}
-use Rattle.checker.specs.declared.checking.Checked.{Checked}
-use Rattle.checker.specs.Held.{rowTrits}
-use Rattle.checker.specs.Load.{Kept, offerAll}
-use Rattle.checker.specs.Check.{callRefusal, planesLengths, planesContents, checkRefusal, checkPackedRefusal, answered, checkPackedAnswer}
-use Rattle.checker.proofs.Passed.{check-packed-passed, packed-contents}
+use Rattle.heldkey.specs.Held.{sizesFit as heldFits}
+use Rattle.heldkey.specs.declared.state.Held.{Held}
+use Rattle.checking.specs.declared.Checked.{Checked}
+use Rattle.heldkey.specs.Held.{rowTrits}
+use Rattle.heldkey.specs.Load.{Kept, offerAll}
+use Rattle.checking.specs.Check.{callRefusal, planesLengths, planesContents, checkRefusal, checkPackedRefusal, answered, checkPackedAnswer}
+use Rattle.checking.proofs.Passed.{check-packed-passed, packed-contents}
 use Rattle.checker.proofs.EndToEnd.{begun, offered, loaded}
 use Rattle.checker.proofs.Verdicts.{packed-agrees}
 use Rattle.signer.specs.declared.sizes.Sizes.{Sizes}

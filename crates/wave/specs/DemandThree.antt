@@ -7,7 +7,7 @@ use Prim.Native.Nat.{ℕ, _<_}
 use Rattle.trits.specs.Planes.{tritAt}
 use Rattle.packing.specs.Packed.{packedRow}
 use Rattle.matrix.specs.Linear.{Vector}
-use Rattle.checker.specs.Held.{rowTrits}
+use Rattle.heldkey.specs.Held.{rowTrits}
 use Rattle.signer.specs.declared.sizes.Sizes.{Sizes}
 use Rattle.signer.specs.Sizes.{sizesFit}
 use Rattle.calls.specs.BuildCall.{Lent as Build}

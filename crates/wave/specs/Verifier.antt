@@ -10,12 +10,12 @@ use Rattle.packing.specs.Packed.{bytesFor}
 use Rattle.packing.specs.Calls.{packExit}
 use Rattle.matrix.specs.Linear.{Vector}
 use Rattle.verdict.specs.Verdict.{HasSyndrome, Extends}
-use Rattle.checker.specs.declared.state.Held.{Held}
-use Rattle.checker.specs.declared.checking.Checked.{Checked}
-use Rattle.checker.specs.Held.{mostKeyNumber, rowTrits, heldKey}
-use Rattle.checker.specs.Store.{beginHeld}
-use Rattle.checker.specs.Load.{Kept, offerAll}
-use Rattle.checker.specs.Check.{checkAnswer, checkPackedAnswer}
+use Rattle.heldkey.specs.declared.state.Held.{Held}
+use Rattle.checking.specs.declared.Checked.{Checked}
+use Rattle.heldkey.specs.Held.{mostKeyNumber, rowTrits, heldKey}
+use Rattle.heldkey.specs.Store.{beginHeld}
+use Rattle.heldkey.specs.Load.{Kept, offerAll}
+use Rattle.checking.specs.Check.{checkAnswer, checkPackedAnswer}
 use Rattle.signer.specs.declared.sizes.Sizes.{Sizes}
 use Rattle.signer.specs.Sizes.{dim, codim}
 use Rattle.calls.specs.BuildCall.{Lent as Build, keyWords, keyOnesExit, keyTwosExit}

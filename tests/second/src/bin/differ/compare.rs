@@ -128,6 +128,9 @@ impl Comparer {
     }
 
     fn pairs_of(&mut self, case: &Case, all: &[(Fault, u64)]) {
+        if !self.archives.has(case.call) {
+            return;
+        }
         for (i, (a, _)) in all.iter().enumerate() {
             for (b, _) in &all[i + 1..] {
                 let mut pair = [*a, *b];

@@ -125,16 +125,11 @@ fn shapes(rng: &mut Rng, n: usize) -> Vec<Shape> {
     out
 }
 
-/// Builds and draws: every fault at sizes of every edge, pairs at some.
+/// Builds and draws: every fault at sizes of every edge, pairs at some. Draws that are not linked hold the second implementation to its refusals.
 pub fn editor(c: &mut Comparer) {
-    let draws = c.archives.has(Call::Draw);
     for n in PLACES {
         for (i, shape) in shapes(&mut c.rng, n).into_iter().enumerate() {
-            let mut list = vec![make::build(&mut c.rng, &shape)];
-            if draws {
-                list.push(make::draw(&mut c.rng, &shape));
-            }
-            for case in list {
+            for case in [make::build(&mut c.rng, &shape), make::draw(&mut c.rng, &shape)] {
                 c.singles(&case);
                 if i % 3 == 2 {
                     c.content_pairs(&case);
@@ -146,21 +141,30 @@ pub fn editor(c: &mut Comparer) {
     let mut wide: Vec<Shape> = WIDE.iter().map(|m| Shape::wide(&mut c.rng, *m)).collect();
     wide.extend([(8191, 8191, 8191), (8191, 8190, 0), (8190, 8191, 77)].map(|(ku, kv, g)| Shape { n: 16384, ku, kv, g }));
     for shape in wide {
-        let case = make::build(&mut c.rng, &shape);
-        c.singles(&case);
-        if draws {
-            let case = make::draw(&mut c.rng, &shape);
+        for case in [make::build(&mut c.rng, &shape), make::draw(&mut c.rng, &shape)] {
             c.singles(&case);
         }
     }
     for (n, ku, kv, g) in [(4, 1, 1, 0), (6, 1, 2, 1), (8, 3, 2, 1), (130, 32, 31, 5)] {
         let shape = Shape { n, ku, kv, g };
-        let case = make::build(&mut c.rng, &shape);
-        c.pairs(&case);
-        if draws {
-            let case = make::draw(&mut c.rng, &shape);
+        for case in [make::build(&mut c.rng, &shape), make::draw(&mut c.rng, &shape)] {
             c.pairs(&case);
         }
+    }
+}
+
+/// Builds and draws of many rows, each of them long.
+pub fn many_rows(c: &mut Comparer, long: bool) {
+    let sizes: &[usize] = if long { &[510, 642, 1072, 1410, 2144] } else { &[510, 642] };
+    for n in sizes {
+        let half = n / 2;
+        let shape = Shape { n: *n, ku: half / 2 - 1, kv: half / 3, g: half / 10 };
+        let case = make::build(&mut c.rng, &shape);
+        c.compare(&case, &[]);
+        let mut case = make::draw(&mut c.rng, &shape);
+        c.compare(&case, &[]);
+        case.numbers[4] -= 1;
+        c.compare(&case, &[]);
     }
 }
 

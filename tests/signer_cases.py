@@ -1,9 +1,11 @@
 #!/usr/bin/env python3
-"""What the programs `build_cases` and `draw_cases` must print, worked out from the paper's rules on lists of trits; it shares nothing with the crates.
+"""What the programs `build_cases`, `draw_cases` and `sign_lines` must print, worked out from the paper's rules on lists of trits; it shares nothing with the crates.
 
 A plane is one whole number whose bit i is place i, cut into words of 64 bits; a row begins a new word. Each call tests in the paper's order: 1, every
-length (2), the contents buffer after buffer (3, 4, 8, 7), then 9 and 10, or 12, 13 and 14. Usage: signer_cases.py build | draw"""
+length (2), the contents buffer after buffer (3, 4, 8, 7), then 9 and 10, or 12, 13 and 14. Usage: signer_cases.py build | draw | sign"""
 import itertools
+import os
+import re
 import sys
 
 
@@ -415,7 +417,42 @@ def draw_cases():
                     print("".join(f" {x}" for x in meeting(z, PAPER, p, R, [syndrome % 3, syndrome // 3])))
 
 
+# ---- the sample that joins the halves
+
+def numbers_of(path):
+    """The numbers that the sample keeps its secret in."""
+    text = open(path).read()
+    return {name: [int(x) for x in re.findall(r"\d+", body)] for name, body in re.findall(r"const (\w+): \[\w+; \d+\] = \[([^\]]*)\]", text)}
+
+
+def digits(trits):
+    return "".join(map(str, trits))
+
+
+def sign_lines():
+    z = n, ku, kv, g, w = 64, 16, 10, 2, 52
+    kept = numbers_of(os.path.join(os.path.dirname(__file__), "../crates/sign_lines/src/secret.rt"))
+    secret = [kept[name] for name in ("HU_ONES", "HU_TWOS", "HV_ONES", "HV_TWOS", "B_ONES", "B_TWOS", "C_ONES", "C_TWOS")]
+    y = rows_of(kept["Y_ONES"], kept["Y_TWOS"], 1, n - ku - kv)[0]
+    _, p, R = built(z, secret, kept["START"])
+    for x in range(1000):
+        bytes_ = [x]
+        for _ in range(2):
+            bytes_.append((75 * bytes_[-1] + 74) % 65537)
+        v = [byte % 243 // 3 ** i % 3 for byte in bytes_[1:] for i in range(5)]
+        last = bytes_[-1]
+        values = (75 * last + 74) % 65537 % 65536
+        u = [1 if values >> j & 1 else 2 for j in range(ku)]
+        code, e = drawn(z, secret, p, y, sample_order(32, 2 * (x % 16) + 1, x % 32), v, sample_order(32, 2 * (last % 16) + 1, last % 32), u)
+        if code == 0:
+            break
+    print("P", 7, n, ku + kv, w, sep="\t")
+    for row in R:
+        print("K", digits(row), sep="\t")
+    print("S", 7, 12, digits(y), digits(e[n - ku - kv:]), sep="\t")
+
+
 WIDE = [((132, 64, 63), 41, 0, 132), ((132, 64, 63), 41, 1, 132), ((132, 30, 31), 51, 0, 102), ((132, 30, 31), 51, 7, 102), ((132, 30, 31), 51, 7, 103), ((132, 30, 31), 51, 30, 95)]
 
 if __name__ == "__main__":
-    {"build": build_cases, "draw": draw_cases}[sys.argv[1]]()
+    {"build": build_cases, "draw": draw_cases, "sign": sign_lines}[sys.argv[1]]()

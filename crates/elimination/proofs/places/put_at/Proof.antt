@@ -4,9 +4,9 @@ use native.Mathlib.Omega.{arith}
 use borrow.Author.Needs.{needs}
 use Rattle.trits.specs.Trit.{tritOf}
 use Rattle.trits.proofs.Matrix.{row-le}
 use Rattle.elimination.proofs.RowParts.{put-cell}
-use Rattle.pairing.proofs.places.put_at.Statement.{statement}
-use Rattle.pairing.proofs.places.put_at.Tie as tie
+use Rattle.elimination.proofs.places.put_at.Statement.{statement}
+use Rattle.elimination.proofs.places.put_at.Tie as tie
 
 mul-put-trit : tie.Need-mul-put-trit
 mul-put-trit c =

@@ -1,24 +1,21 @@
 -- Flags that say which places stand in an order, and the test for a zero. Assumes nothing.
-use mathlib.Core.Path.{_≡_, refl, sym, ap, _∙_, subst₂}
+use mathlib.Core.Path.{_≡_, refl, sym, ap, _∙_}
 use mathlib.Core.Bool.{Bool, true, false, not, _&&_, _||_, cond}
 use mathlib.Core.List.{List, [], _∷_}
 use Prim.Native.Nat.{ℕ, _+_, _≤_, _<_}
-use native.Mathlib.Nat.{zero-add}
 use native.Mathlib.Numerals.{add-one}
 use native.Mathlib.Decide.{decLt, ℕ-discrete}
 use native.Mathlib.Omega.{arith}
 use borrow.Author.Tests.{eq-eqb, ne-eqb, lt-ltb, le-ltb}
 use lib.Dec.{eqb, ltb}
 use lib.ListN.{length, getD, set, take, replicate, getD-replicate, length-set}
-use lib.Seq.{ext-getD, take-suc, take-all, getD-set-same, getD-set-other}
+use lib.Seq.{take-suc, take-all, getD-set-same, getD-set-other}
 use Rattle.trits.specs.Trit.{Trit, t0, t1, t2, anyTo, isSet, number}
-use Rattle.trits.proofs.Patches.{Patched}
 use Rattle.trits.proofs.Tests.{any-cong, any-found, any-passed}
 use Rattle.matrix.specs.Linear.{Vector, elem}
 use Rattle.matrix.specs.Orders.{isOrder}
 use Rattle.matrix.proofs.Places.{elem-append}
-use Rattle.elimination.specs.Grid.{Rows}
-use Rattle.builder.specs.Call.{flag, Marked, markPlace, allSet, hasZero}
+use Rattle.calls.specs.Lent.{flag, Marked, markPlace, allSet, hasZero}
 
 -- ---- marks
 
@@ -129,12 +126,3 @@ module _ (v : Vector) (m i : ℕ) {x : ℕ} (r : x ≡ number (v i)) where
 pub zero-none : (v : Vector) (m i : ℕ) → i ≡ m → anyTo (isZero v) i ≡ false → false ≡ hasZero m v
 unfolding hasZero
 zero-none v m i e a = sym (ap (anyTo (isZero v)) (sym e) ∙ a)
-
--- ---- copies
-
-pub copy-done : {src d₀ d : List ℕ} {k : ℕ} → Patched (λ j. getD src j 0) 0 k d₀ d → length src ≡ length d₀ → length d₀ ≤ k → d ≡ src
-copy-done {src} {d₀} {d} {k} p e h =
-    ext-getD 0 d src (p .kept ∙ sym e) (λ i l. ap (λ (z : ℕ). getD d z 0) (sym (zero-add i)) ∙ p .new i (omega (arith, p .kept)))
-
-pub copied-rows : {o t o′ t′ : List ℕ} {r w : ℕ} → o′ ≡ o → t′ ≡ t → Rows o t r w → Rows o′ t′ r w
-copied-rows {r = r} {w} e f g = subst₂ (λ (a b : List ℕ). Rows a b r w) (sym e) (sym f) g

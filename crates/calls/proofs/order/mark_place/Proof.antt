@@ -3,9 +3,9 @@
 use mathlib.Core.Path.{refl}
 use native.Mathlib.Omega.{arith}
 use lib.ListN.{length-set}
-use Rattle.builder.proofs.Marks.{mark-in, mark-out}
-use Rattle.builder.proofs.order.mark_place.Statement.{statement}
-use Rattle.builder.proofs.order.mark_place.Tie as tie
+use Rattle.calls.proofs.Marks.{mark-in, mark-out}
+use Rattle.calls.proofs.order.mark_place.Statement.{statement}
+use Rattle.calls.proofs.order.mark_place.Tie as tie
 
 slice-write-flags : tie.Need-slice-write-flags
 slice-write-flags c =

@@ -5,9 +5,9 @@ use native.Mathlib.Omega.{arith}
 use borrow.Author.Needs.{needs}
 use lib.ListN.{length}
 use denote.Ref.{now}
-use Rattle.builder.proofs.Marks.{marked-none, marked-order}
-use Rattle.builder.proofs.order.is_order.Statement.{statement}
-use Rattle.builder.proofs.order.is_order.Tie as tie
+use Rattle.calls.proofs.Marks.{marked-none, marked-order}
+use Rattle.calls.proofs.order.is_order.Statement.{statement}
+use Rattle.calls.proofs.order.is_order.Tie as tie
 
 slice-aggregate-mark-places : tie.Need-slice-aggregate-mark-places
 slice-aggregate-mark-places c = search needs

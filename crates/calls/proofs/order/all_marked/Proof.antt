@@ -6,9 +6,9 @@ use native.Mathlib.Omega.{arith}
 use denote.Ref.{now}
 use mathlib.Core.Bool.{false}
 use Rattle.trits.specs.Trit.{anyTo}
-use Rattle.builder.proofs.Marks.{clear, clear-found, clear-passed, clear-none}
-use Rattle.builder.proofs.order.all_marked.Statement.{statement}
-use Rattle.builder.proofs.order.all_marked.Tie as tie
+use Rattle.calls.proofs.Marks.{clear, clear-found, clear-passed, clear-none}
+use Rattle.calls.proofs.order.all_marked.Statement.{statement}
+use Rattle.calls.proofs.order.all_marked.Tie as tie
 
 abbrev Inv-loop : tie.InvT-loop
 Inv-loop flags n i₀ i =

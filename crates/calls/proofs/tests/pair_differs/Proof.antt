@@ -1,8 +1,8 @@
 -- By the two tests, one after the other.
 -- Assumes nothing.
 use borrow.Author.Tests.{eq-eqb, ne-eqb}
-use Rattle.builder.proofs.tests.pair_differs.Statement.{statement}
-use Rattle.builder.proofs.tests.pair_differs.Tie as tie
+use Rattle.calls.proofs.tests.pair_differs.Statement.{statement}
+use Rattle.calls.proofs.tests.pair_differs.Tie as tie
 
 returns : tie.Need-returns
 returns c =

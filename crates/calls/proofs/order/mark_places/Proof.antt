@@ -5,10 +5,10 @@ use mathlib.Core.Path.{_≡_, refl, ap, _∙_}
 use native.Mathlib.Omega.{arith}
 use lib.ListN.{length, getD, take}
 use denote.Ref.{now}
-use Rattle.builder.specs.Call.{Marked}
-use Rattle.builder.proofs.Marks.{mark-length, marked-turn, marked-all}
-use Rattle.builder.proofs.order.mark_places.Statement.{statement}
-use Rattle.builder.proofs.order.mark_places.Tie as tie
+use Rattle.calls.specs.Lent.{Marked}
+use Rattle.calls.proofs.Marks.{mark-length, marked-turn, marked-all}
+use Rattle.calls.proofs.order.mark_places.Statement.{statement}
+use Rattle.calls.proofs.order.mark_places.Tie as tie
 
 abbrev Inv-loop : tie.InvT-loop
 Inv-loop order n flags₀ i₀ flags i =

@@ -1,0 +1,2 @@
+-- The laws: the working space.
+pub mod Space

@@ -1,0 +1,2 @@
+// One draw: the call, and its tests.
+pub mod tests; // lengths and contents

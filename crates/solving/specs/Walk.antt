@@ -5,7 +5,7 @@ use mathlib.Core.List.{List, [], _∷_}
 use mathlib.Core.Logic.{_≢_}
 use Prim.Native.Nat.{ℕ, suc, _≤_}
 use lib.Dec.{ltb}
-use Rattle.trits.specs.Trit.{isSet}
+use Rattle.trits.specs.Trit.{Trit, subT, mulT, isSet}
 use Rattle.matrix.specs.Linear.{Vector, Matrix}
 
 -- the rows below r are those of B, the others those of A
@@ -30,3 +30,7 @@ passed r A c (q ∷ qs) = cond (isNext r A c q) (passed r A (suc c) qs) (q ∷ p
 pub record Solved (r x e : ℕ) (A B : Matrix) (v : Vector) : Type 0 where
   pub word : B e ≡ v
   pub kept : (k : ℕ) → r ≤ k → k ≢ x → k ≢ e → B k ≡ A k
+
+-- what a place of the last part of U takes, with the vectors b and c of the secret: (c-b)·e_V where e_V is not 0, else the supplied value x
+abbrev pub forcedBy : Vector → Vector → Vector → ℕ → Trit → Trit
+forcedBy b c eV q x = cond (isSet (eV q)) (mulT (subT (c q) (b q)) (eV q)) x

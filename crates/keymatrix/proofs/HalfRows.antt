@@ -1,25 +1,20 @@
 -- Half-rows of the secret matrix: the row operations that make them, and the matrix when some are made. Assumes nothing.
-use mathlib.Core.Path.{_≡_, sym, ap, ap₂, _∙_, subst, fun-ext}
+use mathlib.Core.Path.{_≡_, sym, ap, ap₂, _∙_, fun-ext}
 use mathlib.Core.Bool.{Bool, _&&_, cond, and-false}
 use mathlib.Core.List.{List}
-use Prim.Native.Nat.{ℕ, _+_, _-_, _*_, _/_, _%_, _≤_, _<_}
+use Prim.Native.Nat.{ℕ, _+_, _-_, _/_, _%_, _≤_, _<_}
 use native.Mathlib.Decide.{decLt, ℕ-discrete}
 use native.Mathlib.Omega.{arith}
 use borrow.Author.Tests.{eq-eqb, ne-eqb, lt-ltb, le-ltb, lt-leb, le-leb}
-use borrow.Rule.Slice.PartMut.{putMid}
 use lib.Dec.{eqb, leb, ltb}
 use lib.ListN.{length}
-use Rattle.trits.specs.Trit.{Trit, t0, t1, addT, mulT, negT, negV, zipV, zipAt}
-use Rattle.trits.specs.Planes.{tritAt, Row, Reads}
-use Rattle.trits.specs.Rows.{matrixAt, rowPart}
+use Rattle.trits.specs.Trit.{Trit, t0, t1, addT, mulT, negT, negV, zipV}
+use Rattle.trits.specs.Planes.{tritAt, Reads}
+use Rattle.trits.specs.Rows.{matrixAt}
 use Rattle.trits.proofs.Arithmetic.{law2, law3}
-use Rattle.trits.proofs.Reading.{read-past}
-use Rattle.trits.proofs.Parts.{part-back}
-use Rattle.trits.proofs.Matrix.{row-le, part-reads, part-length, part-trits}
 use Rattle.matrix.specs.Linear.{Vector, Matrix}
-use Rattle.elimination.specs.Grid.{Rows, Grid, putRow}
+use Rattle.elimination.specs.Grid.{Grid, putRow}
 use Rattle.elimination.proofs.Cells.{grid-to}
-use Rattle.elimination.proofs.Joins.{row-op}
 use Rattle.keymatrix.specs.Work.{scaledBy, negativeBy, halvesIn}
 
 -- ---- the products
@@ -35,10 +30,6 @@ scaled-past b c h q e = law2 (λ x y. t0) (λ x y. mulT (addT t1 (mulT x y)) t0)
 
 pub negative-past : (v h : Vector) (q : ℕ) → h q ≡ t0 → t0 ≡ negativeBy v h q
 negative-past v h q e = law2 (λ x y. t0) (λ x y. negT (mulT x t0)) tt (v q) (v q) ∙ ap (λ (x : Trit). negT (mulT (v q) x)) (sym e)
-
--- planes after both were copied
-pub copied-row : {o t h k : List ℕ} → o ≡ h → t ≡ k → Row h k → Row o t
-copied-row {o} {t} {h} {k} p q r = subst (λ (l : List ℕ). Row l t) (sym p) (subst (λ (l : List ℕ). Row h l) (sym q) r)
 
 module _ {ho ht o t o₂ t₂ : List ℕ} {n : ℕ} (v : Vector) (e : o ≡ ho) (f : t ≡ ht) (l : length ho ≡ n) (m : Reads o₂ t₂ (length o) (zipV mulT (tritAt o t) v)) where
   times : tritAt o₂ t₂ ≡ zipV mulT (tritAt ho ht) v
@@ -58,36 +49,6 @@ module _ {ho ht o t o₂ t₂ : List ℕ} {n : ℕ} (v : Vector) (e : o ≡ ho) 
     size = s .size ∙ d .size ∙ m .size ∙ ap length e ∙ l;
     trits = s .trits ∙ ap (λ (u : Vector). zipV addT u (tritAt ho ht)) (d .trits ∙ ap (λ (u : Vector). zipV mulT u c) times) ∙ scaled-trits (tritAt ho ht) v c;
   }
-
--- ---- a row of H that was handed out
-
-module _ {o t ho ht : List ℕ} (rows w i : ℕ) (g : Rows ho ht rows w) (h : i < rows) (e : o ≡ rowPart ho rows w i) (f : t ≡ rowPart ht rows w i) where
-  pub handed-row : Row o t
-  handed-row = copied-row e f (part-reads rows w i (g .row) (g .size) h)
-
-  pub handed-size : length o ≡ w
-  handed-size = ap length e ∙ part-length ho rows w i (g .size) h
-
-  pub handed-trits : tritAt o t ≡ matrixAt w ho ht i
-  handed-trits = ap₂ tritAt e f ∙ fun-ext (λ q. part-trits rows w i (g .row) (g .size) h q)
-
--- ---- a row that a part came back with
-
-module _ {o₀ t₀ : List ℕ} {r : ℕ} (w j : ℕ) (g : Rows o₀ t₀ r w) (h : j < r) where
-  pub put-grid : {ys zs : List ℕ} {n : ℕ} {v : Vector} (k : ℕ) → k ≡ w → n ≡ k → Reads ys zs n v → ((q : ℕ) → 64 * w ≤ q → t0 ≡ v q)
-      → Grid (putMid (j * w) k o₀ ys) (putMid (j * w) k t₀ zs) r w (putRow j v (matrixAt w o₀ t₀))
-  put-grid {ys} {zs} {n} {v} k e f s past =
-      let le : j * w + w ≤ length o₀ = omega (arith, row-le w h, g .size) in
-      row-op g (λ a b. b) v j (putRow j v (matrixAt w o₀ t₀))
-      (subst (λ (n : ℕ). Reads (putMid (j * w) k o₀ ys) (putMid (j * w) k t₀ zs) (length o₀) (zipAt (λ a b. b) (tritAt o₀ t₀) v (j * w) n)) e
-      (part-back (g .row) (j * w) k (omega arith) (subst (λ (n : ℕ). Reads ys zs n v) f s)))
-      (λ n q d l. rw (eq-eqb n j d))
-      (λ n q f. rw (ne-eqb n j f))
-      (λ n q d l. past q l ∙ rw (eq-eqb n j d))
-
--- a row has 0 past its words
-pub past-words : {o t : List ℕ} (w : ℕ) → Row o t → length o ≡ w → (q : ℕ) → 64 * w ≤ q → tritAt o t q ≡ t0
-past-words {o} {t} w r e q l = read-past o t w q e (r .same ∙ e) l
 
 -- ---- row after row
 

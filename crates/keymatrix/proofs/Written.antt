@@ -1,60 +1,22 @@
 -- The key's rows, written one after another: each is read down one column. Assumes nothing.
-use mathlib.Core.Path.{_≡_, refl, sym, ap, ap₂, _∙_, subst, fun-ext}
-use mathlib.Core.Bool.{Bool, cond}
+use mathlib.Core.Path.{_≡_, refl, sym, ap, ap₂, _∙_, subst}
 use mathlib.Core.List.{List, [], _∷_, _++_, append-nil, append-assoc}
-use Prim.Native.Nat.{ℕ, zero, suc, _+_, _-_, _*_, _<_}
+use Prim.Native.Nat.{ℕ, zero, suc, _+_, _*_, _<_}
 use native.Mathlib.Nat.{suc-mul}
 use native.Mathlib.Numerals.{add-one}
-use native.Mathlib.Decide.{decLt, ℕ-discrete}
 use native.Mathlib.Omega.{arith}
-use borrow.Author.Tests.{eq-eqb, ne-eqb}
 use borrow.Rule.Slice.PartMut.{putMid}
 use lib.ListN.{length, getD, take, drop, length-append, drop-of-length-le}
 use lib.Seq.{drop-drop}
-use Rattle.trits.specs.Trit.{Trit, t0, t1, t2, number, tritOf, putV, upTo}
-use Rattle.trits.specs.Planes.{tritAt, Reads, onesOf, twosOf}
+use Rattle.trits.specs.Trit.{upTo}
+use Rattle.trits.specs.Planes.{onesOf, twosOf}
 use Rattle.trits.specs.Rows.{matrixAt}
 use Rattle.trits.proofs.Reading.{length-ones, length-twos}
-use Rattle.trits.proofs.Ends.{upto-in, upto-out, upto-same}
-use Rattle.matrix.specs.Linear.{Vector, Matrix, column}
-use Rattle.elimination.proofs.Cells.{cell}
+use Rattle.trits.proofs.Ends.{upto-same}
+use Rattle.matrix.specs.Linear.{Matrix, column}
 use Rattle.signer.specs.Build.{rowOfR}
 use Rattle.keymatrix.specs.Work.{colOf, placedAt, Keyed, readDown, keyOnes, keyTwos}
 use Rattle.elimination.specs.Grid.{rowsOf}
-
--- ---- one column, trit by trit
-
-number-lt : (x : Trit) → number x < 3
-number-lt t0 = omega arith
-number-lt t1 = omega arith
-number-lt t2 = omega arith
-
-number-back : (x : Trit) → tritOf (number x) ≡ x
-number-back t0 = refl
-number-back t1 = refl
-number-back t2 = refl
-
-pub read-lt : (o t : List ℕ) (p x : ℕ) → x ≡ number (tritAt o t p) → x < 3
-read-lt o t p x e = omega (arith, number-lt (tritAt o t p), e)
-
-pub read-column : (w : ℕ) (o t : List ℕ) (i q x : ℕ) → q < 64 * w → x ≡ number (tritAt o t (64 * (i * w) + q)) → tritOf x ≡ matrixAt w o t i q
-read-column w o t i q x h e = ap tritOf e ∙ number-back (tritAt o t (64 * (i * w) + q)) ∙ sym (cell w o t i q h)
-
-upto-more : (v : Vector) (i : ℕ) → putV (upTo i v) i (v i) ≡ upTo (i + 1) v
-upto-more v i = fun-ext (λ p. by p (ℕ-discrete p i) (decLt p i))
-  where
-    by : (p : ℕ) → Dec (p ≡ i) → Dec (p < i) → putV (upTo i v) i (v i) p ≡ upTo (i + 1) v p
-    by p (yes e) d = ap (λ (t : Bool). cond t (v i) (upTo i v p)) (eq-eqb p i e) ∙ ap v (sym e) ∙ sym (upto-in v (i + 1) p (omega arith))
-    by p (no f) (yes l) = ap (λ (t : Bool). cond t (v i) (upTo i v p)) (ne-eqb p i f) ∙ upto-in v i p l ∙ sym (upto-in v (i + 1) p (omega arith))
-    by p (no f) (no l) = ap (λ (t : Bool). cond t (v i) (upTo i v p)) (ne-eqb p i f) ∙ upto-out v i p (omega arith) ∙ sym (upto-out v (i + 1) p (omega arith))
-
-pub column-turn : {os ts o t : List ℕ} {n : ℕ} (v : Vector) (i x : ℕ) → Reads os ts n (upTo i v) → tritOf x ≡ v i → Reads o t (length os) (putV (tritAt os ts) i (tritOf x))
-    → Reads o t n (upTo (i + 1) v)
-column-turn v i x r e g = record {
-  row = g .row;
-  size = g .size ∙ r .size;
-  trits = g .trits ∙ ap₂ (λ (f : Vector) (y : Trit). putV f i y) (r .trits) e ∙ upto-more v i;
-}
 
 -- ---- rows of words, one after another
 

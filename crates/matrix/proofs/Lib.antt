@@ -12,6 +12,7 @@ pub mod Places
 pub mod Search
 pub mod Greedy
 pub mod Orders
+pub mod Sums
 pub mod Counts
 pub mod Rank
 pub mod Solutions

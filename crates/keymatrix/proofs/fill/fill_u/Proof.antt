@@ -11,7 +11,8 @@ use Rattle.matrix.specs.Linear.{Vector}
 use Rattle.elimination.specs.Grid.{Grid}
 use Rattle.elimination.proofs.Cells.{grid-of}
 use Rattle.keymatrix.specs.Work.{scaledBy, negativeBy, halvesIn, leftU, rightU}
-use Rattle.keymatrix.proofs.HalfRows.{handed-row, handed-size, handed-trits, halves-none, halves-turn, halves-done}
+use Rattle.elimination.proofs.RowParts.{handed-row, handed-size, handed-trits}
+use Rattle.keymatrix.proofs.HalfRows.{halves-none, halves-turn, halves-done}
 use Rattle.keymatrix.proofs.fill.fill_u.Statement.{statement}
 use Rattle.keymatrix.proofs.fill.fill_u.Tie as tie
 

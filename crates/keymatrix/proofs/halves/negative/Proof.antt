@@ -5,7 +5,8 @@ use borrow.Author.Needs.{needs}
 use lib.ListN.{length}
 use denote.Ref.{now}
 use Rattle.trits.specs.Planes.{tritAt}
-use Rattle.keymatrix.proofs.HalfRows.{copied-row, negative-done}
+use Rattle.elimination.proofs.RowParts.{copied-row}
+use Rattle.keymatrix.proofs.HalfRows.{negative-done}
 use Rattle.keymatrix.proofs.halves.negative.Statement.{statement}
 use Rattle.keymatrix.proofs.halves.negative.Tie as tie
 

@@ -9,7 +9,7 @@ use denote.Ref.{now}
 use Rattle.trits.specs.Planes.{tritAt}
 use Rattle.trits.proofs.Matrix.{row-le}
 use Rattle.trits.proofs.Parts.{length-mid}
-use Rattle.keymatrix.proofs.HalfRows.{put-grid, past-words, copied-row}
+use Rattle.elimination.proofs.RowParts.{put-grid, past-words, copied-row}
 use Rattle.keymatrix.proofs.halves.put_copy.Statement.{statement}
 use Rattle.keymatrix.proofs.halves.put_copy.Tie as tie
 

@@ -7,7 +7,8 @@ use denote.Ref.{now}
 use Rattle.trits.specs.Planes.{tritAt}
 use Rattle.trits.proofs.Matrix.{row-le}
 use Rattle.trits.proofs.Parts.{length-mid}
-use Rattle.keymatrix.proofs.HalfRows.{put-grid, past-words, scaled-past}
+use Rattle.elimination.proofs.RowParts.{put-grid, past-words}
+use Rattle.keymatrix.proofs.HalfRows.{scaled-past}
 use Rattle.keymatrix.proofs.halves.put_scaled.Statement.{statement}
 use Rattle.keymatrix.proofs.halves.put_scaled.Tie as tie
 

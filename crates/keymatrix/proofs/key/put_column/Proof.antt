@@ -10,7 +10,7 @@ use Rattle.trits.specs.Planes.{Reads}
 use Rattle.trits.specs.Rows.{matrixAt}
 use Rattle.trits.proofs.Matrix.{row-le}
 use Rattle.matrix.specs.Linear.{column}
-use Rattle.keymatrix.proofs.Written.{read-lt, read-column, column-turn}
+use Rattle.elimination.proofs.RowParts.{read-lt, read-column, column-turn}
 use Rattle.keymatrix.proofs.key.put_column.Statement.{statement}
 use Rattle.keymatrix.proofs.key.put_column.Tie as tie
 

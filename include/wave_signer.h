@@ -1,4 +1,4 @@
-/* The editor's half for a host in C: the build of a key, and one draw.
+/* The editor's half for a host in C: the build of a key, and one draw. The archive of the crate `builder` has wave_build, that of `drawing` wave_draw; a host links either or both.
    Each plane is a pointer and a count of 64-bit words, an order a pointer and a count of 16-bit numbers; ones come before twos. The counts must be exact.
    A call answers 0, or the number of the refusal. It keeps nothing, and reads and writes only what it is lent; no two buffers may overlap where one of them is written to.
    With N = n/2, r_U = N - ku, r_V = N - kv, k = ku + kv, and words(m) = (m + 63) / 64, a plane has

@@ -105,15 +105,16 @@ fn draw(p: &[u16], x: u64, s_ones: &mut [u64], s_twos: &mut [u64]) -> u64 {
     )
 }
 
-// Draws until a word is released, at most a thousand times.
-fn sign(p: &[u16], s_ones: &mut [u64], s_twos: &mut [u64]) -> u64 {
-    let mut answer: u64 = 14;
+// Draws until a word is released, at most a thousand times; whether one was.
+fn sign(p: &[u16], s_ones: &mut [u64], s_twos: &mut [u64]) -> bool {
     let mut tries: u64 = 0;
-    while answer != 0 && tries < 1000 {
-        answer = draw(p, tries, s_ones, s_twos);
+    while tries < 1000 {
+        if draw(p, tries, s_ones, s_twos) == 0 {
+            return true;
+        }
         tries += 1;
     }
-    answer
+    false
 }
 
 // The key's rows, one line for each.
@@ -136,7 +137,7 @@ fn main() {
     if build(&mut p, &mut key_ones, &mut key_twos) != 0 {
         return;
     }
-    if sign(&p, &mut s_ones, &mut s_twos) != 0 {
+    if !sign(&p, &mut s_ones, &mut s_twos) {
         return;
     }
     io::write_all(STDOUT_FILENO, b"P\t7\t64\t26\t52\n");

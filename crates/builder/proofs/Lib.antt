@@ -1,5 +1,5 @@
--- The laws: the tests of lengths and contents.
-pub mod Marks
+-- The laws: copies, lengths and ranks, the released key, the answer.
+pub mod Copies
 pub mod Lengths
 pub mod Released
 pub mod Answers

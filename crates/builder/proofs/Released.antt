@@ -8,7 +8,7 @@ use borrow.Author.Tests.{eqb-true}
 use lib.Dec.{eqb, lit<}
 use lib.ListN.{length}
 use Rattle.trits.specs.Trit.{upTo}
-use Rattle.trits.specs.Planes.{tritAt, onesOf, twosOf, zeroWords}
+use Rattle.trits.specs.Planes.{onesOf, twosOf, zeroWords}
 use Rattle.trits.specs.Rows.{matrixAt}
 use Rattle.trits.proofs.Lists.{length-zeros}
 use Rattle.trits.proofs.Ends.{zeros-row}
@@ -27,9 +27,11 @@ use Rattle.signer.proofs.Build.{arranged-good}
 use Rattle.keymatrix.specs.Work.{placedAt, Keyed, readDown, keyOnes, keyTwos, halvesIn, leftU, rightU, leftV}
 use Rattle.keymatrix.proofs.Placed.{rows-joined, placed-secret}
 use Rattle.keymatrix.proofs.Written.{rows-same, down-row}
-use Rattle.builder.specs.Call.{halfWords, keyWords, workWords, pairsOf, Filled, keyOnesOf, keyTwosOf}
-use Rattle.builder.proofs.Lengths.{Bounds}
-use Rattle.builder.proofs.Marks.{copied-rows}
+use Rattle.calls.specs.Lent.{Planes, halfWords, secretOf, Readable}
+use Rattle.calls.specs.BuildCall.{keyWords, workWords, keyOnesOf, keyTwosOf}
+use Rattle.calls.proofs.Bounds.{Bounds}
+use Rattle.builder.specs.Work.{Filled}
+use Rattle.builder.proofs.Copies.{copied-rows}
 
 -- working planes of 0, as half-rows
 pub zero-rows : (z : Sizes) {o t : List ℕ} (n k : ℕ) → o ≡ zeroWords n → t ≡ zeroWords k → n ≡ workWords z → k ≡ workWords z → Rows o t (codim z + codim z) (halfWords z)
@@ -38,15 +40,13 @@ zero-rows z {o} {t} n k e f a b =
     (record { row = zeros-row (workWords z); size = length-zeros (workWords z) ∙ omega (arith, mul-add (codim z) (halfWords z) (halfWords z), add-mul (codim z) (codim z) (halfWords z)) })
 
 -- both parts filled
-pub filled-done : (z : Sizes) (uo ut vo vt bo bt co ct : List ℕ) {o₁ t₁ o t : List ℕ} (A : Matrix) → Rows uo ut (ru z) (halfWords z) → Rows vo vt (rv z) (halfWords z)
-    → Grid o₁ t₁ (codim z + codim z) (halfWords z)
-    (halvesIn 0 (ru z) (leftU (matrixAt (halfWords z) uo ut) (tritAt bo bt) (tritAt co ct)) (rightU (matrixAt (halfWords z) uo ut) (tritAt bo bt)) A)
-    → Grid o t (codim z + codim z) (halfWords z) (halvesIn (ru z) (rv z) (leftV (matrixAt (halfWords z) vo vt) (tritAt co ct)) (matrixAt (halfWords z) vo vt) (matrixAt (halfWords z) o₁ t₁))
-    → Filled z (pairsOf z uo ut vo vt bo bt co ct) o t
-filled-done z uo ut vo vt bo bt co ct {o₁} {t₁} {o} {t} A u v g h = record {
+pub filled-done : (z : Sizes) (k : Planes) {o₁ t₁ o t : List ℕ} (A : Matrix) → Readable z k
+    → Grid o₁ t₁ (codim z + codim z) (halfWords z) (halvesIn 0 (ru z) (leftU (secretOf z k .hu) (secretOf z k .b) (secretOf z k .c)) (rightU (secretOf z k .hu) (secretOf z k .b)) A)
+    → Grid o t (codim z + codim z) (halfWords z) (halvesIn (ru z) (rv z) (leftV (secretOf z k .hv) (secretOf z k .c)) (secretOf z k .hv) (matrixAt (halfWords z) o₁ t₁)) → Filled z (secretOf z k) o t
+filled-done z k {o₁} {t₁} {o} {t} A r g h = record {
   rows = rows-joined (h .rows);
-  cells = placed-secret z (halfWords z) (tritAt bo bt) (tritAt co ct) A (omega arith) u v
-      (grid-to h (ap (λ (B : Matrix). halvesIn (ru z) (rv z) (leftV (matrixAt (halfWords z) vo vt) (tritAt co ct)) (matrixAt (halfWords z) vo vt) B) (g .cells)));
+  cells = placed-secret z (halfWords z) (secretOf z k .b) (secretOf z k .c) A (omega arith) (r .hu) (r .hv)
+      (grid-to h (ap (λ (B : Matrix). halvesIn (ru z) (rv z) (leftV (secretOf z k .hv) (secretOf z k .c)) (secretOf z k .hv) B) (g .cells)));
 }
 
 -- both ranks are full, and so that of the secret matrix

@@ -1,2 +1,2 @@
--- The definitions that the contracts cite: the call, its refusals, and each lent buffer at exit.
-pub mod Call
+-- The definitions that the inner contracts cite; those of the call stand in `calls`.
+pub mod Work

@@ -1,14 +1,14 @@
 // The build of a key: the call, and its tests.
-pub mod order; // the test of an order, and its copy
+pub mod order; // the copy of an order
 pub mod tests; // lengths and contents
 pub mod ranks; // 9 and 10
 pub mod release; // the work matrix, and the key
 pub mod finish; // ranks, key, working space
 
 ghost use mathlib.Core.Path.{_≡_};
-ghost use lib.ListN.{length};
 ghost use Rattle.trits.specs.Refusal.{codeOf};
-ghost use Rattle.builder.specs.Call.{given, lengthsDiffer, buildAnswer, orderExit, onesExit, twosExit, workExit};
+ghost use Rattle.calls.specs.Lent.{planes};
+ghost use Rattle.calls.specs.BuildCall.{lent, buildAnswer, orderExit, keyOnesExit, keyTwosExit, workOnesExit, workTwosExit};
 use signer::sizes::Sizes;
 use trits::refusal::Outcome;
 use trits::refusal::Refusal;
@@ -31,39 +31,10 @@ pub fn build(
     work_ones: &mut [u64],
     work_twos: &mut [u64],
 ) -> Outcome
-    ensures { λ r. ⌜ codeOf r ≡ buildAnswer z (given (now («hu_ones» .entry)) (now («hu_twos» .entry)) (now («hv_ones» .entry)) (now («hv_twos» .entry))
-        (now («b_ones» .entry)) (now («b_twos» .entry)) (now («c_ones» .entry)) (now («c_twos» .entry)) (now (start .entry)))
-        (lengthsDiffer z (length (now («hu_ones» .entry))) (length (now («hu_twos» .entry))) (length (now («hv_ones» .entry))) (length (now («hv_twos» .entry)))
-        (length (now («b_ones» .entry))) (length (now («b_twos» .entry))) (length (now («c_ones» .entry))) (length (now («c_twos» .entry))) (length (now (start .entry)))
-        (length (now (p .entry))) (length (now («key_ones» .entry))) (length (now («key_twos» .entry))) (length (now («work_ones» .entry))) (length (now («work_twos» .entry)))) ⌝ }
-    ensures { λ _. ⌜ now (p .exit) ≡ orderExit z (given (now («hu_ones» .entry)) (now («hu_twos» .entry)) (now («hv_ones» .entry)) (now («hv_twos» .entry))
-        (now («b_ones» .entry)) (now («b_twos» .entry)) (now («c_ones» .entry)) (now («c_twos» .entry)) (now (start .entry))) (buildAnswer z (given (now («hu_ones» .entry)) (now («hu_twos» .entry)) (now («hv_ones» .entry)) (now («hv_twos» .entry))
-        (now («b_ones» .entry)) (now («b_twos» .entry)) (now («c_ones» .entry)) (now («c_twos» .entry)) (now (start .entry)))
-        (lengthsDiffer z (length (now («hu_ones» .entry))) (length (now («hu_twos» .entry))) (length (now («hv_ones» .entry))) (length (now («hv_twos» .entry)))
-        (length (now («b_ones» .entry))) (length (now («b_twos» .entry))) (length (now («c_ones» .entry))) (length (now («c_twos» .entry))) (length (now (start .entry)))
-        (length (now (p .entry))) (length (now («key_ones» .entry))) (length (now («key_twos» .entry))) (length (now («work_ones» .entry))) (length (now («work_twos» .entry))))) (now (p .entry)) ⌝ }
-    ensures { λ _. ⌜ now («key_ones» .exit) ≡ onesExit z (given (now («hu_ones» .entry)) (now («hu_twos» .entry)) (now («hv_ones» .entry)) (now («hv_twos» .entry))
-        (now («b_ones» .entry)) (now («b_twos» .entry)) (now («c_ones» .entry)) (now («c_twos» .entry)) (now (start .entry))) (buildAnswer z (given (now («hu_ones» .entry)) (now («hu_twos» .entry)) (now («hv_ones» .entry)) (now («hv_twos» .entry))
-        (now («b_ones» .entry)) (now («b_twos» .entry)) (now («c_ones» .entry)) (now («c_twos» .entry)) (now (start .entry)))
-        (lengthsDiffer z (length (now («hu_ones» .entry))) (length (now («hu_twos» .entry))) (length (now («hv_ones» .entry))) (length (now («hv_twos» .entry)))
-        (length (now («b_ones» .entry))) (length (now («b_twos» .entry))) (length (now («c_ones» .entry))) (length (now («c_twos» .entry))) (length (now (start .entry)))
-        (length (now (p .entry))) (length (now («key_ones» .entry))) (length (now («key_twos» .entry))) (length (now («work_ones» .entry))) (length (now («work_twos» .entry))))) (now («key_ones» .entry)) ⌝ }
-    ensures { λ _. ⌜ now («key_twos» .exit) ≡ twosExit z (given (now («hu_ones» .entry)) (now («hu_twos» .entry)) (now («hv_ones» .entry)) (now («hv_twos» .entry))
-        (now («b_ones» .entry)) (now («b_twos» .entry)) (now («c_ones» .entry)) (now («c_twos» .entry)) (now (start .entry))) (buildAnswer z (given (now («hu_ones» .entry)) (now («hu_twos» .entry)) (now («hv_ones» .entry)) (now («hv_twos» .entry))
-        (now («b_ones» .entry)) (now («b_twos» .entry)) (now («c_ones» .entry)) (now («c_twos» .entry)) (now (start .entry)))
-        (lengthsDiffer z (length (now («hu_ones» .entry))) (length (now («hu_twos» .entry))) (length (now («hv_ones» .entry))) (length (now («hv_twos» .entry)))
-        (length (now («b_ones» .entry))) (length (now («b_twos» .entry))) (length (now («c_ones» .entry))) (length (now («c_twos» .entry))) (length (now (start .entry)))
-        (length (now (p .entry))) (length (now («key_ones» .entry))) (length (now («key_twos» .entry))) (length (now («work_ones» .entry))) (length (now («work_twos» .entry))))) (now («key_twos» .entry)) ⌝ }
-    ensures { λ _. ⌜ now («work_ones» .exit) ≡ workExit (buildAnswer z (given (now («hu_ones» .entry)) (now («hu_twos» .entry)) (now («hv_ones» .entry)) (now («hv_twos» .entry))
-        (now («b_ones» .entry)) (now («b_twos» .entry)) (now («c_ones» .entry)) (now («c_twos» .entry)) (now (start .entry)))
-        (lengthsDiffer z (length (now («hu_ones» .entry))) (length (now («hu_twos» .entry))) (length (now («hv_ones» .entry))) (length (now («hv_twos» .entry)))
-        (length (now («b_ones» .entry))) (length (now («b_twos» .entry))) (length (now («c_ones» .entry))) (length (now («c_twos» .entry))) (length (now (start .entry)))
-        (length (now (p .entry))) (length (now («key_ones» .entry))) (length (now («key_twos» .entry))) (length (now («work_ones» .entry))) (length (now («work_twos» .entry))))) (now («work_ones» .entry)) ⌝ }
-    ensures { λ _. ⌜ now («work_twos» .exit) ≡ workExit (buildAnswer z (given (now («hu_ones» .entry)) (now («hu_twos» .entry)) (now («hv_ones» .entry)) (now («hv_twos» .entry))
-        (now («b_ones» .entry)) (now («b_twos» .entry)) (now («c_ones» .entry)) (now («c_twos» .entry)) (now (start .entry)))
-        (lengthsDiffer z (length (now («hu_ones» .entry))) (length (now («hu_twos» .entry))) (length (now («hv_ones» .entry))) (length (now («hv_twos» .entry)))
-        (length (now («b_ones» .entry))) (length (now («b_twos» .entry))) (length (now («c_ones» .entry))) (length (now («c_twos» .entry))) (length (now (start .entry)))
-        (length (now (p .entry))) (length (now («key_ones» .entry))) (length (now («key_twos» .entry))) (length (now («work_ones» .entry))) (length (now («work_twos» .entry))))) (now («work_twos» .entry)) ⌝ }
+    ensures { λ r. ⌜ (let i = lent (planes (now («hu_ones» .entry)) (now («hu_twos» .entry)) (now («hv_ones» .entry)) (now («hv_twos» .entry)) (now («b_ones» .entry)) (now («b_twos» .entry)) (now («c_ones» .entry)) (now («c_twos» .entry)))
+        (now (start .entry)) (now (p .entry)) (now («key_ones» .entry)) (now («key_twos» .entry)) (now («work_ones» .entry)) (now («work_twos» .entry)) in
+        (codeOf r ≡ buildAnswer z i) × (now (p .exit) ≡ orderExit z i) × (now («key_ones» .exit) ≡ keyOnesExit z i) × (now («key_twos» .exit) ≡ keyTwosExit z i)
+        × (now («work_ones» .exit) ≡ workOnesExit z i) × (now («work_twos» .exit) ≡ workTwosExit z i)) ⌝ }
 {
     if !signer::sizes::sizes_fit(z) {
         return Outcome::Refused(Refusal::Size);
@@ -140,39 +111,10 @@ pub extern "C" fn wave_build(
     work_ones: &mut [u64],
     work_twos: &mut [u64],
 ) -> u64
-    ensures { λ r. ⌜ r ≡ buildAnswer z (given (now («hu_ones» .entry)) (now («hu_twos» .entry)) (now («hv_ones» .entry)) (now («hv_twos» .entry))
-        (now («b_ones» .entry)) (now («b_twos» .entry)) (now («c_ones» .entry)) (now («c_twos» .entry)) (now (start .entry)))
-        (lengthsDiffer z (length (now («hu_ones» .entry))) (length (now («hu_twos» .entry))) (length (now («hv_ones» .entry))) (length (now («hv_twos» .entry)))
-        (length (now («b_ones» .entry))) (length (now («b_twos» .entry))) (length (now («c_ones» .entry))) (length (now («c_twos» .entry))) (length (now (start .entry)))
-        (length (now (p .entry))) (length (now («key_ones» .entry))) (length (now («key_twos» .entry))) (length (now («work_ones» .entry))) (length (now («work_twos» .entry)))) ⌝ }
-    ensures { λ _. ⌜ now (p .exit) ≡ orderExit z (given (now («hu_ones» .entry)) (now («hu_twos» .entry)) (now («hv_ones» .entry)) (now («hv_twos» .entry))
-        (now («b_ones» .entry)) (now («b_twos» .entry)) (now («c_ones» .entry)) (now («c_twos» .entry)) (now (start .entry))) (buildAnswer z (given (now («hu_ones» .entry)) (now («hu_twos» .entry)) (now («hv_ones» .entry)) (now («hv_twos» .entry))
-        (now («b_ones» .entry)) (now («b_twos» .entry)) (now («c_ones» .entry)) (now («c_twos» .entry)) (now (start .entry)))
-        (lengthsDiffer z (length (now («hu_ones» .entry))) (length (now («hu_twos» .entry))) (length (now («hv_ones» .entry))) (length (now («hv_twos» .entry)))
-        (length (now («b_ones» .entry))) (length (now («b_twos» .entry))) (length (now («c_ones» .entry))) (length (now («c_twos» .entry))) (length (now (start .entry)))
-        (length (now (p .entry))) (length (now («key_ones» .entry))) (length (now («key_twos» .entry))) (length (now («work_ones» .entry))) (length (now («work_twos» .entry))))) (now (p .entry)) ⌝ }
-    ensures { λ _. ⌜ now («key_ones» .exit) ≡ onesExit z (given (now («hu_ones» .entry)) (now («hu_twos» .entry)) (now («hv_ones» .entry)) (now («hv_twos» .entry))
-        (now («b_ones» .entry)) (now («b_twos» .entry)) (now («c_ones» .entry)) (now («c_twos» .entry)) (now (start .entry))) (buildAnswer z (given (now («hu_ones» .entry)) (now («hu_twos» .entry)) (now («hv_ones» .entry)) (now («hv_twos» .entry))
-        (now («b_ones» .entry)) (now («b_twos» .entry)) (now («c_ones» .entry)) (now («c_twos» .entry)) (now (start .entry)))
-        (lengthsDiffer z (length (now («hu_ones» .entry))) (length (now («hu_twos» .entry))) (length (now («hv_ones» .entry))) (length (now («hv_twos» .entry)))
-        (length (now («b_ones» .entry))) (length (now («b_twos» .entry))) (length (now («c_ones» .entry))) (length (now («c_twos» .entry))) (length (now (start .entry)))
-        (length (now (p .entry))) (length (now («key_ones» .entry))) (length (now («key_twos» .entry))) (length (now («work_ones» .entry))) (length (now («work_twos» .entry))))) (now («key_ones» .entry)) ⌝ }
-    ensures { λ _. ⌜ now («key_twos» .exit) ≡ twosExit z (given (now («hu_ones» .entry)) (now («hu_twos» .entry)) (now («hv_ones» .entry)) (now («hv_twos» .entry))
-        (now («b_ones» .entry)) (now («b_twos» .entry)) (now («c_ones» .entry)) (now («c_twos» .entry)) (now (start .entry))) (buildAnswer z (given (now («hu_ones» .entry)) (now («hu_twos» .entry)) (now («hv_ones» .entry)) (now («hv_twos» .entry))
-        (now («b_ones» .entry)) (now («b_twos» .entry)) (now («c_ones» .entry)) (now («c_twos» .entry)) (now (start .entry)))
-        (lengthsDiffer z (length (now («hu_ones» .entry))) (length (now («hu_twos» .entry))) (length (now («hv_ones» .entry))) (length (now («hv_twos» .entry)))
-        (length (now («b_ones» .entry))) (length (now («b_twos» .entry))) (length (now («c_ones» .entry))) (length (now («c_twos» .entry))) (length (now (start .entry)))
-        (length (now (p .entry))) (length (now («key_ones» .entry))) (length (now («key_twos» .entry))) (length (now («work_ones» .entry))) (length (now («work_twos» .entry))))) (now («key_twos» .entry)) ⌝ }
-    ensures { λ _. ⌜ now («work_ones» .exit) ≡ workExit (buildAnswer z (given (now («hu_ones» .entry)) (now («hu_twos» .entry)) (now («hv_ones» .entry)) (now («hv_twos» .entry))
-        (now («b_ones» .entry)) (now («b_twos» .entry)) (now («c_ones» .entry)) (now («c_twos» .entry)) (now (start .entry)))
-        (lengthsDiffer z (length (now («hu_ones» .entry))) (length (now («hu_twos» .entry))) (length (now («hv_ones» .entry))) (length (now («hv_twos» .entry)))
-        (length (now («b_ones» .entry))) (length (now («b_twos» .entry))) (length (now («c_ones» .entry))) (length (now («c_twos» .entry))) (length (now (start .entry)))
-        (length (now (p .entry))) (length (now («key_ones» .entry))) (length (now («key_twos» .entry))) (length (now («work_ones» .entry))) (length (now («work_twos» .entry))))) (now («work_ones» .entry)) ⌝ }
-    ensures { λ _. ⌜ now («work_twos» .exit) ≡ workExit (buildAnswer z (given (now («hu_ones» .entry)) (now («hu_twos» .entry)) (now («hv_ones» .entry)) (now («hv_twos» .entry))
-        (now («b_ones» .entry)) (now («b_twos» .entry)) (now («c_ones» .entry)) (now («c_twos» .entry)) (now (start .entry)))
-        (lengthsDiffer z (length (now («hu_ones» .entry))) (length (now («hu_twos» .entry))) (length (now («hv_ones» .entry))) (length (now («hv_twos» .entry)))
-        (length (now («b_ones» .entry))) (length (now («b_twos» .entry))) (length (now («c_ones» .entry))) (length (now («c_twos» .entry))) (length (now (start .entry)))
-        (length (now (p .entry))) (length (now («key_ones» .entry))) (length (now («key_twos» .entry))) (length (now («work_ones» .entry))) (length (now («work_twos» .entry))))) (now («work_twos» .entry)) ⌝ }
+    ensures { λ r. ⌜ (let i = lent (planes (now («hu_ones» .entry)) (now («hu_twos» .entry)) (now («hv_ones» .entry)) (now («hv_twos» .entry)) (now («b_ones» .entry)) (now («b_twos» .entry)) (now («c_ones» .entry)) (now («c_twos» .entry)))
+        (now (start .entry)) (now (p .entry)) (now («key_ones» .entry)) (now («key_twos» .entry)) (now («work_ones» .entry)) (now («work_twos» .entry)) in
+        (r ≡ buildAnswer z i) × (now (p .exit) ≡ orderExit z i) × (now («key_ones» .exit) ≡ keyOnesExit z i) × (now («key_twos» .exit) ≡ keyTwosExit z i)
+        × (now («work_ones» .exit) ≡ workOnesExit z i) × (now («work_twos» .exit) ≡ workTwosExit z i)) ⌝ }
 {
     let outcome = build(
         z,

@@ -6,10 +6,11 @@ ghost use lib.ListN.{length};
 ghost use Rattle.matrix.specs.Linear.{rank, range};
 ghost use Rattle.signer.specs.Secret.{secretMatrix};
 ghost use Rattle.signer.specs.Build.{keyOrder};
-ghost use Rattle.trits.specs.Planes.{Row};
-ghost use Rattle.elimination.specs.Grid.{Rows};
-ghost use Rattle.signer.specs.Sizes.{sizesFit, places, dim, ru, rv, codim};
-ghost use Rattle.builder.specs.Call.{halfWords, keyWords, workWords, pairsOf, secretOf, Filled, Ready, given, keyOnesOf, keyTwosOf};
+ghost use Rattle.signer.specs.Sizes.{sizesFit, places, dim, codim};
+ghost use Rattle.matrix.specs.Orders.{Order};
+ghost use Rattle.calls.specs.Lent.{planes, secretOf, Readable};
+ghost use Rattle.calls.specs.BuildCall.{keyWords, workWords, keyOnesOf, keyTwosOf};
+ghost use Rattle.builder.specs.Work.{Filled};
 use super::order;
 use signer::sizes::Sizes;
 
@@ -28,11 +29,10 @@ pub fn fill_matrix(
     work_twos: &mut [u64],
 )
     requires { ⌜ sizesFit z ≡ true ⌝ }
-    requires { ⌜ Rows (now «hu_ones») (now «hu_twos») (ru z) (halfWords z) × Rows (now «hv_ones») (now «hv_twos») (rv z) (halfWords z)
-        × Row (now «b_ones») (now «b_twos») × Row (now «c_ones») (now «c_twos») ⌝ }
-    requires { ⌜ (length (now «b_ones») ≡ halfWords z) × (length (now «c_ones») ≡ halfWords z) × (length (now «work_ones») ≡ workWords z) × (length (now «work_twos») ≡ workWords z) ⌝ }
-    ensures { λ _. ⌜ Filled z (pairsOf z (now («hu_ones» .entry)) (now («hu_twos» .entry)) (now («hv_ones» .entry)) (now («hv_twos» .entry))
-        (now («b_ones» .entry)) (now («b_twos» .entry)) (now («c_ones» .entry)) (now («c_twos» .entry))) (now («work_ones» .exit)) (now («work_twos» .exit)) ⌝ }
+    requires { ⌜ Readable z (planes (now «hu_ones») (now «hu_twos») (now «hv_ones») (now «hv_twos») (now «b_ones») (now «b_twos») (now «c_ones») (now «c_twos»)) ⌝ }
+    requires { ⌜ (length (now «work_ones») ≡ workWords z) × (length (now «work_twos») ≡ workWords z) ⌝ }
+    ensures { λ _. ⌜ Filled z (secretOf z (planes (now («hu_ones» .entry)) (now («hu_twos» .entry)) (now («hv_ones» .entry)) (now («hv_twos» .entry)) (now («b_ones» .entry)) (now («b_twos» .entry)) (now («c_ones» .entry)) (now («c_twos» .entry))))
+        (now («work_ones» .exit)) (now («work_twos» .exit)) ⌝ }
 {
     let half = z.n as usize / 2;
     let hw = (half + 63) / 64;
@@ -87,16 +87,14 @@ pub fn release(
     work_twos: &mut [u64],
 )
     requires { ⌜ sizesFit z ≡ true ⌝ }
-    requires { ⌜ Ready z (given (now «hu_ones») (now «hu_twos») (now «hv_ones») (now «hv_twos») (now «b_ones») (now «b_twos») (now «c_ones») (now «c_twos») (now start)) ⌝ }
-    requires { ⌜ rank (codim z) (places z) (secretMatrix z (secretOf z (given (now «hu_ones») (now «hu_twos») (now «hv_ones») (now «hv_twos») (now «b_ones») (now «b_twos») (now «c_ones») (now «c_twos») (now start)))) (range (places z)) ≡ codim z ⌝ }
+    requires { ⌜ Readable z (planes (now «hu_ones») (now «hu_twos») (now «hv_ones») (now «hv_twos») (now «b_ones») (now «b_twos») (now «c_ones») (now «c_twos»)) ⌝ }
+    requires { ⌜ Order (places z) (now start) ⌝ }
+    requires { ⌜ rank (codim z) (places z) (secretMatrix z (secretOf z (planes (now «hu_ones») (now «hu_twos») (now «hv_ones») (now «hv_twos») (now «b_ones») (now «b_twos») (now «c_ones») (now «c_twos»)))) (range (places z)) ≡ codim z ⌝ }
     requires { ⌜ (length (now p) ≡ places z) × (length (now «key_ones») ≡ dim z * keyWords z) × (length (now «key_twos») ≡ dim z * keyWords z)
         × (length (now «work_ones») ≡ workWords z) × (length (now «work_twos») ≡ workWords z) ⌝ }
-    ensures { λ _. ⌜ now (p .exit) ≡ keyOrder z (secretOf z (given (now («hu_ones» .entry)) (now («hu_twos» .entry)) (now («hv_ones» .entry)) (now («hv_twos» .entry))
-        (now («b_ones» .entry)) (now («b_twos» .entry)) (now («c_ones» .entry)) (now («c_twos» .entry)) (now (start .entry)))) (now (start .entry)) ⌝ }
-    ensures { λ _. ⌜ now («key_ones» .exit) ≡ keyOnesOf z (secretOf z (given (now («hu_ones» .entry)) (now («hu_twos» .entry)) (now («hv_ones» .entry)) (now («hv_twos» .entry))
-        (now («b_ones» .entry)) (now («b_twos» .entry)) (now («c_ones» .entry)) (now («c_twos» .entry)) (now (start .entry)))) (now (start .entry)) ⌝ }
-    ensures { λ _. ⌜ now («key_twos» .exit) ≡ keyTwosOf z (secretOf z (given (now («hu_ones» .entry)) (now («hu_twos» .entry)) (now («hv_ones» .entry)) (now («hv_twos» .entry))
-        (now («b_ones» .entry)) (now («b_twos» .entry)) (now («c_ones» .entry)) (now («c_twos» .entry)) (now (start .entry)))) (now (start .entry)) ⌝ }
+    ensures { λ _. ⌜ (let s = secretOf z (planes (now («hu_ones» .entry)) (now («hu_twos» .entry)) (now («hv_ones» .entry)) (now («hv_twos» .entry)) (now («b_ones» .entry)) (now («b_twos» .entry)) (now («c_ones» .entry)) (now («c_twos» .entry))) in
+        (now (p .exit) ≡ keyOrder z s (now (start .entry)))
+        × (now («key_ones» .exit) ≡ keyOnesOf z s (now (start .entry))) × (now («key_twos» .exit) ≡ keyTwosOf z s (now (start .entry)))) ⌝ }
 {
     let half = z.n as usize / 2;
     let hw = (half + 63) / 64;

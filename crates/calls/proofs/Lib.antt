@@ -1,1 +1,5 @@
--- The laws.
+-- The laws: marks of an order, sizes in their ranges, the secret's tests, the working space at exit.
+pub mod Marks
+pub mod Bounds
+pub mod Exits
+pub mod Secrets

@@ -26,6 +26,9 @@ pub record Lent : Type 0 where
   pub workOnes : List ℕ
   pub workTwos : List ℕ
 
+abbrev pub lent : Planes → List ℕ → List ℕ → List ℕ → List ℕ → List ℕ → List ℕ → Lent
+lent s start p ko kt wo wt = record { secret = s; start = start; p = p; keyOnes = ko; keyTwos = kt; workOnes = wo; workTwos = wt }
+
 -- ---- 2: a length differs from what the sizes say
 
 -- the words of a row of the key, and of a working plane

@@ -35,6 +35,26 @@ pub record Lent : Type 0 where
   pub workOnes : List ℕ
   pub workTwos : List ℕ
 
+abbrev pub lent : Planes → List ℕ → List ℕ → List ℕ → List ℕ → List ℕ → List ℕ → List ℕ → List ℕ → List ℕ → List ℕ → List ℕ → List ℕ → List ℕ → List ℕ → List ℕ → Lent
+lent s p yo yt ov vo vt ou uo ut eo et so st wo wt = record {
+  secret = s;
+  p = p;
+  yOnes = yo;
+  yTwos = yt;
+  orderV = ov;
+  vOnes = vo;
+  vTwos = vt;
+  orderU = ou;
+  uOnes = uo;
+  uTwos = ut;
+  wordOnes = eo;
+  wordTwos = et;
+  sOnes = so;
+  sTwos = st;
+  workOnes = wo;
+  workTwos = wt;
+}
+
 -- the syndrome and the choices that it holds
 abbrev pub syndromeOf : Lent → Vector
 syndromeOf i = tritAt (i .yOnes) (i .yTwos)

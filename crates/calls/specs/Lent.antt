@@ -28,6 +28,9 @@ pub record Planes : Type 0 where
   pub cOnes : List ℕ
   pub cTwos : List ℕ
 
+abbrev pub planes : List ℕ → List ℕ → List ℕ → List ℕ → List ℕ → List ℕ → List ℕ → List ℕ → Planes
+planes uo ut vo vt bo bt co ct = record { huOnes = uo; huTwos = ut; hvOnes = vo; hvTwos = vt; bOnes = bo; bTwos = bt; cOnes = co; cTwos = ct }
+
 -- the words of a row of H_U, H_V, b or c
 abbrev pub halfWords : Sizes → ℕ
 halfWords z = wordsFor (half z)

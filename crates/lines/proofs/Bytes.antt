@@ -5,8 +5,7 @@ use Prim.Native.Nat.{ℕ, _+_, _≤_, _<_}
 use borrow.Author.Tests.{eq-eqb, ne-eqb, lt-ltb, le-ltb}
 use lib.ListN.{set, take}
 use Rattle.text.specs.Forms.{Line, noForm}
-use Rattle.lines.specs.Answer.{Kept, linePrints, lineKept}
-use Rattle.lines.specs.Print.{readLine}
+use Rattle.oneline.specs.Answer.{Kept, linePrints, lineKept, readLine}
 use Rattle.lines.specs.Machine.{Machine, gathered, ended, longer, stepped, stepPrints, finished, endPrints}
 
 module _ (m : Machine) where

@@ -16,8 +16,8 @@ use Rattle.text.specs.Fields.{onto, split}
 use Rattle.text.proofs.Parting.{some-part}
 use Rattle.text.specs.Forms.{Line, noForm, lineOf}
 use Rattle.text.specs.Answers.{header}
-use Rattle.lines.specs.Answer.{Kept, linePrints, lineKept}
-use Rattle.lines.specs.Print.{withoutEmptyEnd, linesOf, readLine, answers, noKey, prints}
+use Rattle.oneline.specs.Answer.{Kept, linePrints, lineKept, readLine}
+use Rattle.lines.specs.Print.{withoutEmptyEnd, linesOf, answers, noKey, prints}
 use Rattle.lines.specs.Machine.{Machine, gathered, ended, stepped, stepPrints, endPrints, fed, started}
 use Rattle.lines.proofs.Bytes.{gathered-long, gathered-short, step-end, step-none, step-more, step-full, end-none, end-some}
 

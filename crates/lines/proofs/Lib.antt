@@ -1,5 +1,3 @@
--- The laws behind the functions' proofs: words lent to the checker, one line, a whole text.
-pub mod Lent
-pub mod Lines
+-- The laws behind the functions' proofs: one byte, a whole text.
 pub mod Bytes
 pub mod Fed

@@ -6,9 +6,8 @@ use lib.Dec.{eqb, ltb}
 use lib.ListN.{set, take}
 use Rattle.trits.specs.Planes.{zeroWords}
 use Rattle.text.specs.Forms.{Line, noForm, mostBytes}
-use Rattle.lines.specs.Answer.{Kept, linePrints, lineKept}
-use Rattle.lines.specs.Print.{readLine, noKey}
-use Rattle.heldkey.specs.declared.state.Held.{Held}
+use Rattle.oneline.specs.Answer.{Kept, keeping, linePrints, lineKept, readLine}
+use Rattle.lines.specs.Print.{noKey}
 use Rattle.lines.specs.declared.State.{State}
 
 -- the bytes of the line so far, of which a buffer has at most 1,025, and what is kept from line to line
@@ -16,10 +15,6 @@ pub record Machine : Type 0 where
   pub len : ℕ
   pub line : List ℕ
   pub kept : Kept
-
--- what a state and the lent words keep
-abbrev pub keeping : Held → List ℕ → List ℕ → Kept
-keeping h ones twos = record { held = h; ones = ones; twos = twos }
 
 -- the machine of a state and the lent buffers
 abbrev pub machine : State → List ℕ → List ℕ → List ℕ → Machine

@@ -6,10 +6,8 @@ use lib.Dec.{eqb}
 use lib.ListN.{length}
 use Rattle.trits.specs.Planes.{zeroWords}
 use Rattle.text.specs.Fields.{split}
-use Rattle.text.specs.Forms.{Line, lineOf}
 use Rattle.text.specs.Answers.{header}
-use Rattle.heldkey.specs.Held.{mostKeyNumber}
-use Rattle.lines.specs.Answer.{Kept, linePrints, lineKept}
+use Rattle.oneline.specs.Answer.{Kept, linePrints, lineKept, readLine}
 
 -- parts without the last, if that is empty
 unfoldable pub withoutEmptyEnd : List (List ℕ) → List (List ℕ)
@@ -20,10 +18,6 @@ withoutEmptyEnd (line ∷ next ∷ rest) = line ∷ withoutEmptyEnd (next ∷ re
 -- the lines of a text: each ends at byte 10, and what follows the last byte 10 is a line if it is not empty
 unfoldable pub linesOf : List ℕ → List (List ℕ)
 linesOf text = withoutEmptyEnd (split 10 text)
-
--- what a line says, with the checker's bound of a key number
-abbrev pub readLine : List ℕ → Line
-readLine line = lineOf mostKeyNumber line
 
 -- what lines print, one after another
 unfoldable pub answers : Kept → List (List ℕ) → List ℕ

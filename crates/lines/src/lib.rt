@@ -1,12 +1,9 @@
 // Lines of text about a held key, taken byte by byte.
-mod offer; // digit fields as planes of words
-mod handle; // one line
-
 ghost use mathlib.Core.Path.{_≡_};
 ghost use lib.ListN.{length};
 ghost use Rattle.trits.specs.Rows.{putWords};
 ghost use Rattle.text.specs.Answers.{header};
-ghost use Rattle.lines.specs.Answer.{linePrints};
+ghost use Rattle.oneline.specs.Answer.{linePrints};
 ghost use Rattle.lines.specs.Machine.{machine, gathered, ended, stepped, stepPrints, finished, endPrints, noLine};
 use heldkey::state::Held;
 
@@ -66,7 +63,7 @@ fn end_line(
             count: count,
         };
     }
-    let done = handle::handle_front(line, len, held, ones, twos, out);
+    let done = oneline::handle::handle_front(line, len, held, ones, twos, out);
     let after = done.held;
     let next = State {
         len: 0,

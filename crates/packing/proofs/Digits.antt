@@ -7,20 +7,10 @@ use native.Mathlib.Omega.{arith}
 use lib.Arith.{digits-div, digits-mod}
 use lib.ListN.{getD}
 use Rattle.trits.specs.Trit.{Trit, t0, t1, t2, number, tritOf}
-use Rattle.trits.proofs.Arithmetic.{number-tritOf}
+use Rattle.trits.proofs.Arithmetic.{number-lt, number-tritOf}
 use Rattle.trits.proofs.Lists.{getD-tabulate}
 use Rattle.trits.proofs.Ends.{upto-in, upto-out}
 use Rattle.packing.specs.Packed.{byteOf, digitOf, byteTable, packedAt, packedRow}
-
-pub number-lt : (x : Trit) → number x < 3
-number-lt t0 = omega arith
-number-lt t1 = omega arith
-number-lt t2 = omega arith
-
-pub trit-number : (x : Trit) → tritOf (number x) ≡ x
-trit-number t0 = refl
-trit-number t1 = refl
-trit-number t2 = refl
 
 pub digit-lt : (b k : ℕ) → digitOf b k < 3
 unfolding digitOf

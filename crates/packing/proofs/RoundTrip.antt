@@ -20,7 +20,8 @@ use Rattle.trits.proofs.Ends.{upto-in, upto-out, upto-ended}
 use Rattle.trits.proofs.Refusals.{passed-refuse, passed-demand, planes-passed, exit-new}
 use Rattle.packing.specs.Packed.{bytesFor, byteOf, digitOf, packedAt, packedRow, packedBytes, badByte}
 use Rattle.packing.specs.Calls.{packRefusal, packExit, unpackRefusal, unpackOnes, unpackTwos}
-use Rattle.packing.proofs.Digits.{trit-number, digit-number, byte-lt, digit-byte, byte-digits, packed-place}
+use Rattle.trits.proofs.Arithmetic.{trit-number}
+use Rattle.packing.proofs.Digits.{digit-number, byte-lt, digit-byte, byte-digits, packed-place}
 use Rattle.packing.proofs.Keeping.{big, bytes-small}
 use Rattle.packing.proofs.Turned.{bytes-good, unpack-passed}
 use borrow.Author.Tests.{le-ltb}

@@ -2,7 +2,7 @@
 ghost use mathlib.Core.Path.{_≡_};
 ghost use Prim.Native.Nat.{_+_, _*_, _<_, _≤_};
 ghost use lib.ListN.{length, getD};
-ghost use Rattle.trits.specs.Trit.{number, tritOf, putV, upTo};
+ghost use Rattle.trits.specs.Trit.{number, tritOf, upTo};
 ghost use Rattle.trits.specs.Planes.{tritAt, Reads, onesOf, twosOf};
 ghost use Rattle.trits.specs.Rows.{matrixAt};
 ghost use Rattle.matrix.specs.Linear.{zeros};
@@ -11,16 +11,6 @@ ghost use Rattle.elimination.specs.Grid.{Rows, Grid, putRow};
 ghost use Rattle.signer.specs.Secret.{join};
 ghost use Rattle.signer.specs.Draw.{placed};
 ghost use Rattle.pairing.specs.Halves.{putPlace, placedRows, writtenFrom};
-
-// The trit t is put at place q of row i.
-pub fn put_at(ones: &mut [u64], twos: &mut [u64], rows: usize, w: usize, i: usize, q: usize, t: u8)
-    requires { ⌜ Rows (now ones) (now twos) rows w ⌝ }
-    requires { ⌜ (length (now ones) ≤ 4294967296) × (i < rows) × (q < 64 * w) × (t < 3) ⌝ }
-    ensures { λ _. ⌜ Grid (now (ones .exit)) (now (twos .exit)) rows w
-        (putRow i (putV (matrixAt w (now (ones .entry)) (now (twos .entry)) i) q (tritOf t)) (matrixAt w (now (ones .entry)) (now (twos .entry)))) ⌝ }
-{
-    trits::places::put_trit(ones, twos, 64 * (i * w) + q, t);
-}
 
 // The trit t is put at secret place q: in row u below half, in row v from half on.
 pub fn put_place(
@@ -39,9 +29,9 @@ pub fn put_place(
     ensures { λ _. ⌜ Grid (now (ones .exit)) (now (twos .exit)) rows w (putPlace u v half q (tritOf t) (matrixAt w (now (ones .entry)) (now (twos .entry)))) ⌝ }
 {
     if q < half {
-        put_at(ones, twos, rows, w, u, q, t);
+        elimination::places::put_at(ones, twos, rows, w, u, q, t);
     } else {
-        put_at(ones, twos, rows, w, v, q - half, t);
+        elimination::places::put_at(ones, twos, rows, w, v, q - half, t);
     }
 }
 

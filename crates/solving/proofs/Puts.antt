@@ -21,32 +21,17 @@ use Rattle.trits.proofs.Parts.{part-row, part-trit, length-mid}
 use Rattle.trits.proofs.Matrix.{row-le, rows-apart}
 use Rattle.matrix.specs.Linear.{Vector, Matrix}
 use Rattle.elimination.specs.Grid.{Rows, Grid, putRow}
+use Rattle.elimination.proofs.RowParts.{read-trit}
 use Rattle.elimination.proofs.Cells.{cell, cell-past, grid-by, grid-to, read-set, read-unset}
 use Rattle.solving.specs.Walk.{isNext, forcedBy}
 
 -- ---- trits as numbers
-
-pub number-lt : (x : Trit) → number x < 3
-number-lt t0 = omega arith
-number-lt t1 = omega arith
-number-lt t2 = omega arith
-
-pub number-back : (x : Trit) → tritOf (number x) ≡ x
-number-back t0 = refl
-number-back t1 = refl
-number-back t2 = refl
 
 back-number : (n : ℕ) → n < 3 → n ≡ number (tritOf n)
 back-number zero h = refl
 back-number (suc zero) h = refl
 back-number (suc (suc zero)) h = refl
 back-number (suc (suc (suc n))) h = absurd (omega arith)
-
-pub value-lt : (x : Trit) (n : ℕ) → n ≡ number x → n < 3
-value-lt x n e = omega (arith, number-lt x, e)
-
-pub value-back : (x : Trit) (n : ℕ) → n ≡ number x → tritOf n ≡ x
-value-back x n e = ap tritOf e ∙ number-back x
 
 set-number : (x : Trit) → not (eqb (number x) 0) ≡ isSet x
 set-number t0 = refl
@@ -82,34 +67,9 @@ small-product {x} {v} h k = by v k
 
 -- ---- a trit put in row e
 
-module _ {o t o₁ t₁ : List ℕ} {r w : ℕ} (g : Rows o t r w) (e q : ℕ) (x : Trit) (h : q < 64 * w) where
-  pub put-cell : Reads o₁ t₁ (length o) (putV (tritAt o t) (64 * (e * w) + q) x) → Grid o₁ t₁ r w (putRow e (putV (matrixAt w o t e) q x) (matrixAt w o t))
-  put-cell s =
-      grid-by (record { row = s .row; size = s .size ∙ g .size })
-      (λ i p l. ap (λ (u : ℕ → Trit). u (64 * (i * w) + p)) (s .trits) ∙ by i p l (ℕ-discrete i e) (ℕ-discrete p q))
-      (λ i p l. past i p l (ℕ-discrete i e))
-    where
-      apart : (i p : ℕ) → p < 64 * w → (i * w + w ≤ e * w) ⊎ (e * w + w ≤ i * w) → 64 * (i * w) + p ≡ 64 * (e * w) + q → ⊥
-      apart i p l (inl a) z = omega arith
-      apart i p l (inr a) z = omega arith
-
-      by : (i p : ℕ) → p < 64 * w → Dec (i ≡ e) → Dec (p ≡ q)
-          → putV (tritAt o t) (64 * (e * w) + q) x (64 * (i * w) + p) ≡ putRow e (putV (matrixAt w o t e) q x) (matrixAt w o t) i p
-      by i p l (yes d) (yes f) =
-          rw (eq-eqb (64 * (i * w) + p) (64 * (e * w) + q) (ap₂ (λ (a b : ℕ). 64 * (a * w) + b) d f), eq-eqb i e d, eq-eqb p q f)
-      by i p l (yes d) (no f) =
-          let n : 64 * (i * w) + p ≡ 64 * (e * w) + q → ⊥ = λ z. f (omega (arith, ap (λ (a : ℕ). 64 * (a * w)) d, z)) in
-          rw (ne-eqb (64 * (i * w) + p) (64 * (e * w) + q) n, eq-eqb i e d, ne-eqb p q f) (sym (cell w o t i p l) ∙ ap (λ (a : ℕ). matrixAt w o t a p) d)
-      by i p l (no d) f =
-          rw (ne-eqb (64 * (i * w) + p) (64 * (e * w) + q) (apart i p l (rows-apart i e w d)), ne-eqb i e d) (sym (cell w o t i p l))
-
-      past : (i p : ℕ) → 64 * w ≤ p → Dec (i ≡ e) → t0 ≡ putRow e (putV (matrixAt w o t e) q x) (matrixAt w o t) i p
-      past i p l (yes d) = rw (eq-eqb i e d, ne-eqb p q (λ z. omega arith)) (sym (cell-past w o t e p l))
-      past i p l (no d) = rw (ne-eqb i e d) (sym (cell-past w o t i p l))
-
--- the same with a trit known by its number
+-- a trit known by its number
 pub put-number : {o t : List ℕ} {r w : ℕ} (A : Matrix) (e q n : ℕ) (x : Trit) → n ≡ number x → Grid o t r w (putRow e (putV (A e) q (tritOf n)) A) → Grid o t r w (putRow e (putV (A e) q x) A)
-put-number A e q n x d g = grid-to g (ap (λ (y : Trit). putRow e (putV (A e) q y) A) (value-back x n d))
+put-number A e q n x d g = grid-to g (ap (λ (y : Trit). putRow e (putV (A e) q y) A) (read-trit x n d))
 
 -- row e stays as it is
 pub put-own : (e : ℕ) (A : Matrix) → A ≡ putRow e (A e) A
@@ -197,6 +157,6 @@ module _ (w : ℕ) (o t : List ℕ) (ev q n : ℕ) (h : q < 64 * w) (e : n ≡ n
       → m ≡ number (forcedBy b c (matrixAt w o t ev) q x)
   forced-some {k} {l} {m} f eb ec d =
       d
-      ∙ ap₂ (λ (y z : Trit). number (mulT (subT y z) (tritOf n))) (value-back (c q) l ec) (value-back (b q) k eb)
-      ∙ ap (λ (y : Trit). number (mulT (subT (c q) (b q)) y)) (value-back (tritAt o t (64 * (ev * w) + q)) n e ∙ sym (cell w o t ev q h))
+      ∙ ap₂ (λ (y z : Trit). number (mulT (subT y z) (tritOf n))) (read-trit (c q) l ec) (read-trit (b q) k eb)
+      ∙ ap (λ (y : Trit). number (mulT (subT (c q) (b q)) y)) (read-trit (tritAt o t (64 * (ev * w) + q)) n e ∙ sym (cell w o t ev q h))
       ∙ sym (ap (λ (s : Bool). number (cond s (mulT (subT (c q) (b q)) (matrixAt w o t ev q)) x)) (read-set w o t ev q n h e f))

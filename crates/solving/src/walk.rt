@@ -12,16 +12,6 @@ ghost use Rattle.matrix.specs.Orders.{Order};
 ghost use Rattle.elimination.specs.Grid.{Rows, Grid, putRow};
 ghost use Rattle.solving.specs.Walk.{isNext, taken, passed, forcedBy};
 
-// The trit t is put at place q of row e.
-pub fn put_at(ones: &mut [u64], twos: &mut [u64], rows: usize, w: usize, e: usize, q: usize, t: u8)
-    requires { ⌜ Rows (now ones) (now twos) rows w ⌝ }
-    requires { ⌜ (length (now ones) ≤ 4294967296) × (q < 64 * w) × (e < rows) × (t < 3) ⌝ }
-    ensures { λ _. ⌜ Grid (now (ones .exit)) (now (twos .exit)) rows w
-        (putRow e (putV (matrixAt w (now (ones .entry)) (now (twos .entry)) e) q (tritOf t)) (matrixAt w (now (ones .entry)) (now (twos .entry)))) ⌝ }
-{
-    trits::places::put_trit(ones, twos, 64 * (e * w) + q, t);
-}
-
 // Place q of row e takes trit j of another row.
 pub fn put_from(
     ones: &mut [u64],
@@ -41,7 +31,7 @@ pub fn put_from(
         (putRow e (putV (matrixAt w (now (ones .entry)) (now (twos .entry)) e) q (tritAt (now (vo .entry)) (now (vt .entry)) j)) (matrixAt w (now (ones .entry)) (now (twos .entry)))) ⌝ }
 {
     let t = trits::places::trit_at(vo, vt, j);
-    put_at(ones, twos, rows, w, e, q, t);
+    elimination::places::put_at(ones, twos, rows, w, e, q, t);
 }
 
 // Whether place q has the next pivot, c of the r rows having theirs.
@@ -166,7 +156,7 @@ pub fn force_place(
     let b = trits::places::trit_at(bo, bt, q);
     let c = trits::places::trit_at(co, ct, q);
     let t = forced_trit(b, c, v);
-    put_at(ones, twos, rows, w, e, q, t);
+    elimination::places::put_at(ones, twos, rows, w, e, q, t);
 }
 
 // The places of the order from `from` on are forced by row ev, with the supplied values from g on.
@@ -243,7 +233,7 @@ pub fn solve_place(
 {
     if is_next(ones, twos, rows, w, r, c, q) {
         let t = row_dot(ones, twos, rows, w, c, x);
-        put_at(ones, twos, rows, w, e, q, t);
+        elimination::places::put_at(ones, twos, rows, w, e, q, t);
         return c + 1;
     }
     c

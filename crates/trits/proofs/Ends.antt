@@ -4,12 +4,12 @@ use mathlib.Core.Bool.{Bool, false, cond}
 use mathlib.Core.List.{List}
 use Prim.Native.Nat.{ℕ, zero, suc, _+_, _-_, _/_, _%_, _^_, _≤_, _<_, zero-le}
 use native.Mathlib.Nat.{add-zero}
-use native.Mathlib.Decide.{decLt}
+use native.Mathlib.Decide.{decLt, ℕ-discrete}
 use native.Mathlib.Omega.{arith}
-use borrow.Author.Tests.{lt-ltb, le-ltb}
+use borrow.Author.Tests.{eq-eqb, ne-eqb, lt-ltb, le-ltb}
 use lib.ListN.{length, getD}
 use lib.Bits.{bitAnd}
-use Rattle.trits.specs.Trit.{Trit, t0, nonZero, sumTo, weightV, upTo}
+use Rattle.trits.specs.Trit.{Trit, t0, nonZero, sumTo, weightV, putV, upTo}
 use Rattle.trits.specs.Planes.{bit, trit, bitAt, tritAt, zeroWords, pastEnd, Row, Reads, Holds}
 use Rattle.trits.proofs.Bits.{bit-none}
 use Rattle.trits.proofs.Lists.{zero-at}
@@ -44,6 +44,15 @@ upto-same m u v e = fun-ext (λ i. by i (decLt i m))
     by : (i : ℕ) → Dec (i < m) → upTo m u i ≡ upTo m v i
     by i (yes l) = upto-in u m i l ∙ e i l ∙ sym (upto-in v m i l)
     by i (no f) = upto-out u m i (omega arith) ∙ sym (upto-out v m i (omega arith))
+
+-- the next place of a vector is put
+pub upto-put : (v : ℕ → Trit) (i : ℕ) → putV (upTo i v) i (v i) ≡ upTo (i + 1) v
+upto-put v i = fun-ext (λ j. by j (ℕ-discrete j i) (decLt j i))
+  where
+    by : (j : ℕ) → Dec (j ≡ i) → Dec (j < i) → putV (upTo i v) i (v i) j ≡ upTo (i + 1) v j
+    by j (yes e) d = ap (λ (t : Bool). cond t (v i) (upTo i v j)) (eq-eqb j i e) ∙ ap v (sym e) ∙ sym (upto-in v (i + 1) j (omega arith))
+    by j (no f) (yes l) = ap (λ (t : Bool). cond t (v i) (upTo i v j)) (ne-eqb j i f) ∙ upto-in v i j l ∙ sym (upto-in v (i + 1) j (omega arith))
+    by j (no f) (no l) = ap (λ (t : Bool). cond t (v i) (upTo i v j)) (ne-eqb j i f) ∙ upto-out v i j (omega arith) ∙ sym (upto-out v (i + 1) j (omega (arith, f)))
 
 -- ---- planes of 0
 

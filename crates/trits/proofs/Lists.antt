@@ -1,7 +1,7 @@
 -- Lists of words: tables, words of 0, and a copy from the front on. Assumes nothing.
 use mathlib.Core.Path.{_≡_, refl, sym, ap, _∙_}
 use mathlib.Core.List.{List, [], _∷_, _++_, append-nil}
-use Prim.Native.Nat.{ℕ, zero, suc, _+_, _<_, suc-le-suc}
+use Prim.Native.Nat.{ℕ, zero, suc, _+_, _≤_, _<_, suc-le-suc}
 use native.Mathlib.Nat.{zero-lt-suc, not-suc-le-zero, le-of-suc-le-suc, suc-inj, le-refl}
 use native.Mathlib.Numerals.{add-one}
 use native.Mathlib.Decide.{decLt}
@@ -63,3 +63,10 @@ copy-all src dst i p e = e ∙ ap (λ (n : ℕ). take n src ++ drop n dst) p ∙
 -- a row written over a list of its own length
 pub copied : {l : List ℕ} (src dst : List ℕ) → l ≡ src ++ drop (length src) dst → length src ≡ length dst → l ≡ src
 copied src dst e p = e ∙ ap (λ (x : List ℕ). src ++ x) (drop-of-length-le dst {i = length src} (omega arith)) ∙ append-nil src
+
+-- the first words of a table
+pub take-tabulate : (w n : ℕ) (f : ℕ → ℕ) → w ≤ n → take w (tabulate f n) ≡ tabulate f w
+unfolding tabulate
+take-tabulate zero n f h = refl
+take-tabulate (suc w) zero f h = absurd (not-suc-le-zero h)
+take-tabulate (suc w) (suc n) f h = ap (λ (l : List ℕ). f 0 ∷ l) (take-tabulate w n (λ i. f (suc i)) (le-of-suc-le-suc h))

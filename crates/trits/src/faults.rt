@@ -2,7 +2,7 @@
 ghost use mathlib.Core.Path.{_≡_};
 ghost use Prim.Native.Nat.{_*_, _≤_};
 ghost use lib.ListN.{length};
-ghost use Rattle.trits.specs.Planes.{bothSet, pastEnd, wordsFor};
+ghost use Rattle.trits.specs.Planes.{bothSet, wordsFor};
 ghost use Rattle.trits.specs.Rows.{rowsPastEnd};
 ghost use Rattle.trits.specs.Refusal.{codeOf, planesRefusal};
 use super::refusal::Outcome;
@@ -20,19 +20,6 @@ pub fn both_set(ones: &[u64], twos: &[u64]) -> bool
         i += 1;
     }
     both != 0
-}
-
-// Whether a bit is set past the length of a row of m trits.
-pub fn past_end(ones: &[u64], twos: &[u64], m: usize) -> bool
-    requires { ⌜ (length (now ones) ≡ wordsFor m) × (length (now twos) ≡ wordsFor m) ⌝ }
-    ensures { λ r. ⌜ r ≡ pastEnd (now (ones .entry)) (now (twos .entry)) m ⌝ }
-{
-    let used = m % 64;
-    if used == 0 {
-        return false;
-    }
-    let last = m / 64;
-    (ones[last] | twos[last]) >> used != 0
 }
 
 // Whether a bit is set past the length in one of the rows, each of m trits: the last words of all rows are gathered.

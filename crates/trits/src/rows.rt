@@ -1,8 +1,8 @@
 // Operations on whole rows, sixty-four trits at a time by masks on the two planes.
 ghost use mathlib.Core.Path.{_≡_};
-ghost use Prim.Native.Nat.{_+_, _*_, _≤_};
+ghost use Prim.Native.Nat.{_*_, _≤_};
 ghost use lib.ListN.{length};
-ghost use Rattle.trits.specs.Trit.{addT, subT, mulT, negV, zipV, zipAt, dotV, weightV, number};
+ghost use Rattle.trits.specs.Trit.{addT, subT, mulT, negV, zipV, dotV, weightV, number};
 ghost use Rattle.trits.specs.Planes.{tritAt, Row, Reads};
 
 // The source is added to the row.
@@ -69,30 +69,6 @@ pub fn negate_row(ones: &mut [u64], twos: &mut [u64])
         twos[i] = a;
         i += 1;
     }
-}
-
-// The source is added to the stretch of a matrix that begins at word `at`.
-pub fn add_at(ones: &mut [u64], twos: &mut [u64], at: usize, src_ones: &[u64], src_twos: &[u64])
-    requires { ⌜ Row (now ones) (now twos) ⌝ }
-    requires { ⌜ Row (now «src_ones») (now «src_twos») ⌝ }
-    requires { ⌜ at + length (now «src_ones») ≤ length (now ones) ⌝ }
-    ensures { λ _. ⌜ Reads (now (ones .exit)) (now (twos .exit)) (length (now (ones .entry)))
-        (zipAt addT (tritAt (now (ones .entry)) (now (twos .entry))) (tritAt (now («src_ones» .entry)) (now («src_twos» .entry))) at (length (now («src_ones» .entry)))) ⌝ }
-{
-    let end = at + src_ones.len();
-    add_row(&mut ones[at..end], &mut twos[at..end], src_ones, src_twos);
-}
-
-// The source is subtracted from the stretch of a matrix that begins at word `at`.
-pub fn sub_at(ones: &mut [u64], twos: &mut [u64], at: usize, src_ones: &[u64], src_twos: &[u64])
-    requires { ⌜ Row (now ones) (now twos) ⌝ }
-    requires { ⌜ Row (now «src_ones») (now «src_twos») ⌝ }
-    requires { ⌜ at + length (now «src_ones») ≤ length (now ones) ⌝ }
-    ensures { λ _. ⌜ Reads (now (ones .exit)) (now (twos .exit)) (length (now (ones .entry)))
-        (zipAt subT (tritAt (now (ones .entry)) (now (twos .entry))) (tritAt (now («src_ones» .entry)) (now («src_twos» .entry))) at (length (now («src_ones» .entry)))) ⌝ }
-{
-    let end = at + src_ones.len();
-    sub_row(&mut ones[at..end], &mut twos[at..end], src_ones, src_twos);
 }
 
 // The sum of the products of two rows' trits, modulo 3, from the counts of the products that are 1 and that are 2.

@@ -5,7 +5,7 @@ use borrow.Author.Needs.{needs}
 use lib.ListN.{length}
 use denote.Ref.{now}
 use Rattle.lines.specs.Machine.{machine}
-use Rattle.lines.proofs.Lines.{none-put}
+use Rattle.oneline.proofs.Lines.{none-put}
 use Rattle.trits.specs.Rows.{putWords}
 use Rattle.lines.proofs.Bytes.{end-none, end-some}
 use Rattle.lines.proofs.end.Statement.{statement}

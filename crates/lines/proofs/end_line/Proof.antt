@@ -4,7 +4,7 @@ use mathlib.Core.Path.{refl, ap, _∙_}
 use borrow.Author.Needs.{needs}
 use lib.ListN.{length}
 use denote.Ref.{now}
-use Rattle.lines.specs.Answer.{linePrints, lineKept}
+use Rattle.oneline.specs.Answer.{linePrints, lineKept}
 use Rattle.lines.specs.Machine.{machine}
 use Rattle.trits.specs.Rows.{putWords}
 use Rattle.text.specs.Forms.{Line}

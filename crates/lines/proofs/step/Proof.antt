@@ -5,7 +5,7 @@ use borrow.Author.Needs.{needs}
 use lib.ListN.{length}
 use denote.Ref.{now}
 use Rattle.lines.specs.Machine.{machine}
-use Rattle.lines.proofs.Lines.{none-put}
+use Rattle.oneline.proofs.Lines.{none-put}
 use Rattle.trits.specs.Rows.{putWords}
 use Rattle.lines.proofs.Bytes.{step-end, step-none, step-more, step-full}
 use Rattle.lines.proofs.step.Statement.{statement}

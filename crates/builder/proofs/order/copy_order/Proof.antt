@@ -5,7 +5,7 @@ use mathlib.Core.Path.{_≡_, refl}
 use native.Mathlib.Omega.{arith}
 use lib.ListN.{length, getD}
 use Rattle.trits.proofs.Patches.{Patched, patch-none, patch-more}
-use Rattle.builder.proofs.Marks.{copy-done}
+use Rattle.builder.proofs.Copies.{copy-done}
 use Rattle.builder.proofs.order.copy_order.Statement.{statement}
 use Rattle.builder.proofs.order.copy_order.Tie as tie
 

@@ -1,27 +1,23 @@
 -- Each rank is compared with the number of rows, that of H_U first.
 -- Assumes nothing.
 use native.Mathlib.Omega.{arith}
+use Rattle.calls.proofs.Bounds.{bounds}
+use Rattle.builder.proofs.Lengths.{products, lacks-u, lacks-v, lacks-none}
 use borrow.Author.Needs.{needs}
-use Rattle.builder.proofs.Lengths.{bounds, products, lacks-u, lacks-v, lacks-none}
 use Rattle.builder.proofs.ranks.test_ranks.Statement.{statement}
 use Rattle.builder.proofs.ranks.test_ranks.Tie as tie
 
 add-hw : tie.Need-add-hw
 add-hw c =
-    let b = bounds (c .before .before .before .before .before .before .args .z) (c .before .before .before .before .before .before .pre .0) in
-    omega (arith, b .high)
+    let s = c .before .before .before .before .before .before in let b = bounds (s .args .z) (s .pre .0) in omega (arith, b .high)
 
 sub-ru : tie.Need-sub-ru
 sub-ru c =
-    let b = bounds (c .before .before .before .before .before .before .args .z) (c .before .before .before .before .before .before .pre .0) in
-    omega (arith, b .ku)
+    let s = c .before .before .before .before .before .before in let b = bounds (s .args .z) (s .pre .0) in omega (arith, b .ku)
 
 rank-of-requires : tie.Need-rank-of-requires
 rank-of-requires c κs =
-    let s = c .before .before .before .before .before .before .before .before in
-    let p = products (s .args .z) (bounds (s .args .z) (s .pre .0)) in
-    let g = s .pre .1 .0 in
-    (g, ((omega (arith, g .size, p .u), omega arith), (omega (arith, g .size, p .u-room, s .pre .1 .1 .1 .0), omega (arith, g .size, p .u-room, s .pre .1 .1 .1 .1))))
+    let s = c .before .before .before .before .before .before .before .before in let p = products (s .args .z) (bounds (s .args .z) (s .pre .0)) in let g = s .pre .1 .0 in (g, ((omega (arith, g .size, p .u), omega arith), (omega (arith, g .size, p .u-room, s .pre .1 .1 .1 .0), omega (arith, g .size, p .u-room, s .pre .1 .1 .1 .1))))
 
 same-length : tie.Need-same-length
 same-length c = search needs
@@ -35,15 +31,11 @@ returns c =
 
 sub-rv : tie.Need-sub-rv
 sub-rv c =
-    let b = bounds (c .before .before .before .before .before .before .before .before .before .before .before .before .before .before .args .z) (c .before .before .before .before .before .before .before .before .before .before .before .before .before .before .pre .0) in
-    omega (arith, b .kv)
+    let s = c .before .before .before .before .before .before .before .before .before .before .before .before .before .before in let b = bounds (s .args .z) (s .pre .0) in omega (arith, b .kv)
 
 rank-of-requires-2 : tie.Need-rank-of-requires-2
 rank-of-requires-2 c κs =
-    let s = c .before .before .before .before .before .before .before .before .before .before .before .before .before .before .before .before in
-    let p = products (s .args .z) (bounds (s .args .z) (s .pre .0)) in
-    let g = s .pre .1 .1 .0 in
-    (g, ((omega (arith, g .size, p .v), omega arith), (omega (arith, g .size, p .v-room, s .pre .1 .1 .1 .0), omega (arith, g .size, p .v-room, s .pre .1 .1 .1 .1))))
+    let s = c .before .before .before .before .before .before .before .before .before .before .before .before .before .before .before .before in let p = products (s .args .z) (bounds (s .args .z) (s .pre .0)) in let g = s .pre .1 .1 .0 in (g, ((omega (arith, g .size, p .v), omega arith), (omega (arith, g .size, p .v-room, s .pre .1 .1 .1 .0), omega (arith, g .size, p .v-room, s .pre .1 .1 .1 .1))))
 
 same-length-3 : tie.Need-same-length-3
 same-length-3 c = search needs

@@ -1,122 +1,46 @@
--- Each return has the number of the first test that applies.
+-- The contents of the secret, then the starting order.
 -- Assumes nothing.
 use Prim.Native.Nat.{ℕ}
 use mathlib.Core.Path.{sym, ap, _∙_}
 use native.Mathlib.Omega.{arith}
-use borrow.Author.Needs.{needs}
 use denote.Ref.{now}
+use Rattle.trits.proofs.Refusals.{first-stops, first-goes}
 use Rattle.matrix.specs.Orders.{isOrder}
-use Rattle.builder.proofs.Lengths.{bounds, contents-hu, contents-hv, contents-b, contents-c, contents-zero, contents-order, contents-good}
+use Rattle.calls.proofs.Bounds.{bounds}
+use borrow.Author.Needs.{needs}
 use Rattle.builder.proofs.tests.test_contents.Statement.{statement}
 use Rattle.builder.proofs.tests.test_contents.Tie as tie
 
-sub-test-planes : tie.Need-sub-test-planes
-sub-test-planes c =
-    let b = bounds (c .before .before .before .before .before .before .before .before .before .args .z) (c .before .before .before .before .before .before .before .before .before .pre .0) in
-    omega (arith, b .ku)
-
-test-planes-requires : tie.Need-test-planes-requires
-test-planes-requires c κs =
-    let s = c .before .before .before .before .before .before .before .before .before in
-    let b = bounds (s .args .z) (s .pre .0) in
-    (s .pre .1 .0, s .pre .1 .1, omega (arith, b .high))
+test-secret-requires : tie.Need-test-secret-requires
+test-secret-requires c κs =
+    let s = c .before .before .before .before .before .before .before .before .before in (s .pre .0, s .pre .1 .0)
 
 code-requires : tie.Need-code-requires
 code-requires c κs = search needs
 
 returns : tie.Need-returns
 returns c =
-    contents-hu _ _ (c .before .before .test-planes .ensures) (λ z. c .if1 .taken (c .before .code .ensures ∙ z))
-
-sub-test-planes-2 : tie.Need-sub-test-planes-2
-sub-test-planes-2 c =
-    let b = bounds (c .before .before .before .before .before .before .before .before .before .before .before .before .args .z) (c .before .before .before .before .before .before .before .before .before .before .before .before .pre .0) in
-    omega (arith, b .kv)
-
-test-planes-requires-2 : tie.Need-test-planes-requires-2
-test-planes-requires-2 c κs =
-    let s = c .before .before .before .before .before .before .before .before .before .before .before .before in
-    let b = bounds (s .args .z) (s .pre .0) in
-    (s .pre .1 .2, s .pre .1 .3, omega (arith, b .high))
-
-code-requires-2 : tie.Need-code-requires-2
-code-requires-2 c κs = search needs
-
-returns-2 : tie.Need-returns-2
-returns-2 c =
-    contents-hv _ _ (sym (c .before .before .before .before .before .test-planes .ensures) ∙ sym (c .before .before .before .before .code .ensures) ∙ c .before .before .before .if1 .left) (c .before .before .test-planes2 .ensures) (λ z. c .if2 .taken (c .before .code2 .ensures ∙ z))
-
-test-planes-requires-3 : tie.Need-test-planes-requires-3
-test-planes-requires-3 c κs =
-    let s = c .before .before .before .before .before .before .before .before .before .before .before .before .before .before .before in
-    let b = bounds (s .args .z) (s .pre .0) in
-    (omega (arith, s .pre .1 .4), omega (arith, s .pre .1 .5), omega (arith, b .high))
-
-code-requires-3 : tie.Need-code-requires-3
-code-requires-3 c κs = search needs
-
-returns-3 : tie.Need-returns-3
-returns-3 c =
-    contents-b _ _ (sym (c .before .before .before .before .before .before .before .before .test-planes .ensures) ∙ sym (c .before .before .before .before .before .before .before .code .ensures) ∙ c .before .before .before .before .before .before .if1 .left) (sym (c .before .before .before .before .before .test-planes2 .ensures) ∙ sym (c .before .before .before .before .code2 .ensures) ∙ c .before .before .before .if2 .left) (c .before .before .test-planes3 .ensures) (λ z. c .if3 .taken (c .before .code3 .ensures ∙ z))
-
-test-planes-requires-4 : tie.Need-test-planes-requires-4
-test-planes-requires-4 c κs =
-    let s = c .before .before .before .before .before .before .before .before .before .before .before .before .before .before .before .before .before .before in
-    let b = bounds (s .args .z) (s .pre .0) in
-    (omega (arith, s .pre .1 .6), omega (arith, s .pre .1 .7), omega (arith, b .high))
-
-code-requires-4 : tie.Need-code-requires-4
-code-requires-4 c κs = search needs
-
-returns-4 : tie.Need-returns-4
-returns-4 c =
-    contents-c _ _ (sym (c .before .before .before .before .before .before .before .before .before .before .before .test-planes .ensures) ∙ sym (c .before .before .before .before .before .before .before .before .before .before .code .ensures) ∙ c .before .before .before .before .before .before .before .before .before .if1 .left) (sym (c .before .before .before .before .before .before .before .before .test-planes2 .ensures) ∙ sym (c .before .before .before .before .before .before .before .code2 .ensures) ∙ c .before .before .before .before .before .before .if2 .left) (sym (c .before .before .before .before .before .test-planes3 .ensures) ∙ sym (c .before .before .before .before .code3 .ensures) ∙ c .before .before .before .if3 .left) (c .before .before .test-planes4 .ensures) (λ z. c .if4 .taken (c .before .code4 .ensures ∙ z))
-
-has-zero-requires : tie.Need-has-zero-requires
-has-zero-requires c κs =
-    let s = c .before .before .before .before .before .before .before .before .before .before .before .before .before .before .before .before .before .before .before .before .before in
-    (s .pre .1 .7 ∙ sym (s .pre .1 .6), omega (arith, s .pre .1 .6))
-
-returns-5 : tie.Need-returns-5
-returns-5 c =
-    contents-zero _ _ (sym (c .before .before .before .before .before .before .before .before .before .before .before .before .before .test-planes .ensures) ∙ sym (c .before .before .before .before .before .before .before .before .before .before .before .before .code .ensures) ∙ c .before .before .before .before .before .before .before .before .before .before .before .if1 .left) (sym (c .before .before .before .before .before .before .before .before .before .before .test-planes2 .ensures) ∙ sym (c .before .before .before .before .before .before .before .before .before .code2 .ensures) ∙ c .before .before .before .before .before .before .before .before .if2 .left) (sym (c .before .before .before .before .before .before .before .test-planes3 .ensures) ∙ sym (c .before .before .before .before .before .before .code3 .ensures) ∙ c .before .before .before .before .before .if3 .left) (sym (c .before .before .before .before .test-planes4 .ensures) ∙ sym (c .before .before .before .code4 .ensures) ∙ c .before .before .if4 .left) (sym (c .before .has-zero .ensures) ∙ c .if5 .taken)
+    first-stops _ (c .before .before .test-secret .ensures) (λ z. c .if1 .taken (c .before .code .ensures ∙ z))
 
 is-order-requires : tie.Need-is-order-requires
 is-order-requires c κs =
-    let s = c .before .before .before .before .before .before .before .before .before .before .before .before .before .before .before .before .before .before .before .before .before .before .before in
-    let b = bounds (s .args .z) (s .pre .0) in
-    omega (arith, b .high, b .even, s .pre .1 .8)
+    let s = c .before .before .before .before .before .before .before .before .before .before .before .before in let b = bounds (s .args .z) (s .pre .0) in omega (arith, b .high, b .even, s .pre .1 .1)
 
-returns-6 : tie.Need-returns-6
-returns-6 c =
-    let s = c .before .before .before .before .before .before .before .before .before .before .before .before .before .before .before .before .before .before .before .before .before .before .before .before .before in
-    contents-good _ _ (sym (c .before .before .before .before .before .before .before .before .before .before .before .before .before .before .before .test-planes .ensures) ∙ sym (c .before .before .before .before .before .before .before .before .before .before .before .before .before .before .code .ensures) ∙ c .before .before .before .before .before .before .before .before .before .before .before .before .before .if1 .left) (sym (c .before .before .before .before .before .before .before .before .before .before .before .before .test-planes2 .ensures) ∙ sym (c .before .before .before .before .before .before .before .before .before .before .before .code2 .ensures) ∙ c .before .before .before .before .before .before .before .before .before .before .if2 .left) (sym (c .before .before .before .before .before .before .before .before .before .test-planes3 .ensures) ∙ sym (c .before .before .before .before .before .before .before .before .code3 .ensures) ∙ c .before .before .before .before .before .before .before .if3 .left) (sym (c .before .before .before .before .before .before .test-planes4 .ensures) ∙ sym (c .before .before .before .before .before .code4 .ensures) ∙ c .before .before .before .before .if4 .left) (sym (c .before .before .before .has-zero .ensures) ∙ c .before .before .if5 .left) (ap (λ (n : ℕ). isOrder n (now (s .args .start))) (sym (s .pre .1 .8)) ∙ sym (c .before .is-order .ensures) ∙ c .if6 .taken)
+returns-2 : tie.Need-returns-2
+returns-2 c =
+    let s = c .before .before .before .before .before .before .before .before .before .before .before .before .before .before in first-goes (c .before .before .before .before .test-secret .ensures) (sym (c .before .before .before .code .ensures) ∙ c .before .before .if1 .left) (rw (ap (λ (n : ℕ). isOrder n (now (s .args .start))) (sym (s .pre .1 .1)) ∙ sym (c .before .is-order .ensures) ∙ c .if2 .taken))
 
-returns-7 : tie.Need-returns-7
-returns-7 c =
-    let s = c .before .before .before .before .before .before .before .before .before .before .before .before .before .before .before .before .before .before .before .before .before .before .before .before .before in
-    contents-order _ _ (sym (c .before .before .before .before .before .before .before .before .before .before .before .before .before .before .before .test-planes .ensures) ∙ sym (c .before .before .before .before .before .before .before .before .before .before .before .before .before .before .code .ensures) ∙ c .before .before .before .before .before .before .before .before .before .before .before .before .before .if1 .left) (sym (c .before .before .before .before .before .before .before .before .before .before .before .before .test-planes2 .ensures) ∙ sym (c .before .before .before .before .before .before .before .before .before .before .before .code2 .ensures) ∙ c .before .before .before .before .before .before .before .before .before .before .if2 .left) (sym (c .before .before .before .before .before .before .before .before .before .test-planes3 .ensures) ∙ sym (c .before .before .before .before .before .before .before .before .code3 .ensures) ∙ c .before .before .before .before .before .before .before .if3 .left) (sym (c .before .before .before .before .before .before .test-planes4 .ensures) ∙ sym (c .before .before .before .before .before .code4 .ensures) ∙ c .before .before .before .before .if4 .left) (sym (c .before .before .before .has-zero .ensures) ∙ c .before .before .if5 .left) (ap (λ (n : ℕ). isOrder n (now (s .args .start))) (sym (s .pre .1 .8)) ∙ sym (c .before .is-order .ensures) ∙ c .if6 .left)
+returns-3 : tie.Need-returns-3
+returns-3 c =
+    let s = c .before .before .before .before .before .before .before .before .before .before .before .before .before .before in first-goes (c .before .before .before .before .test-secret .ensures) (sym (c .before .before .before .code .ensures) ∙ c .before .before .if1 .left) (rw (ap (λ (n : ℕ). isOrder n (now (s .args .start))) (sym (s .pre .1 .1)) ∙ sym (c .before .is-order .ensures) ∙ c .if2 .left))
 
 pub test-contents-spec : {M : Type 1} → statement M
 test-contents-spec =
     tie.close
     (tie.spec
-    sub-test-planes
-    test-planes-requires
+    test-secret-requires
     code-requires
     returns
-    sub-test-planes-2
-    test-planes-requires-2
-    code-requires-2
-    returns-2
-    test-planes-requires-3
-    code-requires-3
-    returns-3
-    test-planes-requires-4
-    code-requires-4
-    returns-4
-    has-zero-requires
-    returns-5
     is-order-requires
-    returns-6
-    returns-7)
+    returns-2
+    returns-3)

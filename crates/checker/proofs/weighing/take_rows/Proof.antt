@@ -9,7 +9,7 @@ use Rattle.trits.specs.Trit.{subT, zipV, tritOf, weightV, sumTo}
 use Rattle.trits.specs.Planes.{tritAt, Reads}
 use Rattle.trits.proofs.Reading.{reads-to}
 use Rattle.trits.proofs.Counts.{weight-le}
-use Rattle.packing.proofs.Digits.{number-lt, trit-number}
+use Rattle.trits.proofs.Arithmetic.{number-lt, trit-number}
 use Rattle.verdict.specs.Verdict.{timesKey}
 use Rattle.heldkey.specs.Held.{heldKey}
 use Rattle.heldkey.proofs.Sizes.{sizes}

@@ -1,7 +1,8 @@
 -- Row ev is 0 at the place, and the value is put as it is (`forced-none`), or it is not, and the product is put (`forced-some`).
 -- Assumes nothing.
 use borrow.Author.Needs.{needs}
-use Rattle.solving.proofs.Puts.{value-lt, put-number, grid-row, forced-none, forced-some}
+use Rattle.elimination.proofs.RowParts.{trit-lt}
+use Rattle.solving.proofs.Puts.{put-number, grid-row, forced-none, forced-some}
 use Rattle.trits.proofs.Matrix.{row-le}
 use Rattle.trits.specs.Rows.{matrixAt}
 use Rattle.trits.specs.Planes.{tritAt}
@@ -71,12 +72,12 @@ trit-at-requires-3 c κs =
 forced-trit-requires : tie.Need-forced-trit-requires
 forced-trit-requires c κs =
     let a = c .before .before .before .before .before .before .before .before .before .before .before .before .before .before .args in
-    (value-lt (tritAt (now (a .bo)) (now (a .bt)) (a .q)) _ (c .before .trit-at2 .ensures), value-lt (tritAt (now (a .co)) (now (a .ct)) (a .q)) _ (c .trit-at3 .ensures), value-lt (tritAt (now (a .ones)) (now (a .twos)) (64 * (a .ev * a .w) + a .q)) _ (c .before .before .before .trit-at .ensures))
+    (trit-lt (tritAt (now (a .bo)) (now (a .bt)) (a .q)) _ (c .before .trit-at2 .ensures), trit-lt (tritAt (now (a .co)) (now (a .ct)) (a .q)) _ (c .trit-at3 .ensures), trit-lt (tritAt (now (a .ones)) (now (a .twos)) (64 * (a .ev * a .w) + a .q)) _ (c .before .before .before .trit-at .ensures))
 
 put-at-requires : tie.Need-put-at-requires
 put-at-requires c κs =
     let s = c .before .before .before .before .before .before .before .before .before .before .before .before .before .before .before .before .before in
-    (s .pre .0, (s .pre .1 .1 .0, s .pre .1 .1 .1, s .pre .1 .1 .3, value-lt (mulT (subT (tritOf (c .before .before .before .trit-at3 .result)) (tritOf (c .before .before .before .before .trit-at2 .result))) (tritOf (c .before .before .before .before .before .before .trit-at .result))) _ (c .before .before .forced-trit .ensures)))
+    (s .pre .0, (s .pre .1 .1 .0, s .pre .1 .1 .3, s .pre .1 .1 .1, trit-lt (mulT (subT (tritOf (c .before .before .before .trit-at3 .result)) (tritOf (c .before .before .before .before .trit-at2 .result))) (tritOf (c .before .before .before .before .before .before .trit-at .result))) _ (c .before .before .forced-trit .ensures)))
 
 same-length-3 : tie.Need-same-length-3
 same-length-3 c = search needs

@@ -1,7 +1,8 @@
 -- The trit read is put as it is (`put-number`).
 -- Assumes nothing.
 use borrow.Author.Needs.{needs}
-use Rattle.solving.proofs.Puts.{value-lt, put-number}
+use Rattle.elimination.proofs.RowParts.{trit-lt}
+use Rattle.solving.proofs.Puts.{put-number}
 use Rattle.trits.specs.Rows.{matrixAt}
 use Rattle.trits.specs.Planes.{tritAt}
 use denote.Ref.{now}
@@ -17,7 +18,7 @@ put-at-requires : tie.Need-put-at-requires
 put-at-requires c κs =
     let s = c .before .before .before .before .before .before .before in
     let a = s .args in
-    (s .pre .0, (s .pre .1 .1 .0, s .pre .1 .1 .1, s .pre .1 .1 .2, value-lt (tritAt (now (a .vo)) (now (a .vt)) (a .j)) _ (c .before .before .trit-at .ensures)))
+    (s .pre .0, (s .pre .1 .1 .0, s .pre .1 .1 .2, s .pre .1 .1 .1, trit-lt (tritAt (now (a .vo)) (now (a .vt)) (a .j)) _ (c .before .before .trit-at .ensures)))
 
 same-length : tie.Need-same-length
 same-length c = search needs

@@ -1,7 +1,8 @@
 -- Where the place has the next pivot it takes the product of row c and row x; else nothing changes.
 -- Assumes nothing.
 use borrow.Author.Needs.{needs}
-use Rattle.solving.proofs.Puts.{value-lt, next-lt, put-number, pick-first, pick-second, grid-row, grid-own}
+use Rattle.elimination.proofs.RowParts.{trit-lt}
+use Rattle.solving.proofs.Puts.{next-lt, put-number, pick-first, pick-second, grid-row, grid-own}
 use Rattle.elimination.proofs.Went.{yes-count, no-count}
 use Rattle.trits.specs.Rows.{matrixAt}
 use Rattle.trits.specs.Trit.{dotV}
@@ -28,7 +29,7 @@ put-at-requires : tie.Need-put-at-requires
 put-at-requires c κs =
     let s = c .before .before .before .before .before .before .before .before .before .before .before in
     let a = s .args in
-    (s .pre .0, (s .pre .1 .0, s .pre .1 .2, s .pre .1 .5, value-lt (dotV ((matrixAt (a .w) (now (a .ones)) (now (a .twos))) (a .c)) ((matrixAt (a .w) (now (a .ones)) (now (a .twos))) (a .x)) (64 * a .w)) _ (c .before .before .row-dot .ensures)))
+    (s .pre .0, (s .pre .1 .0, s .pre .1 .5, s .pre .1 .2, trit-lt (dotV ((matrixAt (a .w) (now (a .ones)) (now (a .twos))) (a .c)) ((matrixAt (a .w) (now (a .ones)) (now (a .twos))) (a .x)) (64 * a .w)) _ (c .before .before .row-dot .ensures)))
 
 add-result : tie.Need-add-result
 add-result c =

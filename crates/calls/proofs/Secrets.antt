@@ -1,0 +1,143 @@
+-- The secret's lengths and contents: what tests that have passed show. Assumes nothing.
+use mathlib.Core.Path.{_≡_, refl, sym, ap, _∙_}
+use mathlib.Core.Bool.{Bool, true, false, not, _||_, true≢false}
+use mathlib.Core.List.{List}
+use Prim.Native.Nat.{ℕ, _+_, _*_, _≤_}
+use native.Mathlib.Nat.{zero-add}
+use native.Mathlib.Omega.{arith}
+use borrow.Author.Tests.{eqb-true}
+use mir.Syntax.{w64}
+use mir.Val.{Fits}
+use lib.Dec.{eqb}
+use lib.ListN.{length, getD}
+use Rattle.trits.specs.Planes.{Row, tritAt}
+use Rattle.trits.specs.Refusal.{refuse, planesRefusal}
+use Rattle.trits.proofs.Tests.{both-apart, any-cong}
+use Rattle.trits.proofs.Refusals.{first-stops, first-goes, passed-first, planes-passed}
+use Rattle.matrix.specs.Linear.{Vector}
+use Rattle.matrix.proofs.Field.{not-false}
+use Rattle.signer.specs.declared.sizes.Sizes.{Sizes}
+use Rattle.signer.specs.Sizes.{half, ru, rv}
+use Rattle.calls.specs.Lent.{Planes, halfWords, pairDiffers, secretDiffers, hasZero, secretRefusal, Readable}
+use Rattle.calls.proofs.Marks.{isZero}
+use Rattle.calls.proofs.Exits.{first-le, planes-le}
+
+-- ---- lengths that do not differ
+
+pub or-none : (a b : Bool) → (a || b) ≡ false → (a ≡ false) × (b ≡ false)
+or-none true b e = absurd (true≢false e)
+or-none false b e = (refl, e)
+
+pub pair-same : (m o t : ℕ) → pairDiffers m o t ≡ false → (o ≡ m) × (t ≡ m)
+pair-same m o t e =
+    let a = or-none (not (eqb o m)) (not (eqb t m)) e in
+    (eqb-true o m (not-false (eqb o m) (a .0)), eqb-true t m (not-false (eqb t m) (a .1)))
+
+pub record SecretLengths (z : Sizes) (a b c d e f g h : ℕ) : Type 0 where
+  pub hu1 : a ≡ ru z * halfWords z
+  pub hu2 : b ≡ ru z * halfWords z
+  pub hv1 : c ≡ rv z * halfWords z
+  pub hv2 : d ≡ rv z * halfWords z
+  pub b1 : e ≡ halfWords z
+  pub b2 : f ≡ halfWords z
+  pub c1 : g ≡ halfWords z
+  pub c2 : h ≡ halfWords z
+
+pub secret-same : (z : Sizes) (hu1 hu2 hv1 hv2 b1 b2 c1 c2 : ℕ) → secretDiffers z hu1 hu2 hv1 hv2 b1 b2 c1 c2 ≡ false → SecretLengths z hu1 hu2 hv1 hv2 b1 b2 c1 c2
+unfolding secretDiffers
+secret-same z hu1 hu2 hv1 hv2 b1 b2 c1 c2 e =
+    let A = or-none (pairDiffers (ru z * halfWords z) hu1 hu2) _ e in
+    let B = or-none (pairDiffers (rv z * halfWords z) hv1 hv2) _ (A .1) in
+    let C = or-none (pairDiffers (halfWords z) b1 b2) _ (B .1) in
+    let u = pair-same _ hu1 hu2 (A .0) in
+    let v = pair-same _ hv1 hv2 (B .0) in
+    let b = pair-same _ b1 b2 (C .0) in
+    let c = pair-same _ c1 c2 (C .1) in
+    record { hu1 = u .0; hu2 = u .1; hv1 = v .0; hv2 = v .1; b1 = b .0; b2 = b .1; c1 = c .0; c2 = c .1 }
+
+-- ---- zeros, looked for from the first place on
+
+pub zero-from : (m : ℕ) (v : Vector) → hasZero m (λ j. v (0 + j)) ≡ hasZero m v
+unfolding hasZero
+zero-from m v = any-cong m (isZero (λ j. v (0 + j))) (isZero v) (λ q h. ap (isZero v) (zero-add q))
+
+-- ---- the contents, by the tests one after another
+
+module _ (z : Sizes) (i : Planes) where
+  abbrev pub refusalHU : ℕ
+  refusalHU = planesRefusal (i .huOnes) (i .huTwos) (ru z) (half z)
+
+  abbrev pub refusalHV : ℕ
+  refusalHV = planesRefusal (i .hvOnes) (i .hvTwos) (rv z) (half z)
+
+  abbrev pub refusalB : ℕ
+  refusalB = planesRefusal (i .bOnes) (i .bTwos) 1 (half z)
+
+  abbrev pub refusalC : ℕ
+  refusalC = planesRefusal (i .cOnes) (i .cTwos) 1 (half z)
+
+  abbrev pub zeroInC : Bool
+  zeroInC = hasZero (half z) (tritAt (i .cOnes) (i .cTwos))
+
+  pub secret-le : secretRefusal z i ≤ 8
+  unfolding secretRefusal
+  secret-le =
+      first-le _ _ (planes-le _ _ _ _) (first-le _ _ (planes-le _ _ _ _) (first-le _ _ (planes-le _ _ _ _) (first-le _ _ (planes-le _ _ _ _) (by zeroInC))))
+    where
+      by : (t : Bool) → refuse t 8 0 ≤ 8
+      by true = omega arith
+      by false = omega arith
+
+module _ (z : Sizes) (i : Planes) {x : ℕ} (a : x ≡ refusalHU z i) where
+  pub secret-hu : (x ≡ 0 → ⊥) → x ≡ secretRefusal z i
+  unfolding secretRefusal
+  secret-hu f = first-stops _ a f
+
+  module _ (f : x ≡ 0) {y : ℕ} (b : y ≡ refusalHV z i) where
+    pub secret-hv : (y ≡ 0 → ⊥) → y ≡ secretRefusal z i
+    unfolding secretRefusal
+    secret-hv g = first-goes a f (first-stops _ b g)
+
+    module _ (g : y ≡ 0) {u : ℕ} (c : u ≡ refusalB z i) where
+      pub secret-b : (u ≡ 0 → ⊥) → u ≡ secretRefusal z i
+      unfolding secretRefusal
+      secret-b h = first-goes a f (first-goes b g (first-stops _ c h))
+
+      module _ (h : u ≡ 0) {v : ℕ} (d : v ≡ refusalC z i) where
+        pub secret-c : (v ≡ 0 → ⊥) → v ≡ secretRefusal z i
+        unfolding secretRefusal
+        secret-c k = first-goes a f (first-goes b g (first-goes c h (first-stops _ d k)))
+
+        module _ (k : v ≡ 0) where
+          pub secret-zero : zeroInC z i ≡ true → 8 ≡ secretRefusal z i
+          unfolding secretRefusal
+          secret-zero e = first-goes a f (first-goes b g (first-goes c h (first-goes d k (rw e))))
+
+          pub secret-good : zeroInC z i ≡ false → 0 ≡ secretRefusal z i
+          unfolding secretRefusal
+          secret-good e = first-goes a f (first-goes b g (first-goes c h (first-goes d k (rw e))))
+
+-- ---- contents that are not refused
+
+pub row-of : (o t : List ℕ) (r m : ℕ) {n : ℕ} → planesRefusal o t r m ≡ 0 → length o ≡ n → length t ≡ n → ((j : ℕ) → Fits w64 (getD o j 0)) → ((j : ℕ) → Fits w64 (getD t j 0)) → Row o t
+row-of o t r m e a b ho ht = record { same = b ∙ sym a; apart = both-apart ho ht (planes-passed o t r m e .0) }
+
+pub readable : (z : Sizes) (i : Planes)
+    → SecretLengths z (length (i .huOnes)) (length (i .huTwos)) (length (i .hvOnes)) (length (i .hvTwos)) (length (i .bOnes)) (length (i .bTwos)) (length (i .cOnes)) (length (i .cTwos))
+    → secretRefusal z i ≡ 0
+    → ((j : ℕ) → Fits w64 (getD (i .huOnes) j 0)) → ((j : ℕ) → Fits w64 (getD (i .huTwos) j 0)) → ((j : ℕ) → Fits w64 (getD (i .hvOnes) j 0)) → ((j : ℕ) → Fits w64 (getD (i .hvTwos) j 0))
+    → ((j : ℕ) → Fits w64 (getD (i .bOnes) j 0)) → ((j : ℕ) → Fits w64 (getD (i .bTwos) j 0)) → ((j : ℕ) → Fits w64 (getD (i .cOnes) j 0)) → ((j : ℕ) → Fits w64 (getD (i .cTwos) j 0)) → Readable z i
+unfolding secretRefusal
+readable z i l e f1 f2 f3 f4 f5 f6 f7 f8 =
+    let A = passed-first (refusalHU z i) _ e in
+    let B = passed-first (refusalHV z i) _ (A .1) in
+    let C = passed-first (refusalB z i) _ (B .1) in
+    let D = passed-first (refusalC z i) _ (C .1) in
+    record {
+      hu = record { row = row-of _ _ (ru z) (half z) (A .0) (l .hu1) (l .hu2) f1 f2; size = l .hu1 };
+      hv = record { row = row-of _ _ (rv z) (half z) (B .0) (l .hv1) (l .hv2) f3 f4; size = l .hv1 };
+      b = row-of _ _ 1 (half z) (C .0) (l .b1) (l .b2) f5 f6;
+      c = row-of _ _ 1 (half z) (D .0) (l .c1) (l .c2) f7 f8;
+      bSize = l .b1;
+      cSize = l .c1;
+    }

@@ -1,0 +1,3 @@
+-- The laws behind the functions' proofs: words lent to the checker, one line.
+pub mod Lent
+pub mod Lines

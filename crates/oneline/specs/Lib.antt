@@ -1,0 +1,2 @@
+-- The definitions of one line.
+pub mod Answer

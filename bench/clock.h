@@ -27,7 +27,7 @@ static double rate(void) {
     return (__rdtsc() - steps) / (now() - t);
 }
 
-static uint64_t draw(void) {
+static uint64_t chance(void) {
     static uint64_t seed = 88172645463325252u;
     seed ^= seed << 13;
     seed ^= seed >> 7;

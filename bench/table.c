@@ -13,8 +13,6 @@
 static int turns = 3;
 static double steps; /* of the time stamp counter in a nanosecond */
 
-/* until an archive has the draw, its rows are left out */
-extern __typeof__(wave_draw) wave_draw __attribute__((weak));
 static const side ours = {bench_sum, bench_weight, bench_both_set, bench_past_end, wave_unpack, bench_check, wave_check, bench_weigh, bench_weigh_packed, wave_build, wave_draw, 0};
 static const side *const sides[] = {&ours, &plain_o3, &plain_native};
 
@@ -54,7 +52,7 @@ static planes rows(size_t count, size_t m, int full) {
     size_t w = WAVE_WORDS(m), n = count * w;
     planes a = {room(n, 8), room(n, 8), n};
     for (size_t i = 0; i < count; i++)
-        for (size_t q = 0; q < m; q++) put(a, 64 * i * w + q, full ? 1 + draw() % 2 : draw() % 3);
+        for (size_t q = 0; q < m; q++) put(a, 64 * i * w + q, full ? 1 + chance() % 2 : chance() % 3);
     return a;
 }
 
@@ -73,7 +71,7 @@ static uint16_t *order(size_t n) {
     uint16_t *p = room(n, 2);
     for (size_t i = 0; i < n; i++) p[i] = i;
     for (size_t i = n - 1; i > 0; i--) {
-        size_t j = draw() % (i + 1);
+        size_t j = chance() % (i + 1);
         uint16_t x = p[i];
         p[i] = p[j], p[j] = x;
     }
@@ -85,7 +83,7 @@ static void sign(input *a, size_t w) {
     size_t n = a->z.n, m = a->m;
     uint8_t *word = room(n, 1), *y = room(m, 1);
     uint16_t *at = order(n);
-    for (size_t i = 0; i < w; i++) word[at[i]] = 1 + draw() % 2;
+    for (size_t i = 0; i < w; i++) word[at[i]] = 1 + chance() % 2;
     memcpy(y, word, m);
     a->y = (planes){room(WAVE_WORDS(m), 8), room(WAVE_WORDS(m), 8), WAVE_WORDS(m)};
     a->s = (planes){room(WAVE_WORDS(a->k), 8), room(WAVE_WORDS(a->k), 8), WAVE_WORDS(a->k)};
@@ -204,15 +202,15 @@ static size_t run_build(const side *f, const input *a, uint64_t *out) {
 }
 
 typedef struct { const char *name; size_t (*run)(const side *, const input *, uint64_t *); size_t times; } act;
-enum { SUM, WEIGHT, UNPACK, CHECK, CHECK_PACKED, WEIGH, WEIGH_PACKED, BUILD, DRAW, BOTH_SET, PAST_END, ACTS };
+enum { SUM, WEIGHT, UNPACK, CHECK, WEIGH, CHECK_PACKED, WEIGH_PACKED, BUILD, DRAW, BOTH_SET, PAST_END, ACTS };
 static const act acts[ACTS] = {
     [SUM] = {"sum of two rows", run_sum, TIMES},
     [WEIGHT] = {"weight of a row", run_weight, TIMES},
     [UNPACK] = {"unpack of a whole key", run_unpack, 1},
     [CHECK] = {"check in planes", run_check, 1},
+    [WEIGH] = {"check in planes, weight only", run_weigh, WEIGHTS},
     [CHECK_PACKED] = {"check packed", run_check_packed, 1},
-    [WEIGH] = {"its weight alone, in planes", run_weigh, WEIGHTS},
-    [WEIGH_PACKED] = {"its weight alone, packed", run_weigh_packed, WEIGHTS},
+    [WEIGH_PACKED] = {"check packed, weight only", run_weigh_packed, WEIGHTS},
     [BUILD] = {"build", run_build, 1},
     [DRAW] = {"draw", run_draw, 1},
     [BOTH_SET] = {"bit in both planes (3)", run_both_set, TIMES},
@@ -264,28 +262,23 @@ static const char *number(double x) {
     return t;
 }
 
-static void head(const char *what) {
-    printf("\n| %-27s | %14s | %14s | %14s | %5s | %6s | %14s | %14s | %14s | published cycles |\n", what, "ours, ns", "gcc -O3, ns", "native, ns", "ratio", "native", "ours, cycles", "gcc -O3",
-           "native");
-    printf("|---|---|---|---|---|---|---|---|---|---|\n");
+static void head(const char *size) {
+    printf("\n| %-28s | %5s | %13s | %13s | %13s | %5s | %6s | %14s | %14s | %14s | published cycles |\n", "call", size, "ours, ns", "gcc -O3, ns", "native, ns", "/ -O3", "/ nat.", "ours, cycles",
+           "gcc -O3", "native");
+    printf("|---|---|---|---|---|---|---|---|---|---|---|\n");
 }
 
-static void line(const char *name, const figures *f, const char *published) {
-    printf("| %-27s | %14s | %14s | %14s | %5.2f | %6.2f | %14s | %14s | %14s | %s |\n", name, number(f->ns[0]), number(f->ns[1]), number(f->ns[2]), f->ns[0] / f->ns[1], f->ns[0] / f->ns[2],
-           number(f->ns[0] * steps), number(f->ns[1] * steps), number(f->ns[2] * steps), published ? published : "");
+static void line(const act *c, size_t size, const figures *f, const char *published) {
+    printf("| %-28s | %5s | %13s | %13s | %13s | %5.2f | %6.2f | %14s | %14s | %14s | %s |\n", c->name, number(size), number(f->ns[0]), number(f->ns[1]), number(f->ns[2]), f->ns[0] / f->ns[1],
+           f->ns[0] / f->ns[2], number(f->ns[0] * steps), number(f->ns[1] * steps), number(f->ns[2] * steps), published ? published : "");
     fflush(stdout);
 }
 
 /* all calls at a published size; the figures are kept in f */
-static void published_size(const char *what, const input *a, const char *const *published, figures *f) {
-    head(what);
+static void published_size(const input *a, const char *const *published, figures *f) {
     for (int i = SUM; i <= DRAW; i++) {
-        if (i == DRAW && !ours.draw) {
-            printf("| draw: not linked | | | | | | | | | %s |\n", published[i]);
-            continue;
-        }
         f[i] = measure(&acts[i], a);
-        line(acts[i].name, &f[i], published[i]);
+        line(&acts[i], a->z.n, &f[i], published[i]);
     }
 }
 
@@ -294,7 +287,7 @@ static void growth(const figures *largest) {
     static const int grown[] = {BUILD, DRAW, CHECK_PACKED};
     figures f[4][ACTS];
     printf("\n| %-13s | %6s | %5s | %5s | %3s | %14s | %7s | %14s | %7s | %14s | %7s | %5s | %6s |\n", "call", "n", "k_U", "k_V", "g", "ours, ns", "growth", "gcc -O3, ns", "growth", "native, ns", "growth",
-           "ratio", "native");
+           "/ -O3", "/ nat.");
     printf("|---|---|---|---|---|---|---|---|---|---|---|---|---|\n");
     wave_sizes z[4];
     for (int j = 0; j < 4; j++) {
@@ -303,14 +296,13 @@ static void growth(const figures *largest) {
         if (j == 3) memcpy(f[3], largest, sizeof f[3]);
         else {
             input a = make(z[j]);
-            for (int i = 0; i < 3; i++)
-                if (grown[i] != DRAW || ours.draw) f[j][grown[i]] = measure(&acts[grown[i]], &a);
+            for (int i = 0; i < 3; i++) f[j][grown[i]] = measure(&acts[grown[i]], &a);
         }
     }
     for (int i = 0; i < 3; i++)
-        for (int j = 0; j < 4 && (grown[i] != DRAW || ours.draw); j++) {
+        for (int j = 0; j < 4; j++) {
             const figures *x = &f[j][grown[i]];
-            printf("| %-13s | %6s | %5s | %5llu | %3llu |", acts[grown[i]].name, number(z[j].n), number(z[j].ku), (unsigned long long)z[j].kv, (unsigned long long)z[j].g);
+            printf("| %-13s | %6s | %5s | %5s | %3s |", acts[grown[i]].name, number(z[j].n), number(z[j].ku), number(z[j].kv), number(z[j].g));
             for (int s = 0; s < 3; s++) {
                 printf(" %14s |", number(x->ns[s]));
                 if (j) printf(" %7.2f |", x->ns[s] / f[j - 1][grown[i]].ns[s]);
@@ -323,28 +315,27 @@ static void growth(const figures *largest) {
 /* the row functions at other lengths, one trit less than whole words, 64 rows of them */
 static void lengths(void) {
     static const int acted[] = {SUM, WEIGHT, BOTH_SET, PAST_END}, words[] = {4, 67, 256};
-    head("row function, words");
+    head("words");
     for (int i = 0; i < 4; i++)
         for (int j = 0; j < 3; j++) {
             size_t m = 64 * words[j] - 1;
-            char name[64];
             input a = {.k = 64, .m = m, .key = rows(64, m, 0), .y = rows(1, m, 0)};
             figures f = measure(&acts[acted[i]], &a);
-            snprintf(name, sizeof name, "%s, %d", acts[acted[i]].name, words[j]);
-            line(name, &f, 0);
+            line(&acts[acted[i]], words[j], &f, 0);
         }
 }
 
 int main(int count, char **argument) {
-    static const char *const submission[ACTS] = {[UNPACK] = "205,829,565, a check with it", [CHECK] = "1,230,598", [CHECK_PACKED] = "1,230,598", [BUILD] = "14,468,000,043", [DRAW] = "1,160,793,621"};
+    static const char *const submission[ACTS] = {[UNPACK] = "205,829,565 (with a check)", [CHECK] = "1,230,598", [CHECK_PACKED] = "1,230,598", [BUILD] = "14,468,000,043", [DRAW] = "1,160,793,621"};
     static const char *const wavelet[ACTS] = {[BUILD] = "7,403,069,461", [DRAW] = "1,644,281,062"};
     figures first[ACTS], second[ACTS];
     if (count > 1) turns = atoi(argument[1]);
     steps = rate();
     printf("time stamp counter: %.0f MHz; at least %d turns of each call\n", steps * 1000, turns);
     input a = make((wave_sizes){8576, 2966, 1322, 40, 7668}), b = make((wave_sizes){8492, 3558, 2047, 81, 7980});
-    published_size("n 8,576 (source 000)", &a, submission, first);
-    published_size("n 8,492 (source 001)", &b, wavelet, second);
+    head("n");
+    published_size(&a, submission, first);
+    published_size(&b, wavelet, second);
     growth(first);
     lengths();
     return 0;

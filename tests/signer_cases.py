@@ -1,8 +1,13 @@
 #!/usr/bin/env python3
-"""What the programs `build_cases`, `draw_cases` and `sign_lines` must print, worked out from the paper's rules on lists of trits; it shares nothing with the crates.
+"""Worked cases of the build and of the draw, and what the program `sign_lines` must print: worked out from the paper's rules on lists of trits; it shares nothing with the crates.
 
 A plane is one whole number whose bit i is place i, cut into words of 64 bits; a row begins a new word. Each call tests in the paper's order: 1, every
-length (2), the contents buffer after buffer (3, 4, 8, 7), then 9 and 10, or 12, 13 and 14. Usage: signer_cases.py build | draw | sign"""
+length (2), the contents buffer after buffer (3, 4, 8, 7), then 9 and 10, or 12, 13 and 14.
+
+signer_cases.py calls BUILDER DRAWING   runs each case by wave_build and wave_draw of the two shared objects and holds the answer and every buffer to the rules;
+                                        at n = 4 it runs all choices, and holds the words that were released to those that meet the terms of demand 3
+signer_cases.py sign                    prints what `sign_lines` must print"""
+import ctypes
 import itertools
 import os
 import re
@@ -148,6 +153,7 @@ def built(z, secret, start):
 
 
 def build(z, secret, start, p, key, work):
+    """The answer, and every buffer that may change as it is then."""
     n, ku, kv, g, w = z
     N, k = n // 2, ku + kv
     r = n - k
@@ -162,18 +168,7 @@ def build(z, secret, start, p, key, work):
             work = [[0] * len(x) for x in work]
             if not code:
                 p, key = order, planes(rows)
-    print("build", *z, "answers", code, end=", p")
-    print("".join(f" {x}" for x in p), end=", key")
-    show(key)
-    print(", work", end="")
-    show(work)
-    print()
-    return p, key
-
-
-def show(pair):
-    for name, ws in zip((", ones", ", twos"), pair):
-        print(name + "".join(f" {x}" for x in ws), end="")
+    return code, [p] + key + work
 
 
 # ---- the draw
@@ -262,19 +257,14 @@ def draw_code(z, secret, p, y, v_order, v, u_order, u, word, s, work):
 
 
 def draw(z, secret, p, y, v_order, v, u_order, u, word, s, work):
+    """The answer, and every buffer that may change as it is then."""
     n, ku, kv, g, w = z
     code, e = draw_code(z, secret, p, y, v_order, v, u_order, u, word, s, work)
     if code == 0:
         word, s = planes([e]), planes([e[n - ku - kv:]])
     if code == 0 or code > 8:
         work = [[0] * len(x) for x in work]
-    print("draw", *z, "answers", code, end=", word")
-    show(word)
-    print(", s", end="")
-    show(s)
-    print(", work", end="")
-    show(work)
-    print()
+    return code, word + s + work
 
 
 # ---- the words of demand 3
@@ -297,7 +287,53 @@ def meeting(z, secret, p, R, y):
     return out
 
 
-# ---- the made-up rows and orders of the programs
+# ---- the calls
+
+class Sizes(ctypes.Structure):
+    _fields_ = [(f, ctypes.c_uint64) for f in ("n", "ku", "kv", "g", "w")]
+
+
+GUARD = 4
+compared = 0
+
+
+def lent(numbers, kind):
+    """The numbers between guards."""
+    return (kind * (len(numbers) + 2 * GUARD))(*([0xA5A5] * GUARD + list(numbers) + [0x5A5A] * GUARD))
+
+
+def run(call, z, read, written, orders):
+    """The answer of a call, and its written buffers; what is only read must stay, and so must all guards."""
+    buffers = [lent(x, ctypes.c_uint16 if i in orders else ctypes.c_uint64) for i, x in enumerate(read + written)]
+    arguments = []
+    for b, x in zip(buffers, read + written):
+        arguments += [ctypes.byref(b, GUARD * ctypes.sizeof(b._type_)), ctypes.c_size_t(len(x))]
+    code = call(Sizes(*z), *arguments)
+    out = [list(b) for b in buffers]
+    for b, x in zip(out, read + written):
+        assert b[:GUARD] == [0xA5A5] * GUARD and b[GUARD + len(x):] == [0x5A5A] * GUARD, ("a guard was overwritten", z)
+    assert [b[GUARD:len(b) - GUARD] for b in out[:len(read)]] == [list(x) for x in read], ("what is only read was changed", z)
+    return code, [b[GUARD:len(b) - GUARD] for b in out[len(read):]]
+
+
+def same(z, got, wanted):
+    global compared
+    compared += 1
+    if got != (wanted[0], [list(x) for x in wanted[1]]):
+        sys.exit(f"signer cases: at {z} the call gives {got}, the rules give {wanted}")
+
+
+def call_build(z, secret, start, p, key, work):
+    same(z, run(BUILD, z, secret + [start], [p] + key + work, (8, 9)), build(z, secret, start, p, key, work))
+
+
+def call_draw(z, secret, p, y, v_order, v, u_order, u, word, s, work):
+    got = run(DRAW, z, secret + [p] + y + [v_order] + v + [u_order] + u, word + s + work, (8, 11, 14))
+    same(z, got, draw(z, secret, p, y, v_order, v, u_order, u, word, s, work))
+    return got
+
+
+# ---- made-up rows and orders
 
 def sample_rows(m, rows, x):
     out = []
@@ -323,7 +359,7 @@ FIRST = [0, 1, 2, 3]
 
 
 def four(z, secret, start):
-    build(z, secret, start, [9] * 4, [[9] * 2, [8] * 2], [[7] * 4, [6] * 4])
+    call_build(z, secret, start, [9] * 4, [[9] * 2, [8] * 2], [[7] * 4, [6] * 4])
 
 
 def altered(secret, at, words):
@@ -331,7 +367,6 @@ def altered(secret, at, words):
 
 
 def build_cases():
-    print("what the build answers and leaves; expected by tests/signer_cases.py, from the paper's rules on lists of trits")
     four(SMALL, PAPER, FIRST)
     four(SMALL, PAPER, [1, 2, 0, 3])
     four((4, 1, 1, 1, 1), PAPER, [3, 2, 1, 0])
@@ -344,7 +379,7 @@ def build_cases():
     four(SMALL, PAPER, [0, 1, 2])
     four(SMALL, PAPER, [0, 1, 2, 3, 4])
     for p, k1, k2, w1, w2 in ((3, 2, 2, 4, 4), (4, 1, 2, 4, 4), (4, 2, 3, 4, 4), (4, 2, 2, 3, 4), (4, 2, 2, 4, 5)):
-        build(SMALL, PAPER, FIRST, [9] * p, [[9] * k1, [8] * k2], [[7] * w1, [6] * w2])
+        call_build(SMALL, PAPER, FIRST, [9] * p, [[9] * k1, [8] * k2], [[7] * w1, [6] * w2])
     for at, ws in ((1, [1]), (1, [4]), (3, [3]), (2, [9]), (5, [2]), (4, [6]), (6, [3]), (7, [6]), (7, [0])):
         four(SMALL, altered(PAPER, at, ws), FIRST)
     four(SMALL, PAPER, [0, 1, 2, 2])
@@ -354,14 +389,14 @@ def build_cases():
     four(SMALL, [[0], [0]] + PAPER[2:], FIRST)
     four(SMALL, PAPER[:2] + [[0], [0]] + PAPER[4:], FIRST)
     four(SMALL, [[0], [0], [0], [0]] + PAPER[4:], FIRST)
-    build((132, 64, 63, 1, 100), sample_rows(66, 2, 11) + sample_rows(66, 3, 12) + sample_rows(66, 1, 13) + [[6148914691236517205, 1], [12297829382473034410, 2]],
+    call_build((132, 64, 63, 1, 100), sample_rows(66, 2, 11) + sample_rows(66, 3, 12) + sample_rows(66, 1, 13) + [[6148914691236517205, 1], [12297829382473034410, 2]],
           sample_order(132, 25, 7), [9] * 132, [[9] * 127, [8] * 127], [[7] * 20, [6] * 20])
-    build((132, 30, 31, 30, 1), sample_rows(66, 36, 21) + sample_rows(66, 35, 22) + sample_rows(66, 1, 23) + [[12297829382473034410, 1], [6148914691236517205, 2]],
+    call_build((132, 30, 31, 30, 1), sample_rows(66, 36, 21) + sample_rows(66, 35, 22) + sample_rows(66, 1, 23) + [[12297829382473034410, 1], [6148914691236517205, 2]],
           sample_order(132, 35, 100), [9] * 132, [[9] * 122, [8] * 122], [[7] * 284, [6] * 284])
 
 
 def small_draw(z, secret, p, y, v_order, v, u_order, u):
-    draw(z, secret, p, y, v_order, v, u_order, u, [[9], [8]], [[5], [4]], [[7] * 6, [6] * 6])
+    return call_draw(z, secret, p, y, v_order, v, u_order, u, [[9], [8]], [[5], [4]], [[7] * 6, [6] * 6])
 
 
 def digit(t):
@@ -374,12 +409,11 @@ def wide_draw(z, first, g, v_order, u_order, weight):
     secret = sample_rows(66, 66 - ku, first) + sample_rows(66, 66 - kv, first + 1) + sample_rows(66, 1, first + 2) + [[6148914691236517205, 1], [12297829382473034410, 2]]
     u = [[0x5A5A5A5A5A5A5A5A & (1 << ku) - 1], [0xA5A5A5A5A5A5A5A5 & (1 << ku) - 1]]
     words, k = (66 - min(ku, kv) + 5) * 2, ku + kv
-    draw((n, ku, kv, g, weight), secret, sample_order(n, 25, 7), sample_rows(n - k, 1, first + 3), v_order, sample_rows(kv, 1, first + 4), u_order, u,
+    call_draw((n, ku, kv, g, weight), secret, sample_order(n, 25, 7), sample_rows(n - k, 1, first + 3), v_order, sample_rows(kv, 1, first + 4), u_order, u,
          [[9] * 3, [8] * 3], [[5] * words_for(k), [4] * words_for(k)], [[7] * words, [6] * words])
 
 
 def draw_cases():
-    print("what the draw answers and leaves; expected by tests/signer_cases.py, from the paper's rules on lists of trits")
     y, other, up, down = [[1], [2]], [1, 3, 0, 2], [0, 1], [1, 0]
     # the paper's draws, and the same under a p that is not its own inverse
     for p in (FIRST, other):
@@ -406,15 +440,40 @@ def draw_cases():
     # rows of more than one word, with gaps from 0 to k_U
     for z, first, g, weight in WIDE:
         wide_draw(z, first, g, sample_order(66, 5, 3), sample_order(66, 7, 60), weight)
-    # all words that draws release at n = 4
+    # lengths of the buffers that are not the secret, each one less and one more
+    lengths = draw_lengths(SMALL)
+    for at in range(len(lengths)):
+        for by in (-1, 1):
+            made = [list(x)[:m] + [0] * (m - len(x)) for x, m in zip([FIRST] + y + [up] + digit(2) + [up] + digit(1) + [[9], [8], [5], [4], [7] * 6, [6] * 6],
+                                                                     [m + by * (i == at) for i, m in enumerate(lengths)])]
+            p, y1, y2, ov, v1, v2, ou, u1, u2, e1, e2, s1, s2, w1, w2 = made
+            call_draw(SMALL, PAPER, p, [y1, y2], ov, [v1, v2], ou, [u1, u2], [e1, e2], [s1, s2], [w1, w2])
+    every_word()
+
+
+def released(z, p, y):
+    """All words that draws release for y, over all choices, as numbers in base 3."""
+    out = set()
+    for v_order, v, u_order, u in itertools.product(([0, 1], [1, 0]), range(3), ([0, 1], [1, 0]), range(3)):
+        code, (ones, twos, *_) = small_draw(z, PAPER, p, planes([y]), v_order, digit(v), u_order, digit(u))
+        if code == 0:
+            out.add(sum(trit(ones, twos, i) * 3 ** i for i in range(4)))
+    return sorted(out)
+
+
+def every_word():
+    """Under the paper's two keys at n = 4: every syndrome, gap and weight."""
+    global compared
     for start in (FIRST, [1, 2, 0, 3]):
         _, p, R = built(SMALL, PAPER, start)
-        for syndrome in range(9):
-            for g in range(2):
-                for w in range(1, 5):
-                    z = (4, 1, 1, g, w)
-                    print("released", *z, "under", *p, "for", syndrome % 3, syndrome // 3, end=":")
-                    print("".join(f" {x}" for x in meeting(z, PAPER, p, R, [syndrome % 3, syndrome // 3])))
+        for y in itertools.product(range(3), repeat=2):
+            for g, w in itertools.product(range(2), range(1, 5)):
+                z = (4, 1, 1, g, w)
+                got, wanted = released(z, p, y), meeting(z, PAPER, p, R, y)
+                compared += 1
+                if got != wanted:
+                    sys.exit(f"signer cases: at {z} under {p} for {y} draws release {got}, and the terms hold of {wanted}")
+                print(f"g {g}, w {w}, p {digits(p)}, y {digits(y)}: released {' '.join(map(str, got)) or 'none'}")
 
 
 # ---- the sample that joins the halves
@@ -455,4 +514,11 @@ def sign_lines():
 WIDE = [((132, 64, 63), 41, 0, 132), ((132, 64, 63), 41, 1, 132), ((132, 30, 31), 51, 0, 102), ((132, 30, 31), 51, 7, 102), ((132, 30, 31), 51, 7, 103), ((132, 30, 31), 51, 30, 95)]
 
 if __name__ == "__main__":
-    {"build": build_cases, "draw": draw_cases, "sign": sign_lines}[sys.argv[1]]()
+    if sys.argv[1] == "sign":
+        sign_lines()
+    else:
+        BUILD, DRAW = (getattr(ctypes.CDLL(os.path.abspath(path)), name) for path, name in zip(sys.argv[2:4], ("wave_build", "wave_draw")))
+        BUILD.restype = DRAW.restype = ctypes.c_uint64
+        build_cases()
+        draw_cases()
+        print(f"signer cases: {compared} compared")

@@ -38,7 +38,8 @@ pub fn make(
     requires { ⌜ Order (places z) (now start) ⌝ }
     requires { ⌜ (length (now p) ≡ places z) × (length (now «key_ones») ≡ dim z * keyWords z) × (length (now «key_twos») ≡ dim z * keyWords z)
         × (length (now «work_ones») ≡ workWords z) × (length (now «work_twos») ≡ workWords z) ⌝ }
-    ensures { λ r. ⌜ (let s = secretOf z (planes (now («hu_ones» .entry)) (now («hu_twos» .entry)) (now («hv_ones» .entry)) (now («hv_twos» .entry)) (now («b_ones» .entry)) (now («b_twos» .entry)) (now («c_ones» .entry)) (now («c_twos» .entry))) in
+    ensures { λ r. ⌜ (let s = secretOf z (planes (now («hu_ones» .entry)) (now («hu_twos» .entry)) (now («hv_ones» .entry)) (now («hv_twos» .entry))
+        (now («b_ones» .entry)) (now («b_twos» .entry)) (now («c_ones» .entry)) (now («c_twos» .entry))) in
         (codeOf r ≡ buildRefusal z s)
         × (now (p .exit) ≡ atExit (buildRefusal z s) (keyOrder z s (now (start .entry))) (now (p .entry)))
         × (now («key_ones» .exit) ≡ atExit (buildRefusal z s) (keyOnesOf z s (now (start .entry))) (now («key_ones» .entry)))
@@ -91,7 +92,8 @@ pub fn finish(
     requires { ⌜ Order (places z) (now start) ⌝ }
     requires { ⌜ (length (now p) ≡ places z) × (length (now «key_ones») ≡ dim z * keyWords z) × (length (now «key_twos») ≡ dim z * keyWords z)
         × (length (now «work_ones») ≡ workWords z) × (length (now «work_twos») ≡ workWords z) ⌝ }
-    ensures { λ r. ⌜ (let s = secretOf z (planes (now («hu_ones» .entry)) (now («hu_twos» .entry)) (now («hv_ones» .entry)) (now («hv_twos» .entry)) (now («b_ones» .entry)) (now («b_twos» .entry)) (now («c_ones» .entry)) (now («c_twos» .entry))) in
+    ensures { λ r. ⌜ (let s = secretOf z (planes (now («hu_ones» .entry)) (now («hu_twos» .entry)) (now («hv_ones» .entry)) (now («hv_twos» .entry))
+        (now («b_ones» .entry)) (now («b_twos» .entry)) (now («c_ones» .entry)) (now («c_twos» .entry))) in
         (codeOf r ≡ buildRefusal z s)
         × (now (p .exit) ≡ atExit (buildRefusal z s) (keyOrder z s (now (start .entry))) (now (p .entry)))
         × (now («key_ones» .exit) ≡ atExit (buildRefusal z s) (keyOnesOf z s (now (start .entry))) (now («key_ones» .entry)))

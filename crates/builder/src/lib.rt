@@ -31,7 +31,8 @@ pub fn build(
     work_ones: &mut [u64],
     work_twos: &mut [u64],
 ) -> Outcome
-    ensures { λ r. ⌜ (let i = lent (planes (now («hu_ones» .entry)) (now («hu_twos» .entry)) (now («hv_ones» .entry)) (now («hv_twos» .entry)) (now («b_ones» .entry)) (now («b_twos» .entry)) (now («c_ones» .entry)) (now («c_twos» .entry)))
+    ensures { λ r. ⌜ (let i = lent (planes (now («hu_ones» .entry)) (now («hu_twos» .entry)) (now («hv_ones» .entry)) (now («hv_twos» .entry))
+        (now («b_ones» .entry)) (now («b_twos» .entry)) (now («c_ones» .entry)) (now («c_twos» .entry)))
         (now (start .entry)) (now (p .entry)) (now («key_ones» .entry)) (now («key_twos» .entry)) (now («work_ones» .entry)) (now («work_twos» .entry)) in
         (codeOf r ≡ buildAnswer z i) × (now (p .exit) ≡ orderExit z i) × (now («key_ones» .exit) ≡ keyOnesExit z i) × (now («key_twos» .exit) ≡ keyTwosExit z i)
         × (now («work_ones» .exit) ≡ workOnesExit z i) × (now («work_twos» .exit) ≡ workTwosExit z i)) ⌝ }
@@ -111,7 +112,8 @@ pub extern "C" fn wave_build(
     work_ones: &mut [u64],
     work_twos: &mut [u64],
 ) -> u64
-    ensures { λ r. ⌜ (let i = lent (planes (now («hu_ones» .entry)) (now («hu_twos» .entry)) (now («hv_ones» .entry)) (now («hv_twos» .entry)) (now («b_ones» .entry)) (now («b_twos» .entry)) (now («c_ones» .entry)) (now («c_twos» .entry)))
+    ensures { λ r. ⌜ (let i = lent (planes (now («hu_ones» .entry)) (now («hu_twos» .entry)) (now («hv_ones» .entry)) (now («hv_twos» .entry))
+        (now («b_ones» .entry)) (now («b_twos» .entry)) (now («c_ones» .entry)) (now («c_twos» .entry)))
         (now (start .entry)) (now (p .entry)) (now («key_ones» .entry)) (now («key_twos» .entry)) (now («work_ones» .entry)) (now («work_twos» .entry)) in
         (r ≡ buildAnswer z i) × (now (p .exit) ≡ orderExit z i) × (now («key_ones» .exit) ≡ keyOnesExit z i) × (now («key_twos» .exit) ≡ keyTwosExit z i)
         × (now («work_ones» .exit) ≡ workOnesExit z i) × (now («work_twos» .exit) ≡ workTwosExit z i)) ⌝ }

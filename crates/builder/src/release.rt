@@ -31,7 +31,8 @@ pub fn fill_matrix(
     requires { ⌜ sizesFit z ≡ true ⌝ }
     requires { ⌜ Readable z (planes (now «hu_ones») (now «hu_twos») (now «hv_ones») (now «hv_twos») (now «b_ones») (now «b_twos») (now «c_ones») (now «c_twos»)) ⌝ }
     requires { ⌜ (length (now «work_ones») ≡ workWords z) × (length (now «work_twos») ≡ workWords z) ⌝ }
-    ensures { λ _. ⌜ Filled z (secretOf z (planes (now («hu_ones» .entry)) (now («hu_twos» .entry)) (now («hv_ones» .entry)) (now («hv_twos» .entry)) (now («b_ones» .entry)) (now («b_twos» .entry)) (now («c_ones» .entry)) (now («c_twos» .entry))))
+    ensures { λ _. ⌜ Filled z (secretOf z (planes (now («hu_ones» .entry)) (now («hu_twos» .entry)) (now («hv_ones» .entry)) (now («hv_twos» .entry))
+        (now («b_ones» .entry)) (now («b_twos» .entry)) (now («c_ones» .entry)) (now («c_twos» .entry))))
         (now («work_ones» .exit)) (now («work_twos» .exit)) ⌝ }
 {
     let half = z.n as usize / 2;
@@ -92,7 +93,8 @@ pub fn release(
     requires { ⌜ rank (codim z) (places z) (secretMatrix z (secretOf z (planes (now «hu_ones») (now «hu_twos») (now «hv_ones») (now «hv_twos») (now «b_ones») (now «b_twos») (now «c_ones») (now «c_twos»)))) (range (places z)) ≡ codim z ⌝ }
     requires { ⌜ (length (now p) ≡ places z) × (length (now «key_ones») ≡ dim z * keyWords z) × (length (now «key_twos») ≡ dim z * keyWords z)
         × (length (now «work_ones») ≡ workWords z) × (length (now «work_twos») ≡ workWords z) ⌝ }
-    ensures { λ _. ⌜ (let s = secretOf z (planes (now («hu_ones» .entry)) (now («hu_twos» .entry)) (now («hv_ones» .entry)) (now («hv_twos» .entry)) (now («b_ones» .entry)) (now («b_twos» .entry)) (now («c_ones» .entry)) (now («c_twos» .entry))) in
+    ensures { λ _. ⌜ (let s = secretOf z (planes (now («hu_ones» .entry)) (now («hu_twos» .entry)) (now («hv_ones» .entry)) (now («hv_twos» .entry))
+        (now («b_ones» .entry)) (now («b_twos» .entry)) (now («c_ones» .entry)) (now («c_twos» .entry))) in
         (now (p .exit) ≡ keyOrder z s (now (start .entry)))
         × (now («key_ones» .exit) ≡ keyOnesOf z s (now (start .entry))) × (now («key_twos» .exit) ≡ keyTwosOf z s (now (start .entry)))) ⌝ }
 {

@@ -76,7 +76,8 @@ pub fn test_contents(
     requires { ⌜ (length (now «hu_ones») ≡ ru z * halfWords z) × (length (now «hu_twos») ≡ ru z * halfWords z) × (length (now «hv_ones») ≡ rv z * halfWords z) × (length (now «hv_twos») ≡ rv z * halfWords z)
         × (length (now «b_ones») ≡ halfWords z) × (length (now «b_twos») ≡ halfWords z) × (length (now «c_ones») ≡ halfWords z) × (length (now «c_twos») ≡ halfWords z) ⌝ }
     requires { ⌜ length (now start) ≡ places z ⌝ }
-    ensures { λ r. ⌜ codeOf r ≡ first (secretRefusal z (planes (now («hu_ones» .entry)) (now («hu_twos» .entry)) (now («hv_ones» .entry)) (now («hv_twos» .entry)) (now («b_ones» .entry)) (now («b_twos» .entry)) (now («c_ones» .entry)) (now («c_twos» .entry))))
+    ensures { λ r. ⌜ codeOf r ≡ first (secretRefusal z (planes (now («hu_ones» .entry)) (now («hu_twos» .entry)) (now («hv_ones» .entry)) (now («hv_twos» .entry))
+        (now («b_ones» .entry)) (now («b_twos» .entry)) (now («c_ones» .entry)) (now («c_twos» .entry))))
         (demand (isOrder (places z) (now (start .entry))) 7 0) ⌝ }
 {
     let secret = tests::test_secret(

@@ -58,30 +58,45 @@ fn next(x: u8) -> u8
     x - 236
 }
 
+// One word of each plane is packed into one byte.
+fn pack_word(m: usize, one: u64, two: u64) {
+    show::pack(m, &[one], &[two], &mut [9]);
+}
+
+// One byte is unpacked into one word of each plane.
+fn unpack_byte(m: usize, byte: u8) {
+    show::unpack(m, &[byte], &mut [9], &mut [9]);
+}
+
+// Bytes of a stream are read into one word of each plane.
+fn stream_word(m: usize, bytes: &[u8]) {
+    show::stream(m, bytes, &mut [9], &mut [9]);
+}
+
 // The rule at its edges: the paper's bytes, and the last byte.
 fn pack_edges() {
-    show::pack(5, &[17], &[2], &mut [9]);
-    show::pack(5, &[0], &[31], &mut [9]);
-    show::pack(4, &[0], &[15], &mut [9]);
+    pack_word(5, 17, 2);
+    pack_word(5, 0, 31);
+    pack_word(4, 0, 15);
     show::pack(6, &[0], &[63], &mut [9, 9]);
-    show::pack(1, &[0], &[1], &mut [9]);
+    pack_word(1, 0, 1);
 }
 
 // The same, read back.
 fn unpack_edges() {
-    show::unpack(5, &[88], &mut [9], &mut [9]);
-    show::unpack(5, &[242], &mut [9], &mut [9]);
-    show::unpack(2, &[242], &mut [9], &mut [9]);
-    show::unpack(1, &[241], &mut [9], &mut [9]);
+    unpack_byte(5, 88);
+    unpack_byte(5, 242);
+    unpack_byte(2, 242);
+    unpack_byte(1, 241);
 }
 
 // What pack refuses: sizes and each length.
 fn pack_lengths() {
-    show::pack(16385, &[0], &[0], &mut [9]);
+    pack_word(16385, 0, 0);
     show::pack(5, &[0, 0], &[0], &mut [9]);
     show::pack(5, &[0], &[0, 0], &mut [9]);
     show::pack(5, &[0], &[0], &mut [9, 9]);
-    show::pack(6, &[0], &[0], &mut [9]);
+    pack_word(6, 0, 0);
     show::pack(
         65,
         &[0],
@@ -92,17 +107,17 @@ fn pack_lengths() {
 
 // And a bit in both planes, a bit past the length, and which comes first.
 fn pack_contents() {
-    show::pack(5, &[4], &[6], &mut [9]);
-    show::pack(5, &[32], &[0], &mut [9]);
-    show::pack(5, &[0], &[9223372036854775808], &mut [9]);
-    show::pack(5, &[32], &[32], &mut [9]);
-    show::pack(5, &[33], &[1], &mut [9]);
+    pack_word(5, 4, 6);
+    pack_word(5, 32, 0);
+    pack_word(5, 0, 9223372036854775808);
+    pack_word(5, 32, 32);
+    pack_word(5, 33, 1);
 }
 
 // What unpack refuses: sizes and each length.
 fn unpack_lengths() {
-    show::unpack(16385, &[0], &mut [9], &mut [9]);
-    show::unpack(6, &[0], &mut [9], &mut [9]);
+    unpack_byte(16385, 0);
+    unpack_byte(6, 0);
     show::unpack(5, &[0, 0], &mut [9], &mut [9]);
     show::unpack(5, &[0], &mut [9, 9], &mut [9]);
     show::unpack(5, &[0], &mut [9], &mut [9, 9]);
@@ -110,33 +125,33 @@ fn unpack_lengths() {
 
 // And a byte above 242, also where only its ignored trits are large.
 fn unpack_contents() {
-    show::unpack(5, &[243], &mut [9], &mut [9]);
+    unpack_byte(5, 243);
     show::unpack(6, &[0, 255], &mut [9], &mut [9]);
-    show::unpack(1, &[243], &mut [9], &mut [9]);
+    unpack_byte(1, 243);
 }
 
 // Streams: skipped bytes, a last byte that gives less, bytes that are not looked at.
 fn streams() {
-    show::stream(9, &[255, 88, 243, 242, 7], &mut [9], &mut [9]);
-    show::stream(10, &[88, 244, 242], &mut [9], &mut [9]);
-    show::stream(6, &[1, 1, 255], &mut [9], &mut [9]);
-    show::stream(5, &[243, 250, 80], &mut [9], &mut [9]);
-    show::stream(1, &[2], &mut [9], &mut [9]);
+    stream_word(9, &[255, 88, 243, 242, 7]);
+    stream_word(10, &[88, 244, 242]);
+    stream_word(6, &[1, 1, 255]);
+    stream_word(5, &[243, 250, 80]);
+    stream_word(1, &[2]);
 }
 
 // Streams that end too soon.
 fn short_streams() {
-    show::stream(6, &[1, 243], &mut [9], &mut [9]);
-    show::stream(1, &[243, 255], &mut [9], &mut [9]);
-    show::stream(11, &[1, 2], &mut [9], &mut [9]);
+    stream_word(6, &[1, 243]);
+    stream_word(1, &[243, 255]);
+    stream_word(11, &[1, 2]);
 }
 
 // And sizes and each length.
 fn stream_lengths() {
-    show::stream(16385, &[1], &mut [9], &mut [9]);
+    stream_word(16385, &[1]);
     show::stream(5, &[1], &mut [9, 9], &mut [9]);
     show::stream(5, &[1], &mut [9], &mut [9, 9]);
-    show::stream(65, &[1], &mut [9], &mut [9]);
+    stream_word(65, &[1]);
 }
 
 fn main() {

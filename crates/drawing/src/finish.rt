@@ -37,16 +37,17 @@ pub fn release_word(
     requires { ⌜ l ≤ 8192 ⌝ }
     requires { ⌜ Rows (now «work_ones») (now «work_twos») (l + 5) (halfWords z) ⌝ }
     requires { ⌜ (length (now «word_ones») ≡ wordsFor (places z)) × (length (now «word_twos») ≡ wordsFor (places z)) × (length (now «s_ones») ≡ wordsFor (dim z)) × (length (now «s_twos») ≡ wordsFor (dim z)) ⌝ }
-    ensures { λ _. ⌜ (now («word_ones» .exit) ≡ onesOf (upTo (places z) (writtenFrom (half z) ((matrixAt (halfWords z) (now («work_ones» .entry)) (now («work_twos» .entry))) (l + 4)) ((matrixAt (halfWords z) (now («work_ones» .entry)) (now («work_twos» .entry))) (l + 3)) (now (p .entry)) 0)) (wordsFor (places z)))
-        × (now («word_twos» .exit) ≡ twosOf (upTo (places z) (writtenFrom (half z) ((matrixAt (halfWords z) (now («work_ones» .entry)) (now («work_twos» .entry))) (l + 4)) ((matrixAt (halfWords z) (now («work_ones» .entry)) (now («work_twos» .entry))) (l + 3)) (now (p .entry)) 0)) (wordsFor (places z)))
-        × (now («s_ones» .exit) ≡ onesOf (upTo (dim z) (writtenFrom (half z) ((matrixAt (halfWords z) (now («work_ones» .entry)) (now («work_twos» .entry))) (l + 4)) ((matrixAt (halfWords z) (now («work_ones» .entry)) (now («work_twos» .entry))) (l + 3)) (now (p .entry)) (codim z))) (wordsFor (dim z)))
-        × (now («s_twos» .exit) ≡ twosOf (upTo (dim z) (writtenFrom (half z) ((matrixAt (halfWords z) (now («work_ones» .entry)) (now («work_twos» .entry))) (l + 4)) ((matrixAt (halfWords z) (now («work_ones» .entry)) (now («work_twos» .entry))) (l + 3)) (now (p .entry)) (codim z))) (wordsFor (dim z))) ⌝ }
+    ensures { λ _. ⌜ (let A = matrixAt (halfWords z) (now («work_ones» .entry)) (now («work_twos» .entry)) in
+        let word = writtenFrom (half z) (A (l + 4)) (A (l + 3)) (now (p .entry)) in
+        (now («word_ones» .exit) ≡ onesOf (upTo (places z) (word 0)) (wordsFor (places z))) × (now («word_twos» .exit) ≡ twosOf (upTo (places z) (word 0)) (wordsFor (places z)))
+        × (now («s_ones» .exit) ≡ onesOf (upTo (dim z) (word (codim z))) (wordsFor (dim z))) × (now («s_twos» .exit) ≡ twosOf (upTo (dim z) (word (codim z))) (wordsFor (dim z)))) ⌝ }
 {
     let half = z.n as usize / 2;
     let w = (half + 63) / 64;
     let rows = l + 5;
     let u = l + 4;
     let v = l + 3;
+    let n = half + half;
     let k = z.ku as usize + z.kv as usize;
     let first = half - z.ku as usize + (half - z.kv as usize);
     pairing::places::write_places(
@@ -59,7 +60,7 @@ pub fn release_word(
         half,
         p,
         0,
-        half + half,
+        n,
         word_ones,
         word_twos,
     );
@@ -111,8 +112,10 @@ pub fn make(
         (now p) (now «y_ones») (now «y_twos») (now «v_order») (now «v_ones») (now «v_twos») (now «u_order») (now «u_ones») (now «u_twos»)) ⌝ }
     requires { ⌜ (length (now «word_ones») ≡ wordsFor (places z)) × (length (now «word_twos») ≡ wordsFor (places z)) × (length (now «s_ones») ≡ wordsFor (dim z)) × (length (now «s_twos») ≡ wordsFor (dim z))
         × (length (now «work_ones») ≡ workWords z) × (length (now «work_twos») ≡ workWords z) ⌝ }
-    ensures { λ r. ⌜ (let i = (given (planes (now («hu_ones» .entry)) (now («hu_twos» .entry)) (now («hv_ones» .entry)) (now («hv_twos» .entry)) (now («b_ones» .entry)) (now («b_twos» .entry)) (now («c_ones» .entry)) (now («c_twos» .entry)))
-        (now (p .entry)) (now («y_ones» .entry)) (now («y_twos» .entry)) (now («v_order» .entry)) (now («v_ones» .entry)) (now («v_twos» .entry)) (now («u_order» .entry)) (now («u_ones» .entry)) (now («u_twos» .entry))) in
+    ensures { λ r. ⌜ (let i = (given (planes (now («hu_ones» .entry)) (now («hu_twos» .entry)) (now («hv_ones» .entry)) (now («hv_twos» .entry))
+        (now («b_ones» .entry)) (now («b_twos» .entry)) (now («c_ones» .entry)) (now («c_twos» .entry)))
+        (now (p .entry)) (now («y_ones» .entry)) (now («y_twos» .entry)) (now («v_order» .entry)) (now («v_ones» .entry)) (now («v_twos» .entry))
+        (now («u_order» .entry)) (now («u_ones» .entry)) (now («u_twos» .entry))) in
         (codeOf r ≡ ending z i)
         × (now («word_ones» .exit) ≡ atExit (ending z i) (onesOf (upTo (places z) (wordOf z i)) (wordsFor (places z))) (now («word_ones» .entry)))
         × (now («word_twos» .exit) ≡ atExit (ending z i) (twosOf (upTo (places z) (wordOf z i)) (wordsFor (places z))) (now («word_twos» .entry)))
@@ -193,8 +196,10 @@ pub fn finish(
         (now p) (now «y_ones») (now «y_twos») (now «v_order») (now «v_ones») (now «v_twos») (now «u_order») (now «u_ones») (now «u_twos»)) ⌝ }
     requires { ⌜ (length (now «word_ones») ≡ wordsFor (places z)) × (length (now «word_twos») ≡ wordsFor (places z)) × (length (now «s_ones») ≡ wordsFor (dim z)) × (length (now «s_twos») ≡ wordsFor (dim z))
         × (length (now «work_ones») ≡ workWords z) × (length (now «work_twos») ≡ workWords z) ⌝ }
-    ensures { λ r. ⌜ (let i = (given (planes (now («hu_ones» .entry)) (now («hu_twos» .entry)) (now («hv_ones» .entry)) (now («hv_twos» .entry)) (now («b_ones» .entry)) (now («b_twos» .entry)) (now («c_ones» .entry)) (now («c_twos» .entry)))
-        (now (p .entry)) (now («y_ones» .entry)) (now («y_twos» .entry)) (now («v_order» .entry)) (now («v_ones» .entry)) (now («v_twos» .entry)) (now («u_order» .entry)) (now («u_ones» .entry)) (now («u_twos» .entry))) in
+    ensures { λ r. ⌜ (let i = (given (planes (now («hu_ones» .entry)) (now («hu_twos» .entry)) (now («hv_ones» .entry)) (now («hv_twos» .entry))
+        (now («b_ones» .entry)) (now («b_twos» .entry)) (now («c_ones» .entry)) (now («c_twos» .entry)))
+        (now (p .entry)) (now («y_ones» .entry)) (now («y_twos» .entry)) (now («v_order» .entry)) (now («v_ones» .entry)) (now («v_twos» .entry))
+        (now («u_order» .entry)) (now («u_ones» .entry)) (now («u_twos» .entry))) in
         (codeOf r ≡ ending z i)
         × (now («word_ones» .exit) ≡ atExit (ending z i) (onesOf (upTo (places z) (wordOf z i)) (wordsFor (places z))) (now («word_ones» .entry)))
         × (now («word_twos» .exit) ≡ atExit (ending z i) (twosOf (upTo (places z) (wordOf z i)) (wordsFor (places z))) (now («word_twos» .entry)))

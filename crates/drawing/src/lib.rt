@@ -38,8 +38,10 @@ pub fn draw(
     work_ones: &mut [u64],
     work_twos: &mut [u64],
 ) -> Outcome
-    ensures { λ r. ⌜ (let i = (lent (planes (now («hu_ones» .entry)) (now («hu_twos» .entry)) (now («hv_ones» .entry)) (now («hv_twos» .entry)) (now («b_ones» .entry)) (now («b_twos» .entry)) (now («c_ones» .entry)) (now («c_twos» .entry)))
-        (now (p .entry)) (now («y_ones» .entry)) (now («y_twos» .entry)) (now («v_order» .entry)) (now («v_ones» .entry)) (now («v_twos» .entry)) (now («u_order» .entry)) (now («u_ones» .entry)) (now («u_twos» .entry))
+    ensures { λ r. ⌜ (let i = (lent (planes (now («hu_ones» .entry)) (now («hu_twos» .entry)) (now («hv_ones» .entry)) (now («hv_twos» .entry))
+        (now («b_ones» .entry)) (now («b_twos» .entry)) (now («c_ones» .entry)) (now («c_twos» .entry)))
+        (now (p .entry)) (now («y_ones» .entry)) (now («y_twos» .entry)) (now («v_order» .entry)) (now («v_ones» .entry)) (now («v_twos» .entry))
+        (now («u_order» .entry)) (now («u_ones» .entry)) (now («u_twos» .entry))
         (now («word_ones» .entry)) (now («word_twos» .entry)) (now («s_ones» .entry)) (now («s_twos» .entry)) (now («work_ones» .entry)) (now («work_twos» .entry))) in
         (codeOf r ≡ drawAnswer z i) × (now («word_ones» .exit) ≡ wordOnesExit z i) × (now («word_twos» .exit) ≡ wordTwosExit z i) × (now («s_ones» .exit) ≡ sOnesExit z i) × (now («s_twos» .exit) ≡ sTwosExit z i)
         × (now («work_ones» .exit) ≡ workOnesExit z i) × (now («work_twos» .exit) ≡ workTwosExit z i)) ⌝ }
@@ -154,8 +156,10 @@ pub extern "C" fn wave_draw(
     work_ones: &mut [u64],
     work_twos: &mut [u64],
 ) -> u64
-    ensures { λ r. ⌜ (let i = (lent (planes (now («hu_ones» .entry)) (now («hu_twos» .entry)) (now («hv_ones» .entry)) (now («hv_twos» .entry)) (now («b_ones» .entry)) (now («b_twos» .entry)) (now («c_ones» .entry)) (now («c_twos» .entry)))
-        (now (p .entry)) (now («y_ones» .entry)) (now («y_twos» .entry)) (now («v_order» .entry)) (now («v_ones» .entry)) (now («v_twos» .entry)) (now («u_order» .entry)) (now («u_ones» .entry)) (now («u_twos» .entry))
+    ensures { λ r. ⌜ (let i = (lent (planes (now («hu_ones» .entry)) (now («hu_twos» .entry)) (now («hv_ones» .entry)) (now («hv_twos» .entry))
+        (now («b_ones» .entry)) (now («b_twos» .entry)) (now («c_ones» .entry)) (now («c_twos» .entry)))
+        (now (p .entry)) (now («y_ones» .entry)) (now («y_twos» .entry)) (now («v_order» .entry)) (now («v_ones» .entry)) (now («v_twos» .entry))
+        (now («u_order» .entry)) (now («u_ones» .entry)) (now («u_twos» .entry))
         (now («word_ones» .entry)) (now («word_twos» .entry)) (now («s_ones» .entry)) (now («s_twos» .entry)) (now («work_ones» .entry)) (now («work_twos» .entry))) in
         (r ≡ drawAnswer z i) × (now («word_ones» .exit) ≡ wordOnesExit z i) × (now («word_twos» .exit) ≡ wordTwosExit z i) × (now («s_ones» .exit) ≡ sOnesExit z i) × (now («s_twos» .exit) ≡ sTwosExit z i)
         × (now («work_ones» .exit) ≡ workOnesExit z i) × (now («work_twos» .exit) ≡ workTwosExit z i)) ⌝ }

@@ -129,7 +129,8 @@ pub fn test_choices(
     requires { ⌜ (length (now p) ≡ places z) × (length (now «y_ones») ≡ wordsFor (codim z)) × (length (now «y_twos») ≡ wordsFor (codim z)) × (length (now «v_order») ≡ half z)
         × (length (now «v_ones») ≡ wordsFor (z .kv)) × (length (now «v_twos») ≡ wordsFor (z .kv)) × (length (now «u_order») ≡ half z)
         × (length (now «u_ones») ≡ wordsFor (z .ku)) × (length (now «u_twos») ≡ wordsFor (z .ku)) ⌝ }
-    ensures { λ r. ⌜ codeOf r ≡ choicesRefusal z (chosen (now (p .entry)) (now («y_ones» .entry)) (now («y_twos» .entry)) (now («v_order» .entry)) (now («v_ones» .entry)) (now («v_twos» .entry)) (now («u_order» .entry)) (now («u_ones» .entry)) (now («u_twos» .entry))) ⌝ }
+    ensures { λ r. ⌜ codeOf r ≡ choicesRefusal z (chosen (now (p .entry)) (now («y_ones» .entry)) (now («y_twos» .entry)) (now («v_order» .entry)) (now («v_ones» .entry)) (now («v_twos» .entry))
+        (now («u_order» .entry)) (now («u_ones» .entry)) (now («u_twos» .entry))) ⌝ }
 {
     let half = z.n as usize / 2;
     let ku = z.ku as usize;
@@ -190,8 +191,10 @@ pub fn test_contents(
     requires { ⌜ (length (now p) ≡ places z) × (length (now «y_ones») ≡ wordsFor (codim z)) × (length (now «y_twos») ≡ wordsFor (codim z)) × (length (now «v_order») ≡ half z)
         × (length (now «v_ones») ≡ wordsFor (z .kv)) × (length (now «v_twos») ≡ wordsFor (z .kv)) × (length (now «u_order») ≡ half z)
         × (length (now «u_ones») ≡ wordsFor (z .ku)) × (length (now «u_twos») ≡ wordsFor (z .ku)) ⌝ }
-    ensures { λ r. ⌜ codeOf r ≡ first (secretRefusal z (planes (now («hu_ones» .entry)) (now («hu_twos» .entry)) (now («hv_ones» .entry)) (now («hv_twos» .entry)) (now («b_ones» .entry)) (now («b_twos» .entry)) (now («c_ones» .entry)) (now («c_twos» .entry))))
-        (choicesRefusal z (chosen (now (p .entry)) (now («y_ones» .entry)) (now («y_twos» .entry)) (now («v_order» .entry)) (now («v_ones» .entry)) (now («v_twos» .entry)) (now («u_order» .entry)) (now («u_ones» .entry)) (now («u_twos» .entry)))) ⌝ }
+    ensures { λ r. ⌜ codeOf r ≡ first (secretRefusal z (planes (now («hu_ones» .entry)) (now («hu_twos» .entry)) (now («hv_ones» .entry)) (now («hv_twos» .entry))
+        (now («b_ones» .entry)) (now («b_twos» .entry)) (now («c_ones» .entry)) (now («c_twos» .entry))))
+        (choicesRefusal z (chosen (now (p .entry)) (now («y_ones» .entry)) (now («y_twos» .entry)) (now («v_order» .entry)) (now («v_ones» .entry)) (now («v_twos» .entry))
+        (now («u_order» .entry)) (now («u_ones» .entry)) (now («u_twos» .entry)))) ⌝ }
 {
     let secret = tests::test_secret(
         z,

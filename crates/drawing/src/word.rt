@@ -100,16 +100,19 @@ pub fn solve_halves(
     requires { ⌜ (length (now «v_ones») ≡ wordsFor (z .kv)) × (length (now «u_ones») ≡ wordsFor (z .ku)) ⌝ }
     requires { ⌜ (ru z ≤ l) × (rv z ≤ l) × (l ≤ 8192) ⌝ }
     requires { ⌜ Rows (now «work_ones») (now «work_twos») (l + 5) (halfWords z) ⌝ }
-    requires { ⌜ Ends (half z) ((matrixAt (halfWords z) (now «work_ones») (now «work_twos»)) l) × Ends (half z) ((matrixAt (halfWords z) (now «work_ones») (now «work_twos»)) (l + 1)) ⌝ }
-    requires { ⌜ ((matrixAt (halfWords z) (now «work_ones») (now «work_twos»)) (l + 3) ≡ zeros) × ((matrixAt (halfWords z) (now «work_ones») (now «work_twos»)) (l + 4) ≡ zeros) ⌝ }
-    ensures { λ r. ⌜ codeOf r ≡ ranksRefusal z (secretOf z (planes (now («hu_ones» .entry)) (now («hu_twos» .entry)) (now («hv_ones» .entry)) (now («hv_twos» .entry)) (now («b_ones» .entry)) (now («b_twos» .entry)) (now («c_ones» .entry)) (now («c_twos» .entry)))) (choices (now («v_order» .entry)) (now («v_ones» .entry)) (now («v_twos» .entry)) (now («u_order» .entry)) (now («u_ones» .entry)) (now («u_twos» .entry))) 0 ⌝ }
-    ensures { λ _. ⌜ Rows (now («work_ones» .exit)) (now («work_twos» .exit)) (l + 5) (halfWords z) ⌝ }
-    ensures { λ r. ⌜ SolvedWhere (codeOf r) z l (secretOf z (planes (now («hu_ones» .entry)) (now («hu_twos» .entry)) (now («hv_ones» .entry)) (now («hv_twos» .entry)) (now («b_ones» .entry)) (now («b_twos» .entry)) (now («c_ones» .entry)) (now («c_twos» .entry)))) (choices (now («v_order» .entry)) (now («v_ones» .entry)) (now («v_twos» .entry)) (now («u_order» .entry)) (now («u_ones» .entry)) (now («u_twos» .entry)))
-        ((matrixAt (halfWords z) (now («work_ones» .entry)) (now («work_twos» .entry))) l) ((matrixAt (halfWords z) (now («work_ones» .entry)) (now («work_twos» .entry))) (l + 1)) (matrixAt (halfWords z) (now («work_ones» .exit)) (now («work_twos» .exit))) ⌝ }
+    requires { ⌜ (let A = matrixAt (halfWords z) (now «work_ones») (now «work_twos») in
+        Ends (half z) (A l) × Ends (half z) (A (l + 1)) × (A (l + 3) ≡ zeros) × (A (l + 4) ≡ zeros)) ⌝ }
+    ensures { λ r. ⌜ (let s = secretOf z (planes (now («hu_ones» .entry)) (now («hu_twos» .entry)) (now («hv_ones» .entry)) (now («hv_twos» .entry))
+        (now («b_ones» .entry)) (now («b_twos» .entry)) (now («c_ones» .entry)) (now («c_twos» .entry))) in
+        let ch = choices (now («v_order» .entry)) (now («v_ones» .entry)) (now («v_twos» .entry)) (now («u_order» .entry)) (now («u_ones» .entry)) (now («u_twos» .entry)) in
+        let A = matrixAt (halfWords z) (now («work_ones» .entry)) (now («work_twos» .entry)) in
+        (codeOf r ≡ ranksRefusal z s ch 0) × Rows (now («work_ones» .exit)) (now («work_twos» .exit)) (l + 5) (halfWords z)
+        × SolvedWhere (codeOf r) z l s ch (A l) (A (l + 1)) (matrixAt (halfWords z) (now («work_ones» .exit)) (now («work_twos» .exit)))) ⌝ }
 {
     let half = z.n as usize / 2;
     let w = (half + 63) / 64;
-    let g = z.g as usize;
+    let gv = z.g as usize;
+    let gu = z.g as usize;
     let rv = half - z.kv as usize;
     let ru = half - z.ku as usize;
     let rows = l + 5;
@@ -124,7 +127,7 @@ pub fn solve_halves(
         hv_ones,
         hv_twos,
         v_order,
-        g,
+        gv,
         v_ones,
         v_twos,
         l + 1,
@@ -141,7 +144,7 @@ pub fn solve_halves(
         hu_ones,
         hu_twos,
         u_order,
-        g,
+        gu,
         b_ones,
         b_twos,
         c_ones,
@@ -173,9 +176,11 @@ pub fn join_word(
     requires { ⌜ (length (now «b_ones») ≡ halfWords z) × (length (now «c_ones») ≡ halfWords z) ⌝ }
     requires { ⌜ l ≤ 8192 ⌝ }
     requires { ⌜ Rows (now «work_ones») (now «work_twos») (l + 5) (halfWords z) ⌝ }
-    ensures { λ _. ⌜ Rows (now («work_ones» .exit)) (now («work_twos» .exit)) (l + 5) (halfWords z) ⌝ }
-    ensures { λ _. ⌜ Joined l (pairsOf (now («b_ones» .entry)) (now («b_twos» .entry)) (now («c_ones» .entry)) (now («c_twos» .entry))) (matrixAt (halfWords z) (now («work_ones» .entry)) (now («work_twos» .entry))) (matrixAt (halfWords z) (now («work_ones» .exit)) (now («work_twos» .exit))) ⌝ }
-    ensures { λ r. ⌜ r ≡ weightV ((matrixAt (halfWords z) (now («work_ones» .exit)) (now («work_twos» .exit))) (l + 4)) (64 * halfWords z) + weightV ((matrixAt (halfWords z) (now («work_ones» .exit)) (now («work_twos» .exit))) (l + 3)) (64 * halfWords z) ⌝ }
+    ensures { λ r. ⌜ (let A = matrixAt (halfWords z) (now («work_ones» .entry)) (now («work_twos» .entry)) in
+        let B = matrixAt (halfWords z) (now («work_ones» .exit)) (now («work_twos» .exit)) in
+        Rows (now («work_ones» .exit)) (now («work_twos» .exit)) (l + 5) (halfWords z)
+        × Joined l (pairsOf (now («b_ones» .entry)) (now («b_twos» .entry)) (now («c_ones» .entry)) (now («c_twos» .entry))) A B
+        × (r ≡ weightV (B (l + 4)) (64 * halfWords z) + weightV (B (l + 3)) (64 * halfWords z))) ⌝ }
 {
     let half = z.n as usize / 2;
     let w = (half + 63) / 64;
@@ -226,11 +231,12 @@ pub fn make_word(
     requires { ⌜ Ready z (given (planes (now «hu_ones») (now «hu_twos») (now «hv_ones») (now «hv_twos») (now «b_ones») (now «b_twos») (now «c_ones») (now «c_twos»))
         (now p) (now «y_ones») (now «y_twos») (now «v_order») (now «v_ones») (now «v_twos») (now «u_order») (now «u_ones») (now «u_twos»)) ⌝ }
     requires { ⌜ (ru z ≤ l) × (rv z ≤ l) × (l ≤ 8192) × (length (now «work_ones») ≡ (l + 5) * halfWords z) × (length (now «work_twos») ≡ (l + 5) * halfWords z) ⌝ }
-    ensures { λ r. ⌜ codeOf r ≡ ending z (given (planes (now («hu_ones» .entry)) (now («hu_twos» .entry)) (now («hv_ones» .entry)) (now («hv_twos» .entry)) (now («b_ones» .entry)) (now («b_twos» .entry)) (now («c_ones» .entry)) (now («c_twos» .entry)))
-        (now (p .entry)) (now («y_ones» .entry)) (now («y_twos» .entry)) (now («v_order» .entry)) (now («v_ones» .entry)) (now («v_twos» .entry)) (now («u_order» .entry)) (now («u_ones» .entry)) (now («u_twos» .entry))) ⌝ }
-    ensures { λ _. ⌜ Rows (now («work_ones» .exit)) (now («work_twos» .exit)) (l + 5) (halfWords z) ⌝ }
-    ensures { λ r. ⌜ MadeWhere (codeOf r) z l (given (planes (now («hu_ones» .entry)) (now («hu_twos» .entry)) (now («hv_ones» .entry)) (now («hv_twos» .entry)) (now («b_ones» .entry)) (now («b_twos» .entry)) (now («c_ones» .entry)) (now («c_twos» .entry)))
-        (now (p .entry)) (now («y_ones» .entry)) (now («y_twos» .entry)) (now («v_order» .entry)) (now («v_ones» .entry)) (now («v_twos» .entry)) (now («u_order» .entry)) (now («u_ones» .entry)) (now («u_twos» .entry))) (matrixAt (halfWords z) (now («work_ones» .exit)) (now («work_twos» .exit))) ⌝ }
+    ensures { λ r. ⌜ (let i = given (planes (now («hu_ones» .entry)) (now («hu_twos» .entry)) (now («hv_ones» .entry)) (now («hv_twos» .entry))
+        (now («b_ones» .entry)) (now («b_twos» .entry)) (now («c_ones» .entry)) (now («c_twos» .entry)))
+        (now (p .entry)) (now («y_ones» .entry)) (now («y_twos» .entry)) (now («v_order» .entry)) (now («v_ones» .entry)) (now («v_twos» .entry))
+        (now («u_order» .entry)) (now («u_ones» .entry)) (now («u_twos» .entry)) in
+        (codeOf r ≡ ending z i) × Rows (now («work_ones» .exit)) (now («work_twos» .exit)) (l + 5) (halfWords z)
+        × MadeWhere (codeOf r) z l i (matrixAt (halfWords z) (now («work_ones» .exit)) (now («work_twos» .exit)))) ⌝ }
 {
     part_word(
         z,

@@ -50,7 +50,7 @@ returns c =
 
 release-word-requires : tie.Need-release-word-requires
 release-word-requires c κs =
-    let s = c .before .before .before .before .before .before .before .before .before .before .before .before .before .before .before .before .before .before .before .before .before .before .before .before .before .before .before .before .before .before .before .before .before .before .before .before .before .before .before in let a = s .args in let b = bounds (a .z) (s .pre .0) in let r = s .pre .1 .0 in let m = s .pre .1 .1 in let i = (given (planes (now (a .hu-ones)) (now (a .hu-twos)) (now (a .hv-ones)) (now (a .hv-twos)) (now (a .b-ones)) (now (a .b-twos)) (now (a .c-ones)) (now (a .c-twos))) (now (a .p)) (now (a .y-ones)) (now (a .y-twos)) (now (a .v-order)) (now (a .v-ones)) (now (a .v-twos)) (now (a .u-order)) (now (a .u-ones)) (now (a .u-twos))) in let e = c .before .before .before .before .before .before .before .before .before .before .before .before .before .before .before .more-rows .ensures in let p = space (a .z) b in (s .pre .0, (r .p, (omega (arith, e, p .rows), (c .before .before .before .before .before .before .before .before .before .before .before .before .make-word .ensures .1 .0, (m .0, m .1, m .2, m .3)))))
+    let s = c .before .before .before .before .before .before .before .before .before .before .before .before .before .before .before .before .before .before .before .before .before .before .before .before .before .before .before .before .before .before .before .before .before .before .before .before .before .before .before in let a = s .args in let b = bounds (a .z) (s .pre .0) in let r = s .pre .1 .0 in let m = s .pre .1 .1 in let i = (given (planes (now (a .hu-ones)) (now (a .hu-twos)) (now (a .hv-ones)) (now (a .hv-twos)) (now (a .b-ones)) (now (a .b-twos)) (now (a .c-ones)) (now (a .c-twos))) (now (a .p)) (now (a .y-ones)) (now (a .y-twos)) (now (a .v-order)) (now (a .v-ones)) (now (a .v-twos)) (now (a .u-order)) (now (a .u-ones)) (now (a .u-twos))) in let e = c .before .before .before .before .before .before .before .before .before .before .before .before .before .before .before .more-rows .ensures in let p = space (a .z) b in (s .pre .0, (r .p, (omega (arith, e, p .rows), (c .before .before .before .before .before .before .before .before .before .before .before .before .make-word .ensures .1, (m .0, m .1, m .2, m .3)))))
 
 same-length-3 : tie.Need-same-length-3
 same-length-3 c = search needs
@@ -73,7 +73,7 @@ same-length-8 c = search needs
 returns-2 : tie.Need-returns-2
 unfolding wordOf
 returns-2 c =
-    let s = c .before .before .before .before .before .before .before .before .before .before .before .before .before .before .before .before .before .before .before .before .before .before .before .before .before .before .before .before .before .before .before .before .before .before .before .before .before .before .before .before .before .before .before .before .before .before .before .before in let a = s .args in let b = bounds (a .z) (s .pre .0) in let r = s .pre .1 .0 in let m = s .pre .1 .1 in let i = (given (planes (now (a .hu-ones)) (now (a .hu-twos)) (now (a .hv-ones)) (now (a .hv-twos)) (now (a .b-ones)) (now (a .b-twos)) (now (a .c-ones)) (now (a .c-twos))) (now (a .p)) (now (a .y-ones)) (now (a .y-twos)) (now (a .v-order)) (now (a .v-ones)) (now (a .v-twos)) (now (a .u-order)) (now (a .u-ones)) (now (a .u-twos))) in let n = sym (c .before .before .before .before .before .before .before .before .before .before .before .before .before .before .before .before .code .ensures) ∙ c .before .before .before .before .before .before .before .before .before .before .before .before .before .before .before .if1 .left in let f = sym (c .before .before .before .before .before .before .before .before .before .before .before .before .before .before .before .before .before .before .before .before .before .make-word .ensures .0) ∙ n in let d = c .before .before .before .before .before .before .before .before .before .before .before .before .before .before .before .before .before .before .before .before .before .make-word .ensures .1 .1 in let g = c .before .before .before .before .before .before .before .before .release-word .ensures in let w = word-written (a .z) (secretOf (a .z) (i .secret)) (i .p) (syndromeOf i) (choicesOf i) _ _ (d .left n) (d .right n) in let t = signature-written (a .z) (secretOf (a .z) (i .secret)) (i .p) (syndromeOf i) (choicesOf i) _ _ (d .left n) (d .right n) in (sym f, g .0 ∙ ap (λ (v : Vector). onesOf (upTo (places (a .z)) v) (wordsFor (places (a .z)))) w ∙ exit-new _ _ f, g .1 ∙ ap (λ (v : Vector). twosOf (upTo (places (a .z)) v) (wordsFor (places (a .z)))) w ∙ exit-new _ _ f, g .2 ∙ ap (λ (v : Vector). onesOf (upTo (dim (a .z)) v) (wordsFor (dim (a .z)))) t ∙ exit-new _ _ f, g .3 ∙ ap (λ (v : Vector). twosOf (upTo (dim (a .z)) v) (wordsFor (dim (a .z)))) t ∙ exit-new _ _ f)
+    let s = c .before .before .before .before .before .before .before .before .before .before .before .before .before .before .before .before .before .before .before .before .before .before .before .before .before .before .before .before .before .before .before .before .before .before .before .before .before .before .before .before .before .before .before .before .before .before .before .before in let a = s .args in let b = bounds (a .z) (s .pre .0) in let r = s .pre .1 .0 in let m = s .pre .1 .1 in let i = (given (planes (now (a .hu-ones)) (now (a .hu-twos)) (now (a .hv-ones)) (now (a .hv-twos)) (now (a .b-ones)) (now (a .b-twos)) (now (a .c-ones)) (now (a .c-twos))) (now (a .p)) (now (a .y-ones)) (now (a .y-twos)) (now (a .v-order)) (now (a .v-ones)) (now (a .v-twos)) (now (a .u-order)) (now (a .u-ones)) (now (a .u-twos))) in let n = sym (c .before .before .before .before .before .before .before .before .before .before .before .before .before .before .before .before .code .ensures) ∙ c .before .before .before .before .before .before .before .before .before .before .before .before .before .before .before .if1 .left in let f = sym (c .before .before .before .before .before .before .before .before .before .before .before .before .before .before .before .before .before .before .before .before .before .make-word .ensures .0) ∙ n in let d = c .before .before .before .before .before .before .before .before .before .before .before .before .before .before .before .before .before .before .before .before .before .make-word .ensures .2 in let g = c .before .before .before .before .before .before .before .before .release-word .ensures in let w = word-written (a .z) (secretOf (a .z) (i .secret)) (i .p) (syndromeOf i) (choicesOf i) _ _ (d .left n) (d .right n) in let t = signature-written (a .z) (secretOf (a .z) (i .secret)) (i .p) (syndromeOf i) (choicesOf i) _ _ (d .left n) (d .right n) in (sym f, g .0 ∙ ap (λ (v : Vector). onesOf (upTo (places (a .z)) v) (wordsFor (places (a .z)))) w ∙ exit-new _ _ f, g .1 ∙ ap (λ (v : Vector). twosOf (upTo (places (a .z)) v) (wordsFor (places (a .z)))) w ∙ exit-new _ _ f, g .2 ∙ ap (λ (v : Vector). onesOf (upTo (dim (a .z)) v) (wordsFor (dim (a .z)))) t ∙ exit-new _ _ f, g .3 ∙ ap (λ (v : Vector). twosOf (upTo (dim (a .z)) v) (wordsFor (dim (a .z)))) t ∙ exit-new _ _ f)
 
 pub make-spec : {M : Type 1} → statement M
 make-spec =

@@ -26,6 +26,10 @@ add-v : tie.Need-add-v
 add-v c =
     let s = c .before .before .before .before .before .before .before in let a = s .args in let b = bounds (a .z) (s .pre .0) in omega (arith, b .low, b .high, b .ku, b .kv, s .pre .1 .1 .0)
 
+add-n : tie.Need-add-n
+add-n c =
+    let s = c .before .before .before .before .before .before .before in let a = s .args in let b = bounds (a .z) (s .pre .0) in omega (arith, b .low, b .high, b .ku, b .kv, s .pre .1 .1 .0)
+
 add-k : tie.Need-add-k
 add-k c =
     let s = c .before .before .before .before .before .before .before in let a = s .args in let b = bounds (a .z) (s .pre .0) in omega (arith, b .low, b .high, b .ku, b .kv, s .pre .1 .1 .0)
@@ -40,10 +44,6 @@ sub-first-2 c =
 
 add-first : tie.Need-add-first
 add-first c =
-    let s = c .before .before .before .before .before .before .before in let a = s .args in let b = bounds (a .z) (s .pre .0) in omega (arith, b .low, b .high, b .ku, b .kv, s .pre .1 .1 .0)
-
-add-write-places : tie.Need-add-write-places
-add-write-places c =
     let s = c .before .before .before .before .before .before .before in let a = s .args in let b = bounds (a .z) (s .pre .0) in omega (arith, b .low, b .high, b .ku, b .kv, s .pre .1 .1 .0)
 
 write-places-requires : tie.Need-write-places-requires
@@ -78,11 +78,11 @@ release-word-spec =
     add-rows
     add-u
     add-v
+    add-n
     add-k
     sub-first
     sub-first-2
     add-first
-    add-write-places
     write-places-requires
     write-places-requires-2
     same-length

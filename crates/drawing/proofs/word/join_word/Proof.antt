@@ -46,7 +46,7 @@ same-length-2 c = search needs
 
 returns : tie.Need-returns
 returns c =
-    let s = c .before .before .before .before .before .before .before .before .before .before .before .before .before .before .before .before in let a = s .args in let b = bounds (a .z) (s .pre .0) in (c .before .before .before .before .before .before .before .join-halves .ensures .rows, (word-joined (a .l) (pairsOf (now (a .b-ones)) (now (a .b-twos)) (now (a .c-ones)) (now (a .c-twos))) (halfWords (a .z)) _ _ _ _ (c .before .before .before .before .before .before .before .join-halves .ensures), c .pair-weight .ensures))
+    let s = c .before .before .before .before .before .before .before .before .before .before .before .before .before .before .before .before in let a = s .args in let b = bounds (a .z) (s .pre .0) in (c .before .before .before .before .before .before .before .join-halves .ensures .rows, word-joined (a .l) (pairsOf (now (a .b-ones)) (now (a .b-twos)) (now (a .c-ones)) (now (a .c-twos))) (halfWords (a .z)) _ _ _ _ (c .before .before .before .before .before .before .before .join-halves .ensures), c .pair-weight .ensures)
 
 pub join-word-spec : {M : Type 1} → statement M
 join-word-spec =

@@ -1,4 +1,4 @@
-# make run: a key and a signature from the editor's half, checked by the module's half, then the same with its last digit changed; make test: the gate; make bench: the tables of the benchmark.
+# make run: a key and a signature from the editor's half, checked by the module's half, then the same with its last digit changed; make test: the gate; make bench: the table of the benchmark.
 .PHONY: run test bench
 
 run:

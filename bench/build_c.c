@@ -1,6 +1,4 @@
 /* The build of a key in plain C: ranks, the secret matrix, the column rule, and the rows of R. Its input is taken to be right. */
-#include "build_c.h"
-#include "grid_c.h"
 
 static size_t rank(const uint64_t *o, const uint64_t *t, size_t rows, size_t w, size_t n, uint64_t *wo, uint64_t *wt) {
     size_t count = 0;
@@ -10,9 +8,10 @@ static size_t rank(const uint64_t *o, const uint64_t *t, size_t rows, size_t w, 
     return count;
 }
 
-uint64_t c_build(wave_sizes z, const uint64_t *hu_ones, const uint64_t *hu_twos, const uint64_t *hv_ones, const uint64_t *hv_twos, const uint64_t *b_ones,
-                 const uint64_t *b_twos, const uint64_t *c_ones, const uint64_t *c_twos, const uint16_t *start, uint16_t *p, uint64_t *key_ones, uint64_t *key_twos,
-                 uint64_t *work_ones, uint64_t *work_twos) {
+static uint64_t c_build(wave_sizes z, const uint64_t *hu_ones, size_t, const uint64_t *hu_twos, size_t, const uint64_t *hv_ones, size_t, const uint64_t *hv_twos, size_t,
+                        const uint64_t *b_ones, size_t, const uint64_t *b_twos, size_t, const uint64_t *c_ones, size_t, const uint64_t *c_twos, size_t,
+                        const uint16_t *start, size_t, uint16_t *p, size_t, uint64_t *key_ones, size_t, uint64_t *key_twos, size_t,
+                        uint64_t *work_ones, size_t, uint64_t *work_twos, size_t) {
     size_t half = z.n / 2, hw = (half + 63) / 64, w = 2 * hw, ru = half - z.ku, rv = half - z.kv, rows = ru + rv, k = z.ku + z.kv, kw = (rows + 63) / 64;
     uint64_t answer = 0;
     if (rank(hu_ones, hu_twos, ru, hw, half, work_ones, work_twos) != ru) answer = 9;

@@ -1,6 +1,4 @@
-/* The check in plain C, with the same tests in the same order, in a file of its own so that no call is inlined into the benchmark. */
-#include "check_c.h"
-#include <string.h>
+/* The unpacking of a row and the check in plain C, with the same tests in the same order. */
 
 /* ---- the tests */
 
@@ -38,28 +36,24 @@ static void make_table(void) {
         for (int k = 0, x = b; k < 5; k++, x /= 3) table[b][k] = x % 3;
 }
 
-static void add_row(uint64_t *restrict ones, uint64_t *restrict twos, const uint64_t *restrict so, const uint64_t *restrict st, size_t n) {
-    for (size_t i = 0; i < n; i++) {
-        uint64_t a = ones[i], b = twos[i], c = so[i], d = st[i], t = (a | d) ^ (b | c);
-        ones[i] = (b | d) ^ t;
-        twos[i] = (a | c) ^ t;
-    }
+/* the packed row's trits one after the other into planes that are 0 */
+static void unpack(size_t m, const uint8_t *bytes, uint64_t *restrict ones, uint64_t *restrict twos) {
+    for (size_t p = 0; p < m; bytes++)
+        for (size_t k = 0; k < 5 && p < m; k++, p++) {
+            int t = table[*bytes][k];
+            ones[p / 64] |= (uint64_t)(t == 1) << p % 64;
+            twos[p / 64] |= (uint64_t)(t == 2) << p % 64;
+        }
 }
 
 /* row i times t is taken from the word */
 static uint64_t take_row(const uint64_t *ones, const uint64_t *twos, size_t i, int t, uint64_t *work_ones, uint64_t *work_twos, size_t w) {
     if (t == 0) return 0;
     if (t == 1)
-        add_row(work_ones, work_twos, twos + i * w, ones + i * w, w);
+        add(work_ones, work_twos, twos + i * w, ones + i * w, w);
     else
-        add_row(work_ones, work_twos, ones + i * w, twos + i * w, w);
+        add(work_ones, work_twos, ones + i * w, twos + i * w, w);
     return 1;
-}
-
-static uint64_t weight(const uint64_t *ones, const uint64_t *twos, size_t n) {
-    uint64_t sum = 0;
-    for (size_t i = 0; i < n; i++) sum += (uint64_t)__builtin_popcountll(ones[i] | twos[i]);
-    return sum;
 }
 
 static uint64_t full_weight(wave_held h, const uint64_t *ones, const uint64_t *twos, const uint64_t *y_ones, const uint64_t *y_twos, const uint64_t *s_ones, const uint64_t *s_twos,
@@ -77,11 +71,7 @@ static uint64_t full_weight_packed(wave_held h, const uint64_t *ones, const uint
     uint64_t taken = 0;
     memset(work_ones, 0, 8 * w);
     memset(work_twos, 0, 8 * w);
-    for (size_t p = 0; p < m; p++) {
-        int t = table[y[p / 5]][p % 5];
-        work_ones[p / 64] |= (uint64_t)(t == 1) << p % 64;
-        work_twos[p / 64] |= (uint64_t)(t == 2) << p % 64;
-    }
+    unpack(m, y, work_ones, work_twos);
     for (size_t i = 0; i < h.k; i++) taken += take_row(ones, twos, i, table[s[i / 5]][i % 5], work_ones, work_twos, w);
     return weight(work_ones, work_twos, w) + taken;
 }
@@ -94,7 +84,19 @@ static wave_checked verdict(wave_held h, uint64_t weight, uint64_t *work_ones, u
 
 /* ---- the calls */
 
-wave_checked c_weigh(wave_held h, uint64_t number, const uint64_t *ones, size_t on, const uint64_t *twos, size_t tn, const uint64_t *y_ones, size_t yon, const uint64_t *y_twos, size_t ytn,
+static uint64_t c_unpack(size_t m, const uint8_t *bytes, size_t n, uint64_t *ones, size_t on, uint64_t *twos, size_t tn) {
+    size_t w = WAVE_WORDS(m);
+    if (m > 16384) return 1;
+    if (n != WAVE_BYTES(m) || on != w || tn != w) return 2;
+    if (bytes_refusal(bytes, n)) return 5;
+    if (!table[1][0]) make_table();
+    memset(ones, 0, 8 * w);
+    memset(twos, 0, 8 * w);
+    unpack(m, bytes, ones, twos);
+    return 0;
+}
+
+static wave_checked c_weigh(wave_held h, uint64_t number, const uint64_t *ones, size_t on, const uint64_t *twos, size_t tn, const uint64_t *y_ones, size_t yon, const uint64_t *y_twos, size_t ytn,
                      const uint64_t *s_ones, size_t son, const uint64_t *s_twos, size_t stn, uint64_t *work_ones, size_t won, uint64_t *work_twos, size_t wtn, size_t times) {
     uint64_t r = call_refusal(h, number, on, tn, won, wtn), sum = 0;
     size_t m = h.n - h.k;
@@ -107,7 +109,7 @@ wave_checked c_weigh(wave_held h, uint64_t number, const uint64_t *ones, size_t 
     return verdict(h, sum, work_ones, work_twos);
 }
 
-wave_checked c_weigh_packed(wave_held h, uint64_t number, const uint64_t *ones, size_t on, const uint64_t *twos, size_t tn, const uint8_t *y, size_t yn, const uint8_t *s, size_t sn,
+static wave_checked c_weigh_packed(wave_held h, uint64_t number, const uint64_t *ones, size_t on, const uint64_t *twos, size_t tn, const uint8_t *y, size_t yn, const uint8_t *s, size_t sn,
                             uint64_t *work_ones, size_t won, uint64_t *work_twos, size_t wtn, size_t times) {
     uint64_t r = call_refusal(h, number, on, tn, won, wtn), sum = 0;
     size_t m = h.n - h.k;
@@ -121,12 +123,12 @@ wave_checked c_weigh_packed(wave_held h, uint64_t number, const uint64_t *ones, 
     return verdict(h, sum, work_ones, work_twos);
 }
 
-wave_checked c_check(wave_held h, uint64_t number, const uint64_t *ones, size_t on, const uint64_t *twos, size_t tn, const uint64_t *y_ones, size_t yon, const uint64_t *y_twos, size_t ytn,
+static wave_checked c_check(wave_held h, uint64_t number, const uint64_t *ones, size_t on, const uint64_t *twos, size_t tn, const uint64_t *y_ones, size_t yon, const uint64_t *y_twos, size_t ytn,
                      const uint64_t *s_ones, size_t son, const uint64_t *s_twos, size_t stn, uint64_t *work_ones, size_t won, uint64_t *work_twos, size_t wtn) {
     return c_weigh(h, number, ones, on, twos, tn, y_ones, yon, y_twos, ytn, s_ones, son, s_twos, stn, work_ones, won, work_twos, wtn, 1);
 }
 
-wave_checked c_check_packed(wave_held h, uint64_t number, const uint64_t *ones, size_t on, const uint64_t *twos, size_t tn, const uint8_t *y, size_t yn, const uint8_t *s, size_t sn,
+static wave_checked c_check_packed(wave_held h, uint64_t number, const uint64_t *ones, size_t on, const uint64_t *twos, size_t tn, const uint8_t *y, size_t yn, const uint8_t *s, size_t sn,
                             uint64_t *work_ones, size_t won, uint64_t *work_twos, size_t wtn) {
     return c_weigh_packed(h, number, ones, on, twos, tn, y, yn, s, sn, work_ones, won, work_twos, wtn, 1);
 }

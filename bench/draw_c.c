@@ -1,16 +1,7 @@
 /* One draw in plain C: x from y, the word of V, the word of U, the halves, the weight, the release. Its input is taken to be right, but for the ranks and the weight. */
-#include "draw_c.h"
-#include "grid_c.h"
 
-size_t c_weight;
-
-static void put(uint64_t *o, uint64_t *t, size_t q, int x) {
-    uint64_t bit = (uint64_t)1 << q % 64;
-    o[q / 64] &= ~bit;
-    t[q / 64] &= ~bit;
-    if (x == 1) o[q / 64] |= bit;
-    if (x == 2) t[q / 64] |= bit;
-}
+/* the weight of the word that the last draw made */
+static size_t made;
 
 static int dot(const uint64_t *ao, const uint64_t *at2, const uint64_t *bo, const uint64_t *bt, size_t w) {
     uint64_t ones = 0, twos = 0;
@@ -19,12 +10,6 @@ static int dot(const uint64_t *ao, const uint64_t *at2, const uint64_t *bo, cons
         twos += __builtin_popcountll((ao[k] & bt[k]) | (at2[k] & bo[k]));
     }
     return (ones + 2 * twos) % 3;
-}
-
-static size_t weight(const uint64_t *o, const uint64_t *t, size_t w) {
-    size_t sum = 0;
-    for (size_t k = 0; k < w; k++) sum += __builtin_popcountll(o[k] | t[k]);
-    return sum;
 }
 
 /* the matrix is copied to the front and eliminated at the first places of the order */
@@ -88,14 +73,15 @@ static uint64_t make(wave_sizes z, const uint64_t *hu1, const uint64_t *hu2, con
     memcpy(to, Uo, 8 * w), memcpy(tt, Ut, 8 * w);
     mul(to, tt, c1, c2, w);
     add(Vo, Vt, to, tt, w);
-    c_weight = weight(Uo, Ut, w) + weight(Vo, Vt, w);
-    return c_weight == z.w ? 0 : 14;
+    made = weight(Uo, Ut, w) + weight(Vo, Vt, w);
+    return made == z.w ? 0 : 14;
 }
 
-uint64_t c_draw(wave_sizes z, const uint64_t *hu1, const uint64_t *hu2, const uint64_t *hv1, const uint64_t *hv2, const uint64_t *b1, const uint64_t *b2,
-                const uint64_t *c1, const uint64_t *c2, const uint16_t *p, const uint64_t *y1, const uint64_t *y2, const uint16_t *vo, const uint64_t *v1,
-                const uint64_t *v2, const uint16_t *uo, const uint64_t *u1, const uint64_t *u2, uint64_t *word1, uint64_t *word2, uint64_t *s1, uint64_t *s2,
-                uint64_t *o, uint64_t *t) {
+static uint64_t c_draw(wave_sizes z, const uint64_t *hu1, size_t, const uint64_t *hu2, size_t, const uint64_t *hv1, size_t, const uint64_t *hv2, size_t,
+                       const uint64_t *b1, size_t, const uint64_t *b2, size_t, const uint64_t *c1, size_t, const uint64_t *c2, size_t,
+                       const uint16_t *p, size_t, const uint64_t *y1, size_t, const uint64_t *y2, size_t, const uint16_t *vo, size_t, const uint64_t *v1, size_t, const uint64_t *v2, size_t,
+                       const uint16_t *uo, size_t, const uint64_t *u1, size_t, const uint64_t *u2, size_t, uint64_t *word1, size_t, uint64_t *word2, size_t,
+                       uint64_t *s1, size_t, uint64_t *s2, size_t, uint64_t *o, size_t, uint64_t *t, size_t) {
     size_t half = z.n / 2, w = (half + 63) / 64, ru = half - z.ku, rv = half - z.kv, m = ru < rv ? rv : ru, k = z.ku + z.kv, all = 8 * wave_draw_work(z);
     uint64_t *Vo = o + (m + 3) * w, *Vt = t + (m + 3) * w, *Uo = Vo + w, *Ut = Vt + w;
     memset(o, 0, all), memset(t, 0, all);

@@ -1,0 +1,9 @@
+/* The calls in plain C, one file to the compiler so that nothing is inlined into the table. It is compiled twice, and SIDE is the name of what it then exports. */
+#include "plain.h"
+#include "grid_c.h"
+#include "rows_c.c"
+#include "check_c.c"
+#include "build_c.c"
+#include "draw_c.c"
+
+const side SIDE = {c_sum, c_weight, c_both_set, c_past_end, c_unpack, c_check, c_check_packed, c_weigh, c_weigh_packed, c_build, c_draw, &made};

@@ -1,0 +1,34 @@
+/* What the table times: the calls of our archives, and the same calls in plain C, which `plain.c` makes twice. */
+#include "../include/wave_checker.h"
+#include "../include/wave_signer.h"
+
+/* Exported by the crates `bench` and `bench_check` for this table only. Each slice is a pointer and a count. */
+uint64_t bench_sum(uint64_t *ones, size_t, uint64_t *twos, size_t, const uint64_t *so, size_t, const uint64_t *st, size_t, size_t times);
+uint64_t bench_weight(const uint64_t *ones, size_t, const uint64_t *twos, size_t);
+uint64_t bench_both_set(const uint64_t *ones, size_t, const uint64_t *twos, size_t);
+uint64_t bench_past_end(const uint64_t *ones, size_t, const uint64_t *twos, size_t, size_t rows, size_t m);
+wave_checked bench_check(wave_held held, uint64_t number, const uint64_t *ones, size_t, const uint64_t *twos, size_t, const uint64_t *y_ones, size_t, const uint64_t *y_twos, size_t,
+                         const uint64_t *s_ones, size_t, const uint64_t *s_twos, size_t, uint64_t *work_ones, size_t, uint64_t *work_twos, size_t);
+/* the check with all tests made once and the weight worked out so many times */
+wave_checked bench_weigh(wave_held held, uint64_t number, const uint64_t *ones, size_t, const uint64_t *twos, size_t, const uint64_t *y_ones, size_t, const uint64_t *y_twos, size_t,
+                         const uint64_t *s_ones, size_t, const uint64_t *s_twos, size_t, uint64_t *work_ones, size_t, uint64_t *work_twos, size_t, size_t times);
+wave_checked bench_weigh_packed(wave_held held, uint64_t number, const uint64_t *ones, size_t, const uint64_t *twos, size_t, const uint8_t *y, size_t, const uint8_t *s, size_t,
+                                uint64_t *work_ones, size_t, uint64_t *work_twos, size_t, size_t times);
+
+/* one side: ours, plain C at gcc -O3, or plain C at gcc -O3 -march=native */
+typedef struct {
+    __typeof__(bench_sum) *sum;
+    __typeof__(bench_weight) *weight;
+    __typeof__(bench_both_set) *both_set;
+    __typeof__(bench_past_end) *past_end;
+    __typeof__(wave_unpack) *unpack;
+    __typeof__(bench_check) *check;
+    __typeof__(wave_check) *check_packed;
+    __typeof__(bench_weigh) *weigh;
+    __typeof__(bench_weigh_packed) *weigh_packed;
+    __typeof__(wave_build) *build;
+    __typeof__(wave_draw) *draw;
+    const size_t *made; /* of plain C: the weight of the word that its last draw made */
+} side;
+
+extern const side plain_o3, plain_native;

@@ -1,0 +1,342 @@
+/* Times our calls against the same in plain C at gcc -O3 and at gcc -O3 -march=native, in one run that takes turns, and prints three tables: the two published sizes,
+   growth with n, and rows of other lengths. The three sides' answers and buffers are compared byte for byte in each turn. An argument is the least number of turns. */
+#include "clock.h"
+#include "plain.h"
+#include <stdio.h>
+#include <stdlib.h>
+#include <string.h>
+
+#define SECONDS 1.0 /* turns are taken for so long, and at least `turns` of them */
+#define LEAST 1e5   /* nanoseconds between two readings of the clock, from the second turn on */
+#define TIMES 10000 /* rows summed or weighed in one call */
+#define WEIGHTS 20  /* weights worked out in one call that makes its tests once */
+static int turns = 3;
+static double steps; /* of the time stamp counter in a nanosecond */
+
+static const side ours = {bench_sum, bench_weight, bench_both_set, bench_past_end, wave_unpack, bench_check, wave_check, bench_weigh, bench_weigh_packed, wave_build, wave_draw, 0};
+static const side *const sides[] = {&ours, &plain_o3, &plain_native};
+
+/* ---- what goes in */
+
+/* rows in two planes, n words each; as four arguments */
+typedef struct { uint64_t *ones, *twos; size_t n; } planes;
+#define P(x) (x).ones, (x).n, (x).twos, (x).n
+
+typedef struct {
+    wave_sizes z;   /* of a build, and of a draw that releases its word */
+    wave_held held; /* of a check that says yes */
+    size_t half, rows_u, rows_v, k, m;
+    planes hu, hv, b, c, v, u, key, y, s;
+    uint8_t *key_bytes, *y_bytes, *s_bytes;
+    uint16_t *order, *v_order, *u_order;
+} input;
+
+/* zeros from the start of a line of the cache on */
+static void *room(size_t n, size_t size) {
+    size_t bytes = (n * size + 63) / 64 * 64;
+    void *p = aligned_alloc(64, bytes);
+    if (!p) exit(1);
+    return memset(p, 0, bytes);
+}
+
+static int bit(const uint64_t *plane, size_t p) {
+    return plane[p / 64] >> p % 64 & 1;
+}
+
+static void put(planes a, size_t p, int t) {
+    if (t) (t == 1 ? a.ones : a.twos)[p / 64] |= (uint64_t)1 << p % 64;
+}
+
+/* rows of m trits that are drawn; with `full`, none is 0 */
+static planes rows(size_t count, size_t m, int full) {
+    size_t w = WAVE_WORDS(m), n = count * w;
+    planes a = {room(n, 8), room(n, 8), n};
+    for (size_t i = 0; i < count; i++)
+        for (size_t q = 0; q < m; q++) put(a, 64 * i * w + q, full ? 1 + chance() % 2 : chance() % 3);
+    return a;
+}
+
+static uint8_t *packed(planes a, size_t count, size_t m) {
+    static const int power[] = {1, 3, 9, 27, 81};
+    uint8_t *bytes = room(count, WAVE_BYTES(m));
+    for (size_t i = 0; i < count; i++)
+        for (size_t q = 0; q < m; q++) {
+            size_t p = 64 * i * WAVE_WORDS(m) + q;
+            bytes[i * WAVE_BYTES(m) + q / 5] += (bit(a.ones, p) + 2 * bit(a.twos, p)) * power[q % 5];
+        }
+    return bytes;
+}
+
+static uint16_t *order(size_t n) {
+    uint16_t *p = room(n, 2);
+    for (size_t i = 0; i < n; i++) p[i] = i;
+    for (size_t i = n - 1; i > 0; i--) {
+        size_t j = chance() % (i + 1);
+        uint16_t x = p[i];
+        p[i] = p[j], p[j] = x;
+    }
+    return p;
+}
+
+/* s and the syndrome y of a drawn word of weight w under the key, trit by trit */
+static void sign(input *a, size_t w) {
+    size_t n = a->z.n, m = a->m;
+    uint8_t *word = room(n, 1), *y = room(m, 1);
+    uint16_t *at = order(n);
+    for (size_t i = 0; i < w; i++) word[at[i]] = 1 + chance() % 2;
+    memcpy(y, word, m);
+    a->y = (planes){room(WAVE_WORDS(m), 8), room(WAVE_WORDS(m), 8), WAVE_WORDS(m)};
+    a->s = (planes){room(WAVE_WORDS(a->k), 8), room(WAVE_WORDS(a->k), 8), WAVE_WORDS(a->k)};
+    for (size_t i = 0; i < a->k; i++) {
+        put(a->s, i, word[m + i]);
+        for (size_t q = 0; q < m; q++) {
+            size_t p = 64 * i * a->y.n + q;
+            y[q] = (y[q] + (bit(a->key.ones, p) + 2 * bit(a->key.twos, p)) * word[m + i]) % 3;
+        }
+    }
+    for (size_t q = 0; q < m; q++) put(a->y, q, y[q]);
+    free(word), free(y), free(at);
+}
+
+/* what a call leaves: its answer, 0 for as it should be, a number more, and from HEAD on its buffers */
+#define HEAD 8
+static planes next(uint64_t **at, size_t n) {
+    planes a = {*at, *at + n, n};
+    *at += 2 * n;
+    return a;
+}
+
+static size_t run_draw(const side *f, const input *a, uint64_t *out) {
+    uint64_t *at = out + HEAD;
+    planes word = next(&at, WAVE_WORDS(a->z.n)), s = next(&at, a->s.n), work = next(&at, wave_draw_work(a->z));
+    *out = f->draw(a->z, P(a->hu), P(a->hv), P(a->b), P(a->c), a->order, a->z.n, P(a->y), a->v_order, a->half, P(a->v), a->u_order, a->half, P(a->u), P(word), P(s), P(work));
+    return at - out;
+}
+
+/* words that are enough for what any call leaves */
+static size_t space(const input *a) {
+    return 1024 + a->z.n + 2 * (a->key.n + wave_build_work(a->z) + wave_draw_work(a->z));
+}
+
+static input make(wave_sizes z) {
+    size_t half = z.n / 2, k = z.ku + z.kv;
+    input a = {.z = z, .held = {1, 7, z.n, k, z.w, k}, .half = half, .rows_u = half - z.ku, .rows_v = half - z.kv, .k = k, .m = z.n - k};
+    a.hu = rows(a.rows_u, half, 0), a.hv = rows(a.rows_v, half, 0), a.b = rows(1, half, 0), a.c = rows(1, half, 1), a.v = rows(1, z.kv, 0), a.u = rows(1, z.ku, 1);
+    a.key = rows(k, a.m, 0), a.order = order(z.n), a.v_order = order(half), a.u_order = order(half);
+    sign(&a, z.w);
+    a.key_bytes = packed(a.key, k, a.m), a.y_bytes = packed(a.y, 1, a.m), a.s_bytes = packed(a.s, 1, k);
+    uint64_t *out = room(space(&a), 8);
+    run_draw(&plain_o3, &a, out);
+    a.z.w = *plain_o3.made;
+    free(out);
+    return a;
+}
+
+/* ---- the calls: each returns how many words it leaves */
+
+static size_t run_sum(const side *f, const input *a, uint64_t *out) {
+    uint64_t *at = out + HEAD;
+    planes row = next(&at, a->y.n);
+    *out = f->sum(P(row), P(a->y), TIMES);
+    return at - out;
+}
+
+static size_t run_weight(const side *f, const input *a, uint64_t *out) {
+    for (int i = 0; i < TIMES; i++) out[1] = f->weight(P(a->y));
+    return HEAD;
+}
+
+static size_t run_both_set(const side *f, const input *a, uint64_t *out) {
+    for (int i = 0; i < TIMES; i++) *out = f->both_set(P(a->y));
+    return HEAD;
+}
+
+static size_t run_past_end(const side *f, const input *a, uint64_t *out) {
+    for (int i = 0; i < TIMES; i++) *out = f->past_end(P(a->key), a->k, a->m);
+    return HEAD;
+}
+
+static size_t run_unpack(const side *f, const input *a, uint64_t *out) {
+    uint64_t *at = out + HEAD;
+    planes key = next(&at, a->key.n);
+    size_t w = WAVE_WORDS(a->m), b = WAVE_BYTES(a->m);
+    for (size_t i = 0; i < a->k; i++) *out |= f->unpack(a->m, a->key_bytes + i * b, b, key.ones + i * w, w, key.twos + i * w, w);
+    return at - out;
+}
+
+static size_t told(wave_checked c, uint64_t *out, const uint64_t *at) {
+    out[0] = c.refusal ? c.refusal : !c.yes;
+    out[1] = c.weight;
+    return at - out;
+}
+
+static size_t run_check(const side *f, const input *a, uint64_t *out) {
+    uint64_t *at = out + HEAD;
+    planes work = next(&at, a->y.n);
+    return told(f->check(a->held, 7, P(a->key), P(a->y), P(a->s), P(work)), out, at);
+}
+
+static size_t run_check_packed(const side *f, const input *a, uint64_t *out) {
+    uint64_t *at = out + HEAD;
+    planes work = next(&at, a->y.n);
+    return told(f->check_packed(a->held, 7, P(a->key), a->y_bytes, WAVE_BYTES(a->m), a->s_bytes, WAVE_BYTES(a->k), P(work)), out, at);
+}
+
+static size_t run_weigh(const side *f, const input *a, uint64_t *out) {
+    uint64_t *at = out + HEAD;
+    planes work = next(&at, a->y.n);
+    return told(f->weigh(a->held, 7, P(a->key), P(a->y), P(a->s), P(work), WEIGHTS), out, at);
+}
+
+static size_t run_weigh_packed(const side *f, const input *a, uint64_t *out) {
+    uint64_t *at = out + HEAD;
+    planes work = next(&at, a->y.n);
+    return told(f->weigh_packed(a->held, 7, P(a->key), a->y_bytes, WAVE_BYTES(a->m), a->s_bytes, WAVE_BYTES(a->k), P(work), WEIGHTS), out, at);
+}
+
+static size_t run_build(const side *f, const input *a, uint64_t *out) {
+    uint64_t *at = out + HEAD;
+    planes key = next(&at, a->key.n), work = next(&at, wave_build_work(a->z));
+    *out = f->build(a->z, P(a->hu), P(a->hv), P(a->b), P(a->c), a->order, a->z.n, (uint16_t *)at, a->z.n, P(key), P(work));
+    return at - out + (a->z.n + 3) / 4;
+}
+
+typedef struct { const char *name; size_t (*run)(const side *, const input *, uint64_t *); size_t times; } act;
+enum { SUM, WEIGHT, UNPACK, CHECK, WEIGH, CHECK_PACKED, WEIGH_PACKED, BUILD, DRAW, BOTH_SET, PAST_END, ACTS };
+static const act acts[ACTS] = {
+    [SUM] = {"sum of two rows", run_sum, TIMES},
+    [WEIGHT] = {"weight of a row", run_weight, TIMES},
+    [UNPACK] = {"unpack of a whole key", run_unpack, 1},
+    [CHECK] = {"check in planes", run_check, 1},
+    [WEIGH] = {"check in planes, weight only", run_weigh, WEIGHTS},
+    [CHECK_PACKED] = {"check packed", run_check_packed, 1},
+    [WEIGH_PACKED] = {"check packed, weight only", run_weigh_packed, WEIGHTS},
+    [BUILD] = {"build", run_build, 1},
+    [DRAW] = {"draw", run_draw, 1},
+    [BOTH_SET] = {"bit in both planes (3)", run_both_set, TIMES},
+    [PAST_END] = {"bits past 64 rows (4)", run_past_end, TIMES},
+};
+
+/* ---- the clock */
+
+/* of each side: the least own time, for one of the call's many */
+typedef struct { double ns[3]; } figures;
+
+static figures measure(const act *c, const input *a) {
+    figures f = {{1e30, 1e30, 1e30}};
+    uint64_t *out[3];
+    double began = now();
+    size_t again = 1, left = 0;
+    for (int s = 0; s < 3; s++) out[s] = room(space(a), 8);
+    for (int turn = 0; turn < turns || now() - began < SECONDS * 1e9; turn++) {
+        for (int s = 0; s < 3; s++) {
+            double t = own();
+            for (size_t i = 0; i < again; i++) left = c->run(sides[s], a, out[s]);
+            t = (own() - t) / again / c->times;
+            if (t < f.ns[s]) f.ns[s] = t;
+        }
+        if (turn == 0) again = 1 + LEAST / (f.ns[1] * c->times);
+        if (*out[0] || memcmp(out[0], out[1], 8 * left) || memcmp(out[0], out[2], 8 * left)) {
+            printf("%s at n %llu: answers %llu, %llu, %llu, and the results %s\n", c->name, (unsigned long long)a->z.n, (unsigned long long)*out[0], (unsigned long long)*out[1],
+                   (unsigned long long)*out[2], memcmp(out[0], out[1], 8 * left) || memcmp(out[0], out[2], 8 * left) ? "differ" : "are the same");
+            exit(1);
+        }
+    }
+    for (int s = 0; s < 3; s++) free(out[s]);
+    return f;
+}
+
+/* ---- the tables */
+
+/* a number with its thousands parted */
+static const char *number(double x) {
+    static char text[8][32];
+    static int used;
+    char *t = text[used++ % 8], plain[32];
+    int n = snprintf(plain, sizeof plain, x < 1000 && x != (int)x ? "%.1f" : "%.0f", x), k = 0;
+    for (int i = 0; i < n; i++) {
+        t[k++] = plain[i];
+        if (x >= 1000 && i < n - 1 && (n - 1 - i) % 3 == 0) t[k++] = ',';
+    }
+    t[k] = 0;
+    return t;
+}
+
+static void head(const char *size) {
+    printf("\n| %-28s | %5s | %13s | %13s | %13s | %5s | %6s | %14s | %14s | %14s | published cycles |\n", "call", size, "ours, ns", "gcc -O3, ns", "native, ns", "/ -O3", "/ nat.", "ours, cycles",
+           "gcc -O3", "native");
+    printf("|---|---|---|---|---|---|---|---|---|---|---|\n");
+}
+
+static void line(const act *c, size_t size, const figures *f, const char *published) {
+    printf("| %-28s | %5s | %13s | %13s | %13s | %5.2f | %6.2f | %14s | %14s | %14s | %s |\n", c->name, number(size), number(f->ns[0]), number(f->ns[1]), number(f->ns[2]), f->ns[0] / f->ns[1],
+           f->ns[0] / f->ns[2], number(f->ns[0] * steps), number(f->ns[1] * steps), number(f->ns[2] * steps), published ? published : "");
+    fflush(stdout);
+}
+
+/* all calls at a published size; the figures are kept in f */
+static void published_size(const input *a, const char *const *published, figures *f) {
+    for (int i = SUM; i <= DRAW; i++) {
+        f[i] = measure(&acts[i], a);
+        line(&acts[i], a->z.n, &f[i], published[i]);
+    }
+}
+
+/* how three calls grow, each n twice the one before; the largest was timed above */
+static void growth(const figures *largest) {
+    static const int grown[] = {BUILD, DRAW, CHECK_PACKED};
+    figures f[4][ACTS];
+    printf("\n| %-13s | %6s | %5s | %5s | %3s | %14s | %7s | %14s | %7s | %14s | %7s | %5s | %6s |\n", "call", "n", "k_U", "k_V", "g", "ours, ns", "growth", "gcc -O3, ns", "growth", "native, ns", "growth",
+           "/ -O3", "/ nat.");
+    printf("|---|---|---|---|---|---|---|---|---|---|---|---|---|\n");
+    wave_sizes z[4];
+    for (int j = 0; j < 4; j++) {
+        size_t n = 1072u << j, ku = (2966 * n + 4288) / 8576;
+        z[j] = (wave_sizes){n, ku, n / 2 - ku, 40 * n / 8576, 7668 * n / 8576};
+        if (j == 3) memcpy(f[3], largest, sizeof f[3]);
+        else {
+            input a = make(z[j]);
+            for (int i = 0; i < 3; i++) f[j][grown[i]] = measure(&acts[grown[i]], &a);
+        }
+    }
+    for (int i = 0; i < 3; i++)
+        for (int j = 0; j < 4; j++) {
+            const figures *x = &f[j][grown[i]];
+            printf("| %-13s | %6s | %5s | %5s | %3s |", acts[grown[i]].name, number(z[j].n), number(z[j].ku), number(z[j].kv), number(z[j].g));
+            for (int s = 0; s < 3; s++) {
+                printf(" %14s |", number(x->ns[s]));
+                if (j) printf(" %7.2f |", x->ns[s] / f[j - 1][grown[i]].ns[s]);
+                else printf(" %7s |", "");
+            }
+            printf(" %5.2f | %6.2f |\n", x->ns[0] / x->ns[1], x->ns[0] / x->ns[2]);
+        }
+}
+
+/* the row functions at other lengths, one trit less than whole words, 64 rows of them */
+static void lengths(void) {
+    static const int acted[] = {SUM, WEIGHT, BOTH_SET, PAST_END}, words[] = {4, 67, 256};
+    head("words");
+    for (int i = 0; i < 4; i++)
+        for (int j = 0; j < 3; j++) {
+            size_t m = 64 * words[j] - 1;
+            input a = {.k = 64, .m = m, .key = rows(64, m, 0), .y = rows(1, m, 0)};
+            figures f = measure(&acts[acted[i]], &a);
+            line(&acts[acted[i]], words[j], &f, 0);
+        }
+}
+
+int main(int count, char **argument) {
+    static const char *const submission[ACTS] = {[UNPACK] = "205,829,565 (with a check)", [CHECK] = "1,230,598", [CHECK_PACKED] = "1,230,598", [BUILD] = "14,468,000,043", [DRAW] = "1,160,793,621"};
+    static const char *const wavelet[ACTS] = {[BUILD] = "7,403,069,461", [DRAW] = "1,644,281,062"};
+    figures first[ACTS], second[ACTS];
+    if (count > 1) turns = atoi(argument[1]);
+    steps = rate();
+    printf("time stamp counter: %.0f MHz; at least %d turns of each call\n", steps * 1000, turns);
+    input a = make((wave_sizes){8576, 2966, 1322, 40, 7668}), b = make((wave_sizes){8492, 3558, 2047, 81, 7980});
+    head("n");
+    published_size(&a, submission, first);
+    published_size(&b, wavelet, second);
+    growth(first);
+    lengths();
+    return 0;
+}

@@ -27,7 +27,9 @@ use Rattle.signer.proofs.Pairs.{join-low}
 use Rattle.pairing.specs.Halves.{putPlace, placedRows, joinProduct, partedRows, joinedRows}
 use Rattle.pairing.proofs.RowProducts.{product-at, product-else}
 
--- ---- what is said of two rows: rows u and v have the trits x and y, and the others are as they were, but for row t
+-- ---- what is said of two rows
+
+-- in B rows u and v have the trits x and y, and every other row but t is as in A
 pub record Paired (u v t : ℕ) (A B : Matrix) (x y : Vector) : Type 0 where
   pub left : B u ≡ x
   pub right : B v ≡ y

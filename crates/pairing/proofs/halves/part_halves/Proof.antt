@@ -26,7 +26,7 @@ sub-product-requires-2 : tie.Need-sub-product-requires-2
 sub-product-requires-2 c κs =
     let s = c .before .before .before .before .before .before .before .before .before .before .before .before .before .before .before in
     let p = s .pre .1 .1 .0 in
-    (c .before .before .before .before .before .before .sub-product .ensures .rows, (s .pre .1 .0 .0, (omega arith, omega arith, omega arith, λ z. omega arith, λ z. omega arith, s .pre .1 .1 .1)))
+    (c .before .before .before .before .before .before .sub-product .ensures .rows, (search needs, (omega arith, omega arith, omega arith, λ z. omega arith, λ z. omega arith, search needs)))
 
 same-length : tie.Need-same-length
 same-length c =

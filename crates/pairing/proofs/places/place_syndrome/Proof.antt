@@ -59,7 +59,7 @@ put-place-requires c κs =
     let l = c .before .before .before .before .before .loop in
     let p = s .pre .1 .1 .1 .0 in
     let q = order-below (a .half + a .half) (now (a .p)) (s .pre .1 .1 .0) (l .i) (omega (arith, s .pre .1 .1 .1 .1 .0)) in
-    (l .inv .1 .rows, (omega (arith, l .inv .1 .rows .size, s .pre .0 .size, p .0), omega (arith, p .1), p .1, p .2, q, read-lt _ _ _ _ (c .before .before .trit-at .ensures)))
+    (l .inv .1 .rows, (omega (arith, l .inv .1 .rows .size, s .pre .0 .size, p .0), omega (arith, p .1), omega (arith, p .1), p .2, q, read-lt _ _ _ _ (c .before .before .trit-at .ensures)))
 
 add-i : tie.Need-add-i Inv-loop μ-loop
 add-i c =

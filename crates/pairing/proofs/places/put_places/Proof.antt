@@ -51,7 +51,7 @@ trit-of-place-requires c κs =
     let a = s .args in
     let l = c .before .before .loop in
     let p = s .pre .1 .1 .1 .0 in
-    (s .pre .0, (p .0, p .1, p .2, p .3, order-below (a .half + a .half) (now (a .p)) (s .pre .1 .1 .0) (a .from + l .j) (omega (arith, s .pre .1 .1 .0 .size, s .pre .1 .1 .1 .1 .0))))
+    (s .pre .0, (p .0, omega (arith, p .1, p .2), omega (arith, p .1, p .2), p .3, order-below (a .half + a .half) (now (a .p)) (s .pre .1 .1 .0) (a .from + l .j) (omega (arith, s .pre .1 .1 .0 .size, s .pre .1 .1 .1 .1 .0))))
 
 put-trit-requires : tie.Need-put-trit-requires Inv-loop μ-loop
 put-trit-requires c κs =

@@ -9,6 +9,8 @@ use native.Mathlib.Omega.{arith}
 use borrow.Author.Tests.{eq-eqb, ne-eqb, eqb-true, lt-ltb, le-ltb}
 use borrow.Rule.Slice.PartMut.{midOf}
 use lib.Dec.{T, eqb}
+use mir.Syntax.{w8}
+use mir.Val.{Fits}
 use lib.ListN.{length}
 use Rattle.trits.specs.Trit.{Trit, t0, t1, t2, subT, mulT, isSet, number, tritOf, putV, dotV}
 use Rattle.trits.specs.Planes.{tritAt, Row, Reads}
@@ -68,14 +70,15 @@ forced-number b c v hb hc hv =
     ∙ ap (λ (z : ℕ). (number (tritOf c) + 2 * number (tritOf b)) * z % 3) (back-number v hv)
     ∙ forced-table (tritOf b) (tritOf c) (tritOf v)
 
-pub product-lt : (b c v : ℕ) → b < 3 → c < 3 → v < 3 → (c + 2 * b) * v < 256
-product-lt b c v hb hc hv = by v hv
+-- a product of small numbers is a byte
+pub small-product : {x v : ℕ} → x < 7 → v < 3 → Fits w8 (x * v)
+small-product {x} {v} h k = by v k
   where
-    by : (n : ℕ) → n < 3 → (c + 2 * b) * n < 256
-    by zero h = omega arith
-    by (suc zero) h = omega arith
-    by (suc (suc zero)) h = omega arith
-    by (suc (suc (suc n))) h = absurd (omega arith)
+    by : (n : ℕ) → n < 3 → Fits w8 (x * n)
+    by zero l = omega arith
+    by (suc zero) l = omega arith
+    by (suc (suc zero)) l = omega arith
+    by (suc (suc (suc n))) l = absurd (omega arith)
 
 -- ---- a trit put in row e
 

@@ -211,8 +211,8 @@ module _ {rows w r e : ℕ} (l : List ℕ) (A : Matrix) {i c : ℕ} {os ts : Lis
     passed-count = omega (arith, k .count, walk-length r A 0 (take i l), length-take-le i l (omega arith))
 
     -- a place that is passed over finds a trit
-    pub supply-room : (m N : ℕ) → i < m → length (passed r A 0 (take m l)) ≤ N → (isNext r (matrixAt w os ts) c (getD l i 0) ≡ true) ⊎ (i - c < N)
-    supply-room m N a b = by (bool-cases (isNext r A c (getD l i 0)))
+    pub supply-room : (m N : ℕ) {j : ℕ} → i < m → length (passed r A 0 (take m l)) ≤ N → j ≤ length (passed r A 0 (take i l)) → (isNext r (matrixAt w os ts) c (getD l i 0) ≡ true) ⊎ (j < N)
+    supply-room m N {j} a b d = by (bool-cases (isNext r A c (getD l i 0)))
       where
         rest : List ℕ
         rest = drop (i + 1) (take m l)
@@ -226,12 +226,12 @@ module _ {rows w r e : ℕ} (l : List ℕ) (A : Matrix) {i c : ℕ} {os ts : Lis
             ∙ length-append (passed r A 0 (take (i + 1) l)) (passed r A (0 + length (taken r A 0 (take (i + 1) l))) rest) in
             omega arith
 
-        by : (isNext r A c (getD l i 0) ≡ true) ⊎ (isNext r A c (getD l i 0) ≡ false) → (isNext r (matrixAt w os ts) c (getD l i 0) ≡ true) ⊎ (i - c < N)
+        by : (isNext r A c (getD l i 0) ≡ true) ⊎ (isNext r A c (getD l i 0) ≡ false) → (isNext r (matrixAt w os ts) c (getD l i 0) ≡ true) ⊎ (j < N)
         by (inl f) = inl (walking-next k z (getD l i 0) ∙ f)
         by (inr f) =
             let p = ap (λ (x : List ℕ). length x) (ap (λ (x : List ℕ). passed r A 0 x) (take-next l i h) ∙ passed-no r A (take i l) (getD l i 0) c (k .count) f)
             ∙ length-append (passed r A 0 (take i l)) (getD l i 0 ∷ []) in
-            inr (omega (arith, passed-count, long, p))
+            inr (omega (arith, d, long, p))
 
   -- the place at i takes the next trit, or none
   pub supply-turn : {n : ℕ} {o₁ t₁ : List ℕ} (v : Vector) → Walking rows w r e A (fill (passed r A 0 (take i l)) v (A e)) (take i l) c os ts

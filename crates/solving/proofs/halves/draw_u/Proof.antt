@@ -8,7 +8,7 @@ use denote.Ref.{now}
 use lib.ListN.{length}
 use native.Mathlib.Omega.{arith}
 use mathlib.Core.Path.{sym, _∙_}
-use Prim.Native.Nat.{_-_, _*_}
+use Prim.Native.Nat.{_*_}
 use Rattle.solving.proofs.halves.draw_u.Statement.{statement}
 use Rattle.solving.proofs.halves.draw_u.Tie as tie
 

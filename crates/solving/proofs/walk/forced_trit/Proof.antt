@@ -1,9 +1,8 @@
 -- The difference and the product by numbers, modulo 3 (`forced-number`).
 -- Assumes nothing.
 use borrow.Author.Needs.{needs}
-use Rattle.solving.proofs.Puts.{forced-number, product-lt}
+use Rattle.solving.proofs.Puts.{forced-number, small-product}
 use native.Mathlib.Omega.{arith}
-use Prim.Native.Nat.{_-_}
 use Rattle.solving.proofs.walk.forced_trit.Statement.{statement}
 use Rattle.solving.proofs.walk.forced_trit.Tie as tie
 
@@ -14,8 +13,7 @@ add-result : tie.Need-add-result
 add-result c = search needs
 
 mul-result-2 : tie.Need-mul-result-2
-mul-result-2 c =
-    omega (arith, product-lt (c .args .b) (c .args .c) (c .args .v) (c .pre .0) (c .pre .1) (c .pre .2))
+mul-result-2 c = small-product (omega arith) (omega arith)
 
 returns : tie.Need-returns
 returns c =

@@ -4,7 +4,6 @@ use Rattle.solving.proofs.Puts.{next-none, next-row}
 use Rattle.trits.proofs.Matrix.{row-le}
 use denote.Ref.{now}
 use native.Mathlib.Omega.{arith}
-use Prim.Native.Nat.{_-_}
 use Rattle.solving.proofs.walk.is_next.Statement.{statement}
 use Rattle.solving.proofs.walk.is_next.Tie as tie
 

@@ -5,7 +5,6 @@ use Rattle.solving.proofs.Puts.{put-cell}
 use Rattle.trits.proofs.Matrix.{row-le}
 use Rattle.trits.specs.Trit.{tritOf}
 use native.Mathlib.Omega.{arith}
-use Prim.Native.Nat.{_-_}
 use Rattle.solving.proofs.walk.put_at.Statement.{statement}
 use Rattle.solving.proofs.walk.put_at.Tie as tie
 

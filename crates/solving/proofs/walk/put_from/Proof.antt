@@ -5,7 +5,6 @@ use Rattle.solving.proofs.Puts.{value-lt, put-number}
 use Rattle.trits.specs.Rows.{matrixAt}
 use Rattle.trits.specs.Planes.{tritAt}
 use denote.Ref.{now}
-use Prim.Native.Nat.{_-_}
 use Rattle.solving.proofs.walk.put_from.Statement.{statement}
 use Rattle.solving.proofs.walk.put_from.Tie as tie
 

@@ -8,7 +8,7 @@ use Rattle.trits.specs.Trit.{dotV}
 use denote.Ref.{now}
 use native.Mathlib.Omega.{arith}
 use mathlib.Core.Path.{sym, _∙_}
-use Prim.Native.Nat.{_-_, _*_}
+use Prim.Native.Nat.{_*_}
 use Rattle.solving.proofs.walk.solve_place.Statement.{statement}
 use Rattle.solving.proofs.walk.solve_place.Tie as tie
 

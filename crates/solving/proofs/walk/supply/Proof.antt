@@ -48,13 +48,14 @@ supply-place-requires c κs =
     let s = c .before .before .before .before .before .before .before .before .before .before in
     let a = s .args in
     let l = c .before .before .before .before .loop in
-    let q = place-below (now (a .order)) (length (now (a .order))) (l .i) (s .pre .1 .1 .0) (omega arith) in (
+    let q = place-below (now (a .order)) (length (now (a .order))) (l .i) (s .pre .1 .1 .0) (omega arith) in
+    let p = passed-count (now (a .order)) (matrixAt (a .w) (now (a .ones)) (now (a .twos))) {i = l .i} (s .pre .1 .1 .0) (omega arith) (s .pre .1 .1 .1 .0 .3) (l .inv .1) in (
       l .inv .1 .grid .rows,
       (
         s .pre .1 .0,
         (
           (omega (arith, l .inv .1 .grid .rows .size, s .pre .0 .size), omega (arith, q), omega arith, s .pre .1 .1 .1 .0 .4),
-          supply-room (now (a .order)) (matrixAt (a .w) (now (a .ones)) (now (a .twos))) (s .pre .1 .1 .0) (omega arith) (s .pre .1 .1 .1 .0 .3) (l .inv .1) (a .m) (64 * length (now (a .vo))) (omega arith) (s .pre .1 .1 .1 .1),
+          supply-room (now (a .order)) (matrixAt (a .w) (now (a .ones)) (now (a .twos))) (s .pre .1 .1 .0) (omega arith) (s .pre .1 .1 .1 .0 .3) (l .inv .1) (a .m) (64 * length (now (a .vo))) (omega arith) (s .pre .1 .1 .1 .1) (omega (arith, p)),
         ),
       ),
     )

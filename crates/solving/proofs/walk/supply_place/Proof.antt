@@ -7,7 +7,6 @@ use Rattle.trits.specs.Rows.{matrixAt}
 use denote.Ref.{now}
 use native.Mathlib.Omega.{arith}
 use mathlib.Core.Path.{sym, _∙_}
-use Prim.Native.Nat.{_-_}
 use Rattle.solving.proofs.walk.supply_place.Statement.{statement}
 use Rattle.solving.proofs.walk.supply_place.Tie as tie
 

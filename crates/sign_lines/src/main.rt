@@ -1,6 +1,10 @@
 // Builds a key from a stored secret, draws until a word is released, and prints the lines that hand the key and the signature to a module.
 mod secret; // the secret, the starting order and the syndrome
+mod samples; // choices for draws
 
+ghost use mathlib.Core.Path.{_≡_};
+ghost use Prim.Native.Nat.{_*_, _≤_};
+ghost use lib.ListN.{length};
 use libc::STDOUT_FILENO;
 use signer::sizes::Sizes;
 
@@ -117,13 +121,31 @@ fn sign(p: &[u16], s_ones: &mut [u64], s_twos: &mut [u64]) -> bool {
     false
 }
 
+// A digit as a number.
+fn wide(x: u8) -> u64
+    ensures { λ r. ⌜ r ≡ x ⌝ }
+{
+    x as u64
+}
+
+// The first m trits of a row as digits.
+fn digits(ones: &[u64], twos: &[u64], m: usize)
+    requires { ⌜ (length (now twos) ≡ length (now ones)) × (m ≤ 64 * length (now ones)) ⌝ }
+{
+    let mut i = 0;
+    while i < m {
+        io::print_decimal(STDOUT_FILENO, wide(trits::places::trit_at(ones, twos, i)));
+        i += 1;
+    }
+}
+
 // The key's rows, one line for each.
 fn show_key(key_ones: &[u64; 26], key_twos: &[u64; 26]) {
     let mut i = 0;
     while i < 26 {
         io::write_all(STDOUT_FILENO, b"K\t");
-        show::digits(&[key_ones[i]], &[key_twos[i]], 38);
-        show::end();
+        digits(&[key_ones[i]], &[key_twos[i]], 38);
+        io::write_all(STDOUT_FILENO, b"\n");
         i += 1;
     }
 }
@@ -143,8 +165,8 @@ fn main() {
     io::write_all(STDOUT_FILENO, b"P\t7\t64\t26\t52\n");
     show_key(&key_ones, &key_twos);
     io::write_all(STDOUT_FILENO, b"S\t7\t12\t");
-    show::digits(&secret::Y_ONES, &secret::Y_TWOS, 38);
+    digits(&secret::Y_ONES, &secret::Y_TWOS, 38);
     io::write_all(STDOUT_FILENO, b"\t");
-    show::digits(&s_ones, &s_twos, 26);
-    show::end();
+    digits(&s_ones, &s_twos, 26);
+    io::write_all(STDOUT_FILENO, b"\n");
 }

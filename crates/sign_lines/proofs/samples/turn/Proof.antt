@@ -3,8 +3,8 @@
 use mathlib.Core.Logic.{inl, inr}
 use native.Mathlib.Omega.{arith}
 use borrow.Author.Needs.{needs}
-use Rattle.samples.proofs.turn.Statement.{statement}
-use Rattle.samples.proofs.turn.Tie as tie
+use Rattle.sign_lines.proofs.samples.turn.Statement.{statement}
+use Rattle.sign_lines.proofs.samples.turn.Tie as tie
 
 add-if1 : tie.Need-add-if1
 add-if1 c = search needs

@@ -2,8 +2,8 @@
 -- Assumes nothing.
 use Prim.Native.Nat.{_-_, _≤_}
 use borrow.Author.Needs.{needs}
-use Rattle.show.proofs.digits.Statement.{statement}
-use Rattle.show.proofs.digits.Tie as tie
+use Rattle.sign_lines.proofs.digits.Statement.{statement}
+use Rattle.sign_lines.proofs.digits.Tie as tie
 
 abbrev Inv-loop : tie.InvT-loop
 Inv-loop ones twos m i₀ i =
@@ -18,8 +18,8 @@ loop-holds c = search needs
 trit-at-requires : tie.Need-trit-at-requires Inv-loop μ-loop
 trit-at-requires c κs = search needs
 
-byte-requires : tie.Need-byte-requires Inv-loop μ-loop
-byte-requires c κs = search needs
+wide-requires : tie.Need-wide-requires Inv-loop μ-loop
+wide-requires c κs = search needs
 
 print-decimal-requires : tie.Need-print-decimal-requires Inv-loop μ-loop
 print-decimal-requires c κs = search needs
@@ -44,7 +44,7 @@ digits-spec =
     μ-loop
     loop-holds
     trit-at-requires
-    byte-requires
+    wide-requires
     print-decimal-requires
     add-i
     loop-less

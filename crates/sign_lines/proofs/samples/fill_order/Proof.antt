@@ -4,8 +4,8 @@ use Prim.Native.Nat.{_-_, _≤_, _<_}
 use mathlib.Core.Path.{_≡_}
 use lib.ListN.{length}
 use borrow.Author.Needs.{needs}
-use Rattle.samples.proofs.fill_order.Statement.{statement}
-use Rattle.samples.proofs.fill_order.Tie as tie
+use Rattle.sign_lines.proofs.samples.fill_order.Statement.{statement}
+use Rattle.sign_lines.proofs.samples.fill_order.Tie as tie
 
 abbrev Inv-loop : tie.InvT-loop
 Inv-loop order₀ a b n q₀ j₀ order q j =

@@ -4,8 +4,8 @@ use Prim.Native.Nat.{_-_, _≤_}
 use mathlib.Core.Path.{_≡_}
 use lib.ListN.{length}
 use borrow.Author.Needs.{needs}
-use Rattle.samples.proofs.fill_bytes.Statement.{statement}
-use Rattle.samples.proofs.fill_bytes.Tie as tie
+use Rattle.sign_lines.proofs.samples.fill_bytes.Statement.{statement}
+use Rattle.sign_lines.proofs.samples.fill_bytes.Tie as tie
 
 abbrev Inv-loop : tie.InvT-loop
 Inv-loop bytes₀ x state₀ j₀ bytes state j =

@@ -1,4 +1,4 @@
-// Made-up rows and orders for the programs of cases: the same ones on every run.
+// Choices for draws, made up: the same ones on every run.
 ghost use mathlib.Core.Path.{_≡_};
 ghost use mathlib.Core.Logic.{_⊎_};
 ghost use Prim.Native.Nat.{_+_, _*_, _%_, _<_, _≤_};
@@ -44,23 +44,6 @@ pub fn fill_row(m: usize, x: u64, ones: &mut [u64], twos: &mut [u64]) -> u64 {
     let b = (m + 4) / 5;
     let mut bytes = [0u8; 3277];
     unpack_row(m, x, &mut bytes[0..b], ones, twos)
-}
-
-// Rows of m trits, w words each, one after another.
-pub fn fill_rows(m: usize, w: usize, x: u64, ones: &mut [u64], twos: &mut [u64]) {
-    let mut state = x;
-    let mut a = 0;
-    if w == 0 {
-        return;
-    }
-    if twos.len() != ones.len() {
-        return;
-    }
-    while w <= ones.len() - a {
-        let e = a + w;
-        state = fill_row(m, state, &mut ones[a..e], &mut twos[a..e]);
-        a = e;
-    }
 }
 
 // The place a further on, of n places in a ring.

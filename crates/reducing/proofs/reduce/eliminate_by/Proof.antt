@@ -8,9 +8,9 @@ use lib.ListN.{length, take}
 use Rattle.trits.specs.Rows.{matrixAt}
 use Rattle.elimination.proofs.Went.{Went, went-turn, went-count, went-grid}
 use Rattle.signer.proofs.Draws.{first-below}
-use Rattle.solving.proofs.Fronts.{none-tried, take-next, place-below}
-use Rattle.solving.proofs.reduce.eliminate_by.Statement.{statement}
-use Rattle.solving.proofs.reduce.eliminate_by.Tie as tie
+use Rattle.reducing.proofs.Fronts.{none-tried, take-next, place-below}
+use Rattle.reducing.proofs.reduce.eliminate_by.Statement.{statement}
+use Rattle.reducing.proofs.reduce.eliminate_by.Tie as tie
 
 abbrev Inv-loop : tie.InvT-loop
 Inv-loop ones₀ twos₀ rows w order m count₀ i₀ ones twos count i = (i ≤ m) × Went rows w (matrixAt w ones₀ twos₀) (take i order) count ones twos

@@ -22,7 +22,7 @@ use Rattle.matrix.proofs.Elimination.{Reduced, reduced-cong}
 use Rattle.matrix.proofs.Steps.{has-row, has-none, step-has, step-none}
 use Rattle.matrix.proofs.Kept.{tried-cells, tried-kept, tried-count, eliminate-pivots, eliminated-reduced}
 use Rattle.signer.proofs.Draws.{parts, first-below}
-use Rattle.solving.specs.Walk.{over, isNext, taken, passed}
+use Rattle.reducing.specs.Walk.{over, isNext, taken, passed}
 
 -- ---- what one step leaves of a column
 

@@ -8,9 +8,9 @@ use lib.ListN.{length, take}
 use Rattle.matrix.specs.Linear.{Matrix, rank}
 use Rattle.matrix.specs.Eliminate.{eliminated}
 use Rattle.elimination.proofs.Cells.{grid-to}
-use Rattle.solving.proofs.Fronts.{copied-rows, copied-cells}
-use Rattle.solving.proofs.reduce.reduce_copied.Statement.{statement}
-use Rattle.solving.proofs.reduce.reduce_copied.Tie as tie
+use Rattle.reducing.proofs.Fronts.{copied-rows, copied-cells}
+use Rattle.reducing.proofs.reduce.reduce_copied.Statement.{statement}
+use Rattle.reducing.proofs.reduce.reduce_copied.Tie as tie
 
 copy-words-requires : tie.Need-copy-words-requires
 copy-words-requires c κs = search needs

@@ -7,7 +7,7 @@ ghost use Rattle.matrix.specs.Linear.{rank};
 ghost use Rattle.matrix.specs.Orders.{Order};
 ghost use Rattle.matrix.specs.Eliminate.{eliminated};
 ghost use Rattle.elimination.specs.Grid.{Rows, Grid};
-ghost use Rattle.solving.specs.Walk.{over};
+ghost use Rattle.reducing.specs.Walk.{over};
 
 // The columns at the first m places of an order are tried one after another, and those with a pivot counted.
 pub fn eliminate_by(

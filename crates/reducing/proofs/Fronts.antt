@@ -23,8 +23,8 @@ use Rattle.matrix.proofs.Counts.{range-none}
 use Rattle.elimination.specs.Grid.{Rows, Grid}
 use Rattle.elimination.proofs.Cells.{cell, cell-past, grid-by}
 use Rattle.elimination.proofs.Went.{Went, went-none}
-use Rattle.solving.specs.Walk.{over}
-use Rattle.solving.proofs.Walked.{over-row, over-rest}
+use Rattle.reducing.specs.Walk.{over}
+use Rattle.reducing.proofs.Walked.{over-row, over-rest}
 
 -- ---- places of an order
 

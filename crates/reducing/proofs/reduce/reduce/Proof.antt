@@ -7,9 +7,9 @@ use borrow.Author.Needs.{needs}
 use denote.Ref.{now}
 use lib.ListN.{length}
 use Rattle.trits.proofs.Parts.{length-mid}
-use Rattle.solving.proofs.Fronts.{front-grid}
-use Rattle.solving.proofs.reduce.reduce.Statement.{statement}
-use Rattle.solving.proofs.reduce.reduce.Tie as tie
+use Rattle.reducing.proofs.Fronts.{front-grid}
+use Rattle.reducing.proofs.reduce.reduce.Statement.{statement}
+use Rattle.reducing.proofs.reduce.reduce.Tie as tie
 
 sub-reduce-copied : tie.Need-sub-reduce-copied
 sub-reduce-copied c = search needs

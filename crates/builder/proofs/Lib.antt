@@ -1,5 +1,2 @@
--- The laws: copies, lengths and ranks, the released key, the answer.
-pub mod Copies
-pub mod Lengths
-pub mod Released
+-- The laws of the answer.
 pub mod Answers

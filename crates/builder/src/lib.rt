@@ -1,8 +1,5 @@
 // The build of a key: the call, and its tests.
-pub mod order; // the copy of an order
 pub mod tests; // lengths and contents
-pub mod ranks; // 9 and 10
-pub mod release; // the work matrix, and the key
 pub mod finish; // ranks, key, working space
 
 ghost use mathlib.Core.Path.{_≡_};

@@ -25,8 +25,7 @@ use Rattle.signer.specs.Secret.{Secret, uOf, vOf, leftOf, rightOf}
 use Rattle.signer.specs.Draw.{Choices, firstV, firstU, pivotsV, pivotsU, drawV, drawU, drawn, drawRefusal}
 use Rattle.signer.proofs.Pairs.{no-zero}
 use Rattle.signer.proofs.Draws.{Valid}
-use Rattle.solving.specs.Walk.{Solved}
-use Rattle.solving.specs.Half.{Ends}
+use Rattle.solving.specs.Half.{Ends, Solved}
 use Rattle.solving.proofs.HalfWords.{word-drawV, word-drawU, upto-ends}
 use Rattle.pairing.specs.Halves.{placedRows, partedRows, joinedRows}
 use Rattle.pairing.proofs.DrawRows.{placed-parted, joined-halves, drawV-half, drawU-half, drawn-weighs}

@@ -21,7 +21,8 @@ use Rattle.matrix.proofs.Steps.{has-row, has-none, step-has, step-none}
 use Rattle.elimination.specs.Grid.{Rows, Grid}
 use Rattle.signer.specs.Build.{swap, Arrangement, arranged}
 use Rattle.signer.proofs.Build.{State, begin, turned, taken, left, finished, swap-length}
-use Rattle.keymatrix.specs.Work.{colOf, placedAt, Keyed}
+use Rattle.secretmatrix.specs.Work.{colOf, placedAt}
+use Rattle.keymatrix.specs.KeyRows.{Keyed}
 
 -- ---- columns
 

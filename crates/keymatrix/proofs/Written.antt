@@ -15,8 +15,9 @@ use Rattle.trits.proofs.Reading.{length-ones, length-twos}
 use Rattle.trits.proofs.Ends.{upto-same}
 use Rattle.matrix.specs.Linear.{Matrix, column}
 use Rattle.signer.specs.Build.{rowOfR}
-use Rattle.keymatrix.specs.Work.{colOf, placedAt, Keyed, readDown, keyOnes, keyTwos}
 use Rattle.elimination.specs.Grid.{rowsOf}
+use Rattle.secretmatrix.specs.Work.{colOf, placedAt}
+use Rattle.keymatrix.specs.KeyRows.{Keyed, readDown, keyOnes, keyTwos}
 
 -- ---- rows of words, one after another
 

@@ -1,2 +1,2 @@
--- The definitions that the contracts cite: the work matrix in planes, and the key read out of it.
-pub mod Work
+-- The definitions that the contracts cite: the key read out of the work matrix.
+pub mod KeyRows

@@ -9,7 +9,8 @@ ghost use Rattle.matrix.specs.Orders.{Order};
 ghost use Rattle.matrix.specs.Eliminate.{hasPivot, stepOf};
 ghost use Rattle.elimination.specs.Grid.{Rows, Grid};
 ghost use Rattle.signer.specs.Build.{swap, arranged};
-ghost use Rattle.keymatrix.specs.Work.{colOf, placedAt, Keyed};
+ghost use Rattle.secretmatrix.specs.Work.{colOf, placedAt};
+ghost use Rattle.keymatrix.specs.KeyRows.{Keyed};
 
 // The column of a secret place.
 pub fn column(q: usize, half: usize, hw: usize) -> usize

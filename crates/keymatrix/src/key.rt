@@ -8,7 +8,7 @@ ghost use Rattle.trits.specs.Rows.{matrixAt};
 ghost use Rattle.matrix.specs.Linear.{column};
 ghost use Rattle.matrix.specs.Orders.{Order};
 ghost use Rattle.elimination.specs.Grid.{Rows};
-ghost use Rattle.keymatrix.specs.Work.{keyOnes, keyTwos};
+ghost use Rattle.keymatrix.specs.KeyRows.{keyOnes, keyTwos};
 use super::arrange;
 
 // The trits of column c are put at the first places of a row that holds 0.

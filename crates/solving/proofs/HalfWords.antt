@@ -27,9 +27,9 @@ use Rattle.signer.specs.Sizes.{half, ru, rv, gapU, gapV}
 use Rattle.signer.specs.Secret.{Secret}
 use Rattle.signer.specs.Draw.{Choices, pivotsV, suppliedV, drawV, pivotsU, suppliedU, drawU}
 use Rattle.signer.proofs.Draws.{parts, first-below, last-in}
-use Rattle.solving.specs.Walk.{over, taken, passed, Solved, forcedBy}
-use Rattle.solving.specs.Half.{Ends, halfPivots, wordV, wordU, SolvedWhere}
-use Rattle.solving.proofs.Walked.{first-taken, first-passed, order-taken, order-passed, taken-cong, over-row, over-rest, passed-over}
+use Rattle.reducing.specs.Walk.{over, taken, passed}
+use Rattle.reducing.proofs.Walked.{first-taken, first-passed, order-taken, order-passed, taken-cong, over-row, over-rest, passed-over}
+use Rattle.solving.specs.Half.{Ends, halfPivots, forcedBy, wordV, wordU, Solved, SolvedWhere}
 use Rattle.solving.proofs.Supplied.{fill-same, walk-length, put-here, put-else, put-again}
 
 -- ---- the words are those of a draw

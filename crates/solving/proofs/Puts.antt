@@ -23,7 +23,8 @@ use Rattle.matrix.specs.Linear.{Vector, Matrix}
 use Rattle.elimination.specs.Grid.{Rows, Grid, putRow}
 use Rattle.elimination.proofs.RowParts.{read-trit}
 use Rattle.elimination.proofs.Cells.{cell, cell-past, grid-by, grid-to, read-set, read-unset}
-use Rattle.solving.specs.Walk.{isNext, forcedBy}
+use Rattle.reducing.specs.Walk.{isNext}
+use Rattle.solving.specs.Half.{forcedBy}
 
 -- ---- trits as numbers
 

@@ -21,9 +21,10 @@ use Rattle.matrix.proofs.Orders.{order-good}
 use Rattle.matrix.proofs.Counts.{distinct-parts}
 use Rattle.elimination.specs.Grid.{Rows, Grid, putRow}
 use Rattle.elimination.proofs.Cells.{grid-to}
-use Rattle.solving.specs.Walk.{isNext, taken, passed, forcedBy}
-use Rattle.solving.proofs.Walked.{taken-append, passed-append, taken-within, next-cong}
-use Rattle.solving.proofs.Fronts.{take-next}
+use Rattle.reducing.specs.Walk.{isNext, taken, passed}
+use Rattle.reducing.proofs.Walked.{taken-append, passed-append, taken-within, next-cong}
+use Rattle.reducing.proofs.Fronts.{take-next}
+use Rattle.solving.specs.Half.{forcedBy}
 use Rattle.solving.proofs.Puts.{put-own, next-lt}
 
 -- ---- words filled place by place

@@ -1,3 +1,2 @@
--- The definitions that the contracts cite: the walk along an order in a reduced matrix, and one half of a draw.
-pub mod Walk
+-- The definitions that the contracts cite: one half of a draw.
 pub mod Half

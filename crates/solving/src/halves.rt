@@ -10,7 +10,6 @@ ghost use Rattle.matrix.specs.Linear.{zeros, rank};
 ghost use Rattle.matrix.specs.Orders.{Order};
 ghost use Rattle.elimination.specs.Grid.{Rows};
 ghost use Rattle.solving.specs.Half.{Ends, wordV, wordU, SolvedWhere};
-use super::reduce;
 use super::walk;
 
 // V: the whole order's places that are no pivot take the trits, and the pivots what the syndrome asks; false where the first part lacks rank.
@@ -41,7 +40,7 @@ pub fn draw_v(
         (matrixAt w (now (ones .entry)) (now (twos .entry)) x)) ⌝ }
 {
     let first = r + g;
-    if reduce::reduce(ones, twos, rows, w, r, ho, ht, order, first) != r {
+    if reducing::reduce::reduce(ones, twos, rows, w, r, ho, ht, order, first) != r {
         return false;
     }
     walk::supply(ones, twos, rows, w, r, order, order.len(), vo, vt, e);
@@ -85,7 +84,7 @@ pub fn draw_u(
         (now (order .entry)) g (tritAt (now (uo .entry)) (now (ut .entry))) (matrixAt w (now (ones .entry)) (now (twos .entry)) ev) (matrixAt w (now (ones .entry)) (now (twos .entry)) x)) ⌝ }
 {
     let first = r + g;
-    if reduce::reduce(ones, twos, rows, w, r, ho, ht, order, first) != r {
+    if reducing::reduce::reduce(ones, twos, rows, w, r, ho, ht, order, first) != r {
         return false;
     }
     walk::supply(ones, twos, rows, w, r, order, first, uo, ut, e);

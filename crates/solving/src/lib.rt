@@ -1,4 +1,3 @@
-// One half of a draw, in rows of a grid: the matrix reduced along an order, the supplied trits, and the pivots' values.
-pub mod reduce; // the matrix copied, and eliminated along an order
+// One half of a draw, in rows of a grid: the supplied trits, and the pivots' values in the reduced matrix.
 pub mod walk; // the places of an order walked in a reduced matrix
 pub mod halves; // the word of V, and the word of U

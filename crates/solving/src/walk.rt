@@ -10,7 +10,8 @@ ghost use Rattle.trits.specs.Rows.{matrixAt};
 ghost use Rattle.matrix.specs.Linear.{times, fill};
 ghost use Rattle.matrix.specs.Orders.{Order};
 ghost use Rattle.elimination.specs.Grid.{Rows, Grid, putRow};
-ghost use Rattle.solving.specs.Walk.{isNext, taken, passed, forcedBy};
+ghost use Rattle.reducing.specs.Walk.{isNext, taken, passed};
+ghost use Rattle.solving.specs.Half.{forcedBy};
 
 // Place q of row e takes trit j of another row.
 pub fn put_from(

@@ -6,8 +6,8 @@ use denote.Ref.{now}
 use Rattle.trits.proofs.Refusals.{exit-kept, exit-new}
 use Rattle.calls.specs.Lent.{planes, secretOf}
 use Rattle.calls.proofs.Exits.{positive}
-use Rattle.builder.specs.Work.{matrices}
-use Rattle.builder.proofs.Released.{full-rank, same-ranks}
+use Rattle.building.specs.Work.{matrices}
+use Rattle.building.proofs.Released.{full-rank, same-ranks}
 use borrow.Author.Needs.{needs}
 use Rattle.builder.proofs.finish.make.Statement.{statement}
 use Rattle.builder.proofs.finish.make.Tie as tie

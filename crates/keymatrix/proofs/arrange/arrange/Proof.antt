@@ -1,7 +1,7 @@
 -- Each turn does what the column rule says (`arrange-turn`), and a column is left as long as too few are kept (`turn-facts`).
 -- Assumes nothing.
 use Rattle.keymatrix.proofs.Arranging.{Arranging, Facts, turn-facts, arrange-none, arrange-some, arrange-turn, arrange-done, col-below}
-use Rattle.keymatrix.specs.Work.{placedAt}
+use Rattle.secretmatrix.specs.Work.{placedAt}
 use denote.Ref.{now}
 use lib.ListN.{length, getD}
 use native.Mathlib.Omega.{arith}

@@ -1,8 +1,8 @@
 -- Each turn walks one place more (`solve-turn`); rows c and x are not the row that changes.
 -- Assumes nothing.
-use Rattle.solving.proofs.Fronts.{place-below}
+use Rattle.reducing.proofs.Fronts.{place-below}
 use Rattle.solving.proofs.Supplied.{Walking, walking-none, taken-nil, solve-turn}
-use Rattle.solving.specs.Walk.{taken}
+use Rattle.reducing.specs.Walk.{taken}
 use Rattle.matrix.specs.Linear.{times, fill}
 use Rattle.trits.specs.Rows.{matrixAt}
 use denote.Ref.{now}

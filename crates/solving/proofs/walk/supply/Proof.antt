@@ -1,8 +1,8 @@
 -- Each turn walks one place more (`supply-turn`); a place passed over finds a trit (`supply-room`).
 -- Assumes nothing.
-use Rattle.solving.proofs.Fronts.{place-below}
+use Rattle.reducing.proofs.Fronts.{place-below}
 use Rattle.solving.proofs.Supplied.{Walking, walking-none, passed-nil, passed-count, supply-room, supply-turn}
-use Rattle.solving.specs.Walk.{passed}
+use Rattle.reducing.specs.Walk.{passed}
 use Rattle.matrix.specs.Linear.{fill}
 use Rattle.trits.specs.Rows.{matrixAt}
 use Rattle.trits.specs.Planes.{tritAt}

@@ -1,6 +1,6 @@
 -- Each turn puts the value of one place more of the last part (`forced-turn`); row ev is not the row that changes.
 -- Assumes nothing.
-use Rattle.solving.proofs.Fronts.{place-below}
+use Rattle.reducing.proofs.Fronts.{place-below}
 use Rattle.solving.proofs.Supplied.{forcedAt, forced-start, forced-turn, forced-all}
 use Rattle.elimination.specs.Grid.{Grid, putRow}
 use Rattle.matrix.specs.Linear.{fill}

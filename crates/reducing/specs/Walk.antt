@@ -1,0 +1,25 @@
+-- The walk along an order in a reduced matrix, which finds the pivots again. No rule of the paper: code is tied to it, and its laws to `pivots` and `without`. Assumes nothing.
+use mathlib.Core.Bool.{Bool, _&&_, cond}
+use mathlib.Core.List.{List, [], _∷_}
+use Prim.Native.Nat.{ℕ, suc}
+use lib.Dec.{ltb}
+use Rattle.trits.specs.Trit.{isSet}
+use Rattle.matrix.specs.Linear.{Matrix}
+
+-- the rows below r are those of B, the others those of A
+abbrev pub over : ℕ → Matrix → Matrix → Matrix
+over r B A i q = cond (ltb i r) (B i q) (A i q)
+
+-- with c pivots behind, the place q has the next one: row c of the r rows is not 0 there
+abbrev pub isNext : ℕ → Matrix → ℕ → ℕ → Bool
+isNext r A c q = ltb c r && isSet (A c q)
+
+-- the places that have pivots, c of them being behind
+unfoldable pub taken : ℕ → Matrix → ℕ → List ℕ → List ℕ
+taken r A c [] = []
+taken r A c (q ∷ qs) = cond (isNext r A c q) (q ∷ taken r A (suc c) qs) (taken r A c qs)
+
+-- the places that are passed over
+unfoldable pub passed : ℕ → Matrix → ℕ → List ℕ → List ℕ
+passed r A c [] = []
+passed r A c (q ∷ qs) = cond (isNext r A c q) (passed r A (suc c) qs) (q ∷ passed r A c qs)

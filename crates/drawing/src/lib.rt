@@ -1,12 +1,9 @@
-// One draw: the call, and its tests.
-pub mod tests; // lengths and contents
-pub mod word; // the word, made in the working space
-pub mod finish; // the release, and the working space made 0
-
+// One draw: the call.
 ghost use mathlib.Core.Path.{_≡_};
 ghost use Rattle.trits.specs.Refusal.{codeOf};
 ghost use Rattle.calls.specs.Lent.{planes};
 ghost use Rattle.calls.specs.DrawCall.{lent, drawAnswer, wordOnesExit, wordTwosExit, sOnesExit, sTwosExit, workOnesExit, workTwosExit};
+use choices::tests;
 use signer::sizes::Sizes;
 use trits::refusal::Outcome;
 use trits::refusal::Refusal;
@@ -100,7 +97,7 @@ pub fn draw(
     if trits::refusal::code(tested) != 0 {
         return tested;
     }
-    finish::finish(
+    finishing::finish(
         z,
         hu_ones,
         hu_twos,

@@ -16,7 +16,7 @@ use Rattle.calls.specs.Lent.{planes, secretOf, secretRefusal, workExit}
 use Rattle.calls.specs.DrawCall.{lent, syndromeOf, choicesOf, wordOf, wordOnesExit, wordTwosExit, sOnesExit, sTwosExit, workOnesExit, workTwosExit}
 use Rattle.calls.proofs.Exits.{positive, work-kept}
 use Rattle.calls.proofs.Secrets.{readable}
-use Rattle.drawing.proofs.Answers.{same-lengths, same-choices, answer-size, answer-length, answer-contents, answer-ending, contents-le, contents-secret, work-ended, lengths-secret, lengths-choices, ready}
+use Rattle.choices.proofs.Answers.{same-lengths, same-choices, answer-size, answer-length, answer-contents, answer-ending, contents-le, contents-secret, work-ended, lengths-secret, lengths-choices, ready}
 use borrow.Author.Needs.{needs}
 use Rattle.drawing.proofs.draw.Statement.{statement}
 use Rattle.drawing.proofs.draw.Tie as tie

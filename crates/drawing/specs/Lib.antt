@@ -1,3 +1,0 @@
--- The definitions that the inner contracts cite; those of the call stand in `calls`.
-pub mod Ready
-pub mod Stages

@@ -1,0 +1,2 @@
+-- The laws: the stages of a draw.
+pub mod Stages

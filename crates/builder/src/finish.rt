@@ -10,8 +10,8 @@ ghost use Rattle.signer.specs.Build.{buildRefusal, keyOrder};
 ghost use Rattle.matrix.specs.Orders.{Order};
 ghost use Rattle.calls.specs.Lent.{planes, secretOf, Readable};
 ghost use Rattle.calls.specs.BuildCall.{keyWords, workWords, keyOnesOf, keyTwosOf};
-use building::ranks;
 use building::release;
+use secretranks::ranks;
 use signer::sizes::Sizes;
 use trits::refusal::Outcome;
 

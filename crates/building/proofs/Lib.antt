@@ -1,4 +1,2 @@
--- The laws: copies, lengths and ranks, the released key.
-pub mod Copies
-pub mod Lengths
+-- The laws of the released key.
 pub mod Released

@@ -31,8 +31,8 @@ use Rattle.keymatrix.proofs.Written.{rows-same, down-row}
 use Rattle.calls.specs.Lent.{Planes, halfWords, secretOf, Readable}
 use Rattle.calls.specs.BuildCall.{keyWords, workWords, keyOnesOf, keyTwosOf}
 use Rattle.calls.proofs.Bounds.{Bounds}
+use Rattle.secretranks.proofs.Copies.{copied-rows}
 use Rattle.building.specs.Work.{Filled}
-use Rattle.building.proofs.Copies.{copied-rows}
 
 -- working planes of 0, as half-rows
 pub zero-rows : (z : Sizes) {o t : List ℕ} (n k : ℕ) → o ≡ zeroWords n → t ≡ zeroWords k → n ≡ workWords z → k ≡ workWords z → Rows o t (codim z + codim z) (halfWords z)

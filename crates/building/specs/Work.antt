@@ -2,18 +2,12 @@
 use mathlib.Core.Path.{_≡_}
 use mathlib.Core.List.{List}
 use Prim.Native.Nat.{ℕ, _+_}
-use Rattle.trits.specs.Rows.{matrixAt}
-use Rattle.matrix.specs.Linear.{zeros}
 use Rattle.elimination.specs.Grid.{Rows}
 use Rattle.signer.specs.declared.sizes.Sizes.{Sizes}
 use Rattle.signer.specs.Sizes.{half, codim}
 use Rattle.signer.specs.Secret.{Secret, secretMatrix}
 use Rattle.secretmatrix.specs.Work.{placedAt}
 use Rattle.calls.specs.Lent.{halfWords}
-
--- H_U and H_V alone, with no b and c
-abbrev pub matrices : Sizes → List ℕ → List ℕ → List ℕ → List ℕ → Secret
-matrices z a b c d = record { hu = matrixAt (halfWords z) a b; hv = matrixAt (halfWords z) c d; b = zeros; c = zeros }
 
 -- the working planes hold the secret matrix, in secret places
 pub record Filled (z : Sizes) (s : Secret) (ones twos : List ℕ) : Type 0 where

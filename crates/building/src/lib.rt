@@ -1,4 +1,3 @@
-// The ranks of a secret, and the key that it makes.
+// The key that a secret of full ranks makes.
 pub mod order; // the copy of an order
-pub mod ranks; // 9 and 10
 pub mod release; // the work matrix, and the key

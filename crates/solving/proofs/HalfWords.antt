@@ -29,8 +29,9 @@ use Rattle.signer.specs.Draw.{Choices, pivotsV, suppliedV, drawV, pivotsU, supp
 use Rattle.signer.proofs.Draws.{parts, first-below, last-in}
 use Rattle.reducing.specs.Walk.{over, taken, passed}
 use Rattle.reducing.proofs.Walked.{first-taken, first-passed, order-taken, order-passed, taken-cong, over-row, over-rest, passed-over}
-use Rattle.solving.specs.Half.{Ends, halfPivots, forcedBy, wordV, wordU, Solved, SolvedWhere}
-use Rattle.solving.proofs.Supplied.{fill-same, walk-length, put-here, put-else, put-again}
+use Rattle.walking.specs.Forced.{forcedBy}
+use Rattle.walking.proofs.Supplied.{fill-same, walk-length, put-here, put-else, put-again}
+use Rattle.solving.specs.Half.{Ends, halfPivots, wordV, wordU, Solved, SolvedWhere}
 
 -- ---- the words are those of a draw
 

@@ -1,4 +1,2 @@
--- The laws.
-pub mod Puts
-pub mod Supplied
+-- The laws of the two words.
 pub mod HalfWords

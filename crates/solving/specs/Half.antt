@@ -1,12 +1,13 @@
 -- One half of a draw with its own numbers ("One draw"): r rows of H, n places, a gap g. The laws say that these words are `drawV` and `drawU`. Assumes nothing.
 use mathlib.Core.Path.{_≡_}
-use mathlib.Core.Bool.{Bool, true, cond}
+use mathlib.Core.Bool.{Bool, true}
 use mathlib.Core.List.{List}
 use mathlib.Core.Logic.{_≢_}
 use Prim.Native.Nat.{ℕ, _+_, _≤_}
 use lib.ListN.{getD, take, drop}
-use Rattle.trits.specs.Trit.{Trit, t0, subT, mulT, isSet}
+use Rattle.trits.specs.Trit.{t0}
 use Rattle.matrix.specs.Linear.{Vector, Matrix, zeros, times, solve, orZeros, pivots, without, fill}
+use Rattle.walking.specs.Forced.{forcedBy}
 
 -- 0 from place n on
 pub record Ends (n : ℕ) (v : Vector) : Type 0 where
@@ -20,10 +21,6 @@ halfPivots r n H order g = pivots r n H (take (r + g) order)
 unfoldable pub wordV : ℕ → ℕ → Matrix → List ℕ → ℕ → Vector → Vector → Vector
 wordV r n H order g v x =
     orZeros (solve r n H (times n H x) (halfPivots r n H order g) (fill (without (halfPivots r n H order g) order) v zeros))
-
--- what a place of the last part of U takes, with the vectors b and c of the secret: (c-b)·e_V where e_V is not 0, else the supplied value x
-abbrev pub forcedBy : Vector → Vector → Vector → ℕ → Trit → Trit
-forcedBy b c eV q x = cond (isSet (eV q)) (mulT (subT (c q) (b q)) (eV q)) x
 
 -- U: the g other places of the first part take the first g values u, the last part is forced by e_V or takes the other values, and the pivots likewise
 unfoldable pub wordU : ℕ → ℕ → Matrix → Vector → Vector → List ℕ → ℕ → Vector → Vector → Vector → Vector

@@ -10,7 +10,7 @@ ghost use Rattle.matrix.specs.Linear.{zeros, rank};
 ghost use Rattle.matrix.specs.Orders.{Order};
 ghost use Rattle.elimination.specs.Grid.{Rows};
 ghost use Rattle.solving.specs.Half.{Ends, wordV, wordU, SolvedWhere};
-use super::walk;
+use walking::walk;
 
 // V: the whole order's places that are no pivot take the trits, and the pivots what the syndrome asks; false where the first part lacks rank.
 pub fn draw_v(

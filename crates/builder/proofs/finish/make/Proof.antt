@@ -6,7 +6,7 @@ use denote.Ref.{now}
 use Rattle.trits.proofs.Refusals.{exit-kept, exit-new}
 use Rattle.calls.specs.Lent.{planes, secretOf}
 use Rattle.calls.proofs.Exits.{positive}
-use Rattle.building.specs.Work.{matrices}
+use Rattle.secretranks.specs.Matrices.{matrices}
 use Rattle.building.proofs.Released.{full-rank, same-ranks}
 use borrow.Author.Needs.{needs}
 use Rattle.builder.proofs.finish.make.Statement.{statement}

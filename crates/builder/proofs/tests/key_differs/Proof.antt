@@ -4,7 +4,7 @@ use mathlib.Core.Path.{sym, _∙_}
 use native.Mathlib.Omega.{arith}
 use Rattle.calls.specs.BuildCall.{keyDiffers}
 use Rattle.calls.proofs.Bounds.{bounds}
-use Rattle.building.proofs.Lengths.{products}
+use Rattle.secretranks.proofs.Lengths.{products}
 use borrow.Author.Needs.{needs}
 use Rattle.builder.proofs.tests.key_differs.Statement.{statement}
 use Rattle.builder.proofs.tests.key_differs.Tie as tie

@@ -5,7 +5,7 @@ use native.Mathlib.Omega.{arith}
 use denote.Ref.{now}
 use Rattle.calls.specs.Lent.{planes, secretOf}
 use Rattle.calls.proofs.Bounds.{bounds}
-use Rattle.building.proofs.Lengths.{products}
+use Rattle.secretranks.proofs.Lengths.{products}
 use Rattle.building.proofs.Released.{ready-order, ready-size, ready-rank, final-order, final-good, final-ready, final-ones, final-twos}
 use borrow.Author.Needs.{needs}
 use Rattle.building.proofs.release.release.Statement.{statement}

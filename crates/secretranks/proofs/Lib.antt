@@ -1,0 +1,3 @@
+-- The laws: copies, lengths and ranks.
+pub mod Copies
+pub mod Lengths

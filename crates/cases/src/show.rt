@@ -1,5 +1,6 @@
 // A call, and a line that says what it answered and what its outputs are then.
 ghost use mathlib.Core.Path.{_≡_};
+ghost use Rattle.packing.specs.Calls.{packExit, unpackOnes, unpackTwos, streamOnes, streamTwos};
 use libc::STDOUT_FILENO;
 use trits::refusal::Outcome;
 
@@ -48,7 +49,9 @@ fn planes(ones: &[u64], twos: &[u64]) {
     io::write_all(STDOUT_FILENO, b"\n");
 }
 
-pub fn pack(m: usize, ones: &[u64], twos: &[u64], bytes: &mut [u8]) {
+pub fn pack(m: usize, ones: &[u64], twos: &[u64], bytes: &mut [u8])
+    ensures { λ _. ⌜ now (bytes .exit) ≡ packExit m (now (ones .entry)) (now (twos .entry)) (now (bytes .entry)) ⌝ }
+{
     let outcome = packing::pack(m, ones, twos, bytes);
     io::write_all(STDOUT_FILENO, b"pack");
     number(m as u64);
@@ -58,7 +61,10 @@ pub fn pack(m: usize, ones: &[u64], twos: &[u64], bytes: &mut [u8]) {
     io::write_all(STDOUT_FILENO, b"\n");
 }
 
-pub fn unpack(m: usize, bytes: &[u8], ones: &mut [u64], twos: &mut [u64]) {
+pub fn unpack(m: usize, bytes: &[u8], ones: &mut [u64], twos: &mut [u64])
+    ensures { λ _. ⌜ now (ones .exit) ≡ unpackOnes m (now (bytes .entry)) (now (ones .entry)) (now (twos .entry)) ⌝ }
+    ensures { λ _. ⌜ now (twos .exit) ≡ unpackTwos m (now (bytes .entry)) (now (ones .entry)) (now (twos .entry)) ⌝ }
+{
     let outcome = packing::unpack(m, bytes, ones, twos);
     io::write_all(STDOUT_FILENO, b"unpack");
     number(m as u64);
@@ -66,7 +72,10 @@ pub fn unpack(m: usize, bytes: &[u8], ones: &mut [u64], twos: &mut [u64]) {
     planes(ones, twos);
 }
 
-pub fn stream(m: usize, bytes: &[u8], ones: &mut [u64], twos: &mut [u64]) {
+pub fn stream(m: usize, bytes: &[u8], ones: &mut [u64], twos: &mut [u64])
+    ensures { λ _. ⌜ now (ones .exit) ≡ streamOnes m (now (bytes .entry)) (now (ones .entry)) (now (twos .entry)) ⌝ }
+    ensures { λ _. ⌜ now (twos .exit) ≡ streamTwos m (now (bytes .entry)) (now (ones .entry)) (now (twos .entry)) ⌝ }
+{
     let outcome = packing::from_stream(m, bytes, ones, twos);
     io::write_all(STDOUT_FILENO, b"stream");
     number(m as u64);

@@ -73,6 +73,8 @@ pub fn fill_order(order: &mut [u16], a: usize, b: usize) {
 }
 
 // A place as an order has it.
-pub fn place(q: usize) -> u16 {
+pub fn place(q: usize) -> u16
+    ensures { λ r. ⌜ r ≡ q % 65536 ⌝ }
+{
     (q % 65536) as u16
 }

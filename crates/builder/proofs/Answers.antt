@@ -17,17 +17,17 @@ use Rattle.signer.specs.Sizes.{half, places, dim, ru, rv, sizesFit}
 use Rattle.signer.specs.Secret.{Secret}
 use Rattle.signer.specs.Build.{buildRefusal}
 use Rattle.calls.specs.Lent.{secretOf, pairDiffers, secretDiffers, secretRefusal, workExit}
-use Rattle.calls.specs.BuildCall.{Lent, keyWords, workWords, keyDiffers, lengthsDiffer, buildAnswer}
+use Rattle.calls.specs.BuildCall.{BuildCall, keyRowWords, buildWorkWords, keyDiffers, lengthsDiffer, buildAnswer}
 use Rattle.calls.proofs.Exits.{first-le, work-done, work-late}
 use Rattle.calls.proofs.Secrets.{or-none, pair-same, SecretLengths, secret-same, secret-le}
 
 -- ---- the answer
 
 -- the contents of the secret, and the starting order
-abbrev pub contents : Sizes → Lent → ℕ
+abbrev pub contents : Sizes → BuildCall → ℕ
 contents z i = first (secretRefusal z (i .secret)) (demand (isOrder (places z) (i .start)) 7 0)
 
-module _ (z : Sizes) (i : Lent) where
+module _ (z : Sizes) (i : BuildCall) where
   pub answer-size : sizesFit z ≡ false → 1 ≡ buildAnswer z i
   unfolding buildAnswer
   answer-size e = rw e
@@ -62,7 +62,7 @@ module _ (z : Sizes) (i : Lent) where
           by : (t : Bool) → t ≡ true → (x : ℕ) → x ≡ 0 → buildRefusal z (secretOf z (i .secret)) ≡ first x (demand t 7 (buildRefusal z (secretOf z (i .secret))))
           by t u x y = rw (u, y)
 
-pub contents-le : (z : Sizes) (i : Lent) → contents z i ≤ 8
+pub contents-le : (z : Sizes) (i : BuildCall) → contents z i ≤ 8
 contents-le z i = first-le _ _ (secret-le z (i .secret)) (by (isOrder (places z) (i .start)))
   where
     by : (t : Bool) → demand t 7 0 ≤ 8
@@ -85,22 +85,22 @@ work-ended z s w = by (eqb (rank (ru z) (half z) (s .hu) (range (half z))) (ru z
 pub record KeyLengths (z : Sizes) (i j k l m n : ℕ) : Type 0 where
   pub start : i ≡ places z
   pub p : j ≡ places z
-  pub k1 : k ≡ dim z * keyWords z
-  pub k2 : l ≡ dim z * keyWords z
-  pub w1 : m ≡ workWords z
-  pub w2 : n ≡ workWords z
+  pub k1 : k ≡ dim z * keyRowWords z
+  pub k2 : l ≡ dim z * keyRowWords z
+  pub w1 : m ≡ buildWorkWords z
+  pub w2 : n ≡ buildWorkWords z
 
 key-same : (z : Sizes) (s p k1 k2 w1 w2 : ℕ) → keyDiffers z s p k1 k2 w1 w2 ≡ false → KeyLengths z s p k1 k2 w1 w2
 unfolding keyDiffers
 key-same z s p k1 k2 w1 w2 e =
     let E = or-none (pairDiffers (places z) s p) _ e in
-    let F = or-none (pairDiffers (dim z * keyWords z) k1 k2) _ (E .1) in
+    let F = or-none (pairDiffers (dim z * keyRowWords z) k1 k2) _ (E .1) in
     let o = pair-same _ s p (E .0) in
     let k = pair-same _ k1 k2 (F .0) in
     let w = pair-same _ w1 w2 (F .1) in
     record { start = o .0; p = o .1; k1 = k .0; k2 = k .1; w1 = w .0; w2 = w .1 }
 
-module _ (z : Sizes) (i : Lent) {t : Bool} where
+module _ (z : Sizes) (i : BuildCall) {t : Bool} where
   -- the lengths one after another are those of the record
   pub same-lengths : (secretDiffers z (length (i .secret .huOnes)) (length (i .secret .huTwos)) (length (i .secret .hvOnes)) (length (i .secret .hvTwos)) (length (i .secret .bOnes)) (length (i .secret .bTwos))
       (length (i .secret .cOnes)) (length (i .secret .cTwos)) || keyDiffers z (length (i .start)) (length (i .p)) (length (i .keyOnes)) (length (i .keyTwos)) (length (i .workOnes)) (length (i .workTwos))) ≡ t
@@ -108,7 +108,7 @@ module _ (z : Sizes) (i : Lent) {t : Bool} where
   unfolding lengthsDiffer
   same-lengths e = e
 
-module _ (z : Sizes) (i : Lent) (e : lengthsDiffer z i ≡ false) where
+module _ (z : Sizes) (i : BuildCall) (e : lengthsDiffer z i ≡ false) where
   pub lengths-secret : SecretLengths z (length (i .secret .huOnes)) (length (i .secret .huTwos)) (length (i .secret .hvOnes)) (length (i .secret .hvTwos)) (length (i .secret .bOnes)) (length (i .secret .bTwos))
       (length (i .secret .cOnes)) (length (i .secret .cTwos))
   unfolding lengthsDiffer
@@ -122,7 +122,7 @@ module _ (z : Sizes) (i : Lent) (e : lengthsDiffer z i ≡ false) where
 
 -- ---- contents that are not refused
 
-pub contents-passed : (z : Sizes) (i : Lent) → contents z i ≡ 0 → (secretRefusal z (i .secret) ≡ 0) × Order (places z) (i .start)
+pub contents-passed : (z : Sizes) (i : BuildCall) → contents z i ≡ 0 → (secretRefusal z (i .secret) ≡ 0) × Order (places z) (i .start)
 contents-passed z i g =
     let a = passed-first (secretRefusal z (i .secret)) _ g in
     let b = passed-demand (isOrder (places z) (i .start)) 7 0 (lit< tt) (a .1) in

@@ -9,7 +9,7 @@ ghost use Rattle.signer.specs.Sizes.{sizesFit, places, dim};
 ghost use Rattle.signer.specs.Build.{buildRefusal, keyOrder};
 ghost use Rattle.matrix.specs.Orders.{Order};
 ghost use Rattle.calls.specs.Lent.{planes, secretOf, Readable};
-ghost use Rattle.calls.specs.BuildCall.{keyWords, workWords, keyOnesOf, keyTwosOf};
+ghost use Rattle.calls.specs.BuildCall.{keyRowWords, buildWorkWords, keyOnesOf, keyTwosOf};
 use building::release;
 use secretranks::ranks;
 use signer::sizes::Sizes;
@@ -36,8 +36,8 @@ pub fn make(
     requires { ⌜ sizesFit z ≡ true ⌝ }
     requires { ⌜ Readable z (planes (now «hu_ones») (now «hu_twos») (now «hv_ones») (now «hv_twos») (now «b_ones») (now «b_twos») (now «c_ones») (now «c_twos»)) ⌝ }
     requires { ⌜ Order (places z) (now start) ⌝ }
-    requires { ⌜ (length (now p) ≡ places z) × (length (now «key_ones») ≡ dim z * keyWords z) × (length (now «key_twos») ≡ dim z * keyWords z)
-        × (length (now «work_ones») ≡ workWords z) × (length (now «work_twos») ≡ workWords z) ⌝ }
+    requires { ⌜ (length (now p) ≡ places z) × (length (now «key_ones») ≡ dim z * keyRowWords z) × (length (now «key_twos») ≡ dim z * keyRowWords z)
+        × (length (now «work_ones») ≡ buildWorkWords z) × (length (now «work_twos») ≡ buildWorkWords z) ⌝ }
     ensures { λ r. ⌜ (let s = secretOf z (planes (now («hu_ones» .entry)) (now («hu_twos» .entry)) (now («hv_ones» .entry)) (now («hv_twos» .entry))
         (now («b_ones» .entry)) (now («b_twos» .entry)) (now («c_ones» .entry)) (now («c_twos» .entry))) in
         (codeOf r ≡ buildRefusal z s)
@@ -90,8 +90,8 @@ pub fn finish(
     requires { ⌜ sizesFit z ≡ true ⌝ }
     requires { ⌜ Readable z (planes (now «hu_ones») (now «hu_twos») (now «hv_ones») (now «hv_twos») (now «b_ones») (now «b_twos») (now «c_ones») (now «c_twos»)) ⌝ }
     requires { ⌜ Order (places z) (now start) ⌝ }
-    requires { ⌜ (length (now p) ≡ places z) × (length (now «key_ones») ≡ dim z * keyWords z) × (length (now «key_twos») ≡ dim z * keyWords z)
-        × (length (now «work_ones») ≡ workWords z) × (length (now «work_twos») ≡ workWords z) ⌝ }
+    requires { ⌜ (length (now p) ≡ places z) × (length (now «key_ones») ≡ dim z * keyRowWords z) × (length (now «key_twos») ≡ dim z * keyRowWords z)
+        × (length (now «work_ones») ≡ buildWorkWords z) × (length (now «work_twos») ≡ buildWorkWords z) ⌝ }
     ensures { λ r. ⌜ (let s = secretOf z (planes (now («hu_ones» .entry)) (now («hu_twos» .entry)) (now («hv_ones» .entry)) (now («hv_twos» .entry))
         (now («b_ones» .entry)) (now («b_twos» .entry)) (now («c_ones» .entry)) (now («c_twos» .entry))) in
         (codeOf r ≡ buildRefusal z s)

@@ -5,7 +5,7 @@ pub mod finish; // ranks, key, working space
 ghost use mathlib.Core.Path.{_≡_};
 ghost use Rattle.trits.specs.Refusal.{codeOf};
 ghost use Rattle.calls.specs.Lent.{planes};
-ghost use Rattle.calls.specs.BuildCall.{lent, buildAnswer, orderExit, keyOnesExit, keyTwosExit, workOnesExit, workTwosExit};
+ghost use Rattle.calls.specs.BuildCall.{buildCall, buildAnswer, orderExit, keyOnesExit, keyTwosExit, workOnesExit, workTwosExit};
 use signer::sizes::Sizes;
 use trits::refusal::Outcome;
 use trits::refusal::Refusal;
@@ -28,7 +28,7 @@ pub fn build(
     work_ones: &mut [u64],
     work_twos: &mut [u64],
 ) -> Outcome
-    ensures { λ r. ⌜ (let i = lent (planes (now («hu_ones» .entry)) (now («hu_twos» .entry)) (now («hv_ones» .entry)) (now («hv_twos» .entry))
+    ensures { λ r. ⌜ (let i = buildCall (planes (now («hu_ones» .entry)) (now («hu_twos» .entry)) (now («hv_ones» .entry)) (now («hv_twos» .entry))
         (now («b_ones» .entry)) (now («b_twos» .entry)) (now («c_ones» .entry)) (now («c_twos» .entry)))
         (now (start .entry)) (now (p .entry)) (now («key_ones» .entry)) (now («key_twos» .entry)) (now («work_ones» .entry)) (now («work_twos» .entry)) in
         (codeOf r ≡ buildAnswer z i) × (now (p .exit) ≡ orderExit z i) × (now («key_ones» .exit) ≡ keyOnesExit z i) × (now («key_twos» .exit) ≡ keyTwosExit z i)
@@ -109,7 +109,7 @@ pub extern "C" fn wave_build(
     work_ones: &mut [u64],
     work_twos: &mut [u64],
 ) -> u64
-    ensures { λ r. ⌜ (let i = lent (planes (now («hu_ones» .entry)) (now («hu_twos» .entry)) (now («hv_ones» .entry)) (now («hv_twos» .entry))
+    ensures { λ r. ⌜ (let i = buildCall (planes (now («hu_ones» .entry)) (now («hu_twos» .entry)) (now («hv_ones» .entry)) (now («hv_twos» .entry))
         (now («b_ones» .entry)) (now («b_twos» .entry)) (now («c_ones» .entry)) (now («c_twos» .entry)))
         (now (start .entry)) (now (p .entry)) (now («key_ones» .entry)) (now («key_twos» .entry)) (now («work_ones» .entry)) (now («work_twos» .entry)) in
         (r ≡ buildAnswer z i) × (now (p .exit) ≡ orderExit z i) × (now («key_ones» .exit) ≡ keyOnesExit z i) × (now («key_twos» .exit) ≡ keyTwosExit z i)

@@ -29,16 +29,16 @@ use Rattle.secretmatrix.proofs.Placed.{rows-joined, placed-secret}
 use Rattle.keymatrix.specs.KeyRows.{Keyed, readDown, keyOnes, keyTwos}
 use Rattle.keymatrix.proofs.Written.{rows-same, down-row}
 use Rattle.calls.specs.Lent.{Planes, halfWords, secretOf, Readable}
-use Rattle.calls.specs.BuildCall.{keyWords, workWords, keyOnesOf, keyTwosOf}
+use Rattle.calls.specs.BuildCall.{keyRowWords, buildWorkWords, keyOnesOf, keyTwosOf}
 use Rattle.calls.proofs.Bounds.{Bounds}
 use Rattle.secretranks.proofs.Copies.{copied-rows}
 use Rattle.building.specs.Work.{Filled}
 
 -- working planes of 0, as half-rows
-pub zero-rows : (z : Sizes) {o t : List ℕ} (n k : ℕ) → o ≡ zeroWords n → t ≡ zeroWords k → n ≡ workWords z → k ≡ workWords z → Rows o t (codim z + codim z) (halfWords z)
+pub zero-rows : (z : Sizes) {o t : List ℕ} (n k : ℕ) → o ≡ zeroWords n → t ≡ zeroWords k → n ≡ buildWorkWords z → k ≡ buildWorkWords z → Rows o t (codim z + codim z) (halfWords z)
 zero-rows z {o} {t} n k e f a b =
     copied-rows (e ∙ ap zeroWords a) (f ∙ ap zeroWords b)
-    (record { row = zeros-row (workWords z); size = length-zeros (workWords z) ∙ omega (arith, mul-add (codim z) (halfWords z) (halfWords z), add-mul (codim z) (codim z) (halfWords z)) })
+    (record { row = zeros-row (buildWorkWords z); size = length-zeros (buildWorkWords z) ∙ omega (arith, mul-add (codim z) (halfWords z) (halfWords z), add-mul (codim z) (codim z) (halfWords z)) })
 
 -- both parts filled
 pub filled-done : (z : Sizes) (k : Planes) {o₁ t₁ o t : List ℕ} (A : Matrix) → Readable z k
@@ -103,10 +103,10 @@ module _ (z : Sizes) (s : Secret) (start : List ℕ) {o t p : List ℕ} (f : Fil
           down-row (half z) (halfWords z) (halfWords z + halfWords z) o₂ t₂ keyed i (omega (arith, b .ku, b .kv))
           ∙ ap (λ (l : List ℕ). upTo (codim z) (rowOfR (codim z) (places z) (secretMatrix z s) l i)) final-order
 
-      pub final-ones : keyOnes (dim z) (keyWords z) (codim z) (half z) (halfWords z) (matrixAt (halfWords z + halfWords z) o₂ t₂) q ≡ keyOnesOf z s start
+      pub final-ones : keyOnes (dim z) (keyRowWords z) (codim z) (half z) (halfWords z) (matrixAt (halfWords z + halfWords z) o₂ t₂) q ≡ keyOnesOf z s start
       unfolding keyOnes keyOnesOf
-      final-ones = rows-same _ _ (dim z) (λ i l. ap (λ (v : Vector). onesOf v (keyWords z)) (row i l))
+      final-ones = rows-same _ _ (dim z) (λ i l. ap (λ (v : Vector). onesOf v (keyRowWords z)) (row i l))
 
-      pub final-twos : keyTwos (dim z) (keyWords z) (codim z) (half z) (halfWords z) (matrixAt (halfWords z + halfWords z) o₂ t₂) q ≡ keyTwosOf z s start
+      pub final-twos : keyTwos (dim z) (keyRowWords z) (codim z) (half z) (halfWords z) (matrixAt (halfWords z + halfWords z) o₂ t₂) q ≡ keyTwosOf z s start
       unfolding keyTwos keyTwosOf
-      final-twos = rows-same _ _ (dim z) (λ i l. ap (λ (v : Vector). twosOf v (keyWords z)) (row i l))
+      final-twos = rows-same _ _ (dim z) (λ i l. ap (λ (v : Vector). twosOf v (keyRowWords z)) (row i l))

@@ -9,7 +9,7 @@ ghost use Rattle.signer.specs.Build.{keyOrder};
 ghost use Rattle.signer.specs.Sizes.{sizesFit, places, dim, codim};
 ghost use Rattle.matrix.specs.Orders.{Order};
 ghost use Rattle.calls.specs.Lent.{planes, secretOf, Readable};
-ghost use Rattle.calls.specs.BuildCall.{keyWords, workWords, keyOnesOf, keyTwosOf};
+ghost use Rattle.calls.specs.BuildCall.{keyRowWords, buildWorkWords, keyOnesOf, keyTwosOf};
 ghost use Rattle.building.specs.Work.{Filled};
 use super::order;
 use signer::sizes::Sizes;
@@ -30,7 +30,7 @@ pub fn fill_matrix(
 )
     requires { ⌜ sizesFit z ≡ true ⌝ }
     requires { ⌜ Readable z (planes (now «hu_ones») (now «hu_twos») (now «hv_ones») (now «hv_twos») (now «b_ones») (now «b_twos») (now «c_ones») (now «c_twos»)) ⌝ }
-    requires { ⌜ (length (now «work_ones») ≡ workWords z) × (length (now «work_twos») ≡ workWords z) ⌝ }
+    requires { ⌜ (length (now «work_ones») ≡ buildWorkWords z) × (length (now «work_twos») ≡ buildWorkWords z) ⌝ }
     ensures { λ _. ⌜ Filled z (secretOf z (planes (now («hu_ones» .entry)) (now («hu_twos» .entry)) (now («hv_ones» .entry)) (now («hv_twos» .entry))
         (now («b_ones» .entry)) (now («b_twos» .entry)) (now («c_ones» .entry)) (now («c_twos» .entry))))
         (now («work_ones» .exit)) (now («work_twos» .exit)) ⌝ }
@@ -91,8 +91,8 @@ pub fn release(
     requires { ⌜ Readable z (planes (now «hu_ones») (now «hu_twos») (now «hv_ones») (now «hv_twos») (now «b_ones») (now «b_twos») (now «c_ones») (now «c_twos»)) ⌝ }
     requires { ⌜ Order (places z) (now start) ⌝ }
     requires { ⌜ rank (codim z) (places z) (secretMatrix z (secretOf z (planes (now «hu_ones») (now «hu_twos») (now «hv_ones») (now «hv_twos») (now «b_ones») (now «b_twos») (now «c_ones») (now «c_twos»)))) (range (places z)) ≡ codim z ⌝ }
-    requires { ⌜ (length (now p) ≡ places z) × (length (now «key_ones») ≡ dim z * keyWords z) × (length (now «key_twos») ≡ dim z * keyWords z)
-        × (length (now «work_ones») ≡ workWords z) × (length (now «work_twos») ≡ workWords z) ⌝ }
+    requires { ⌜ (length (now p) ≡ places z) × (length (now «key_ones») ≡ dim z * keyRowWords z) × (length (now «key_twos») ≡ dim z * keyRowWords z)
+        × (length (now «work_ones») ≡ buildWorkWords z) × (length (now «work_twos») ≡ buildWorkWords z) ⌝ }
     ensures { λ _. ⌜ (let s = secretOf z (planes (now («hu_ones» .entry)) (now («hu_twos» .entry)) (now («hv_ones» .entry)) (now («hv_twos» .entry))
         (now («b_ones» .entry)) (now («b_twos» .entry)) (now («c_ones» .entry)) (now («c_twos» .entry))) in
         (now (p .exit) ≡ keyOrder z s (now (start .entry)))

@@ -5,7 +5,7 @@ use Prim.Native.Nat.{ℕ, _+_, _*_}
 use lib.ListN.{length}
 use Rattle.trits.specs.Trit.{upTo}
 use Rattle.trits.specs.Planes.{wordsFor, onesOf, twosOf}
-use Rattle.elimination.specs.Grid.{rowsOf}
+use Rattle.trits.specs.Rows.{rowsOf}
 use Rattle.trits.specs.Refusal.{refuse, demand, first, atExit}
 use Rattle.matrix.specs.Orders.{isOrder}
 use Rattle.signer.specs.declared.sizes.Sizes.{Sizes}
@@ -17,7 +17,7 @@ use Rattle.calls.specs.Lent.{Planes, halfWords, secretOf, pairDiffers, s
 -- ---- what is lent
 
 -- the secret and the starting order; then p, the key and the working space as they are at entry
-pub record Lent : Type 0 where
+pub record BuildCall : Type 0 where
   pub secret : Planes
   pub start : List ℕ
   pub p : List ℕ
@@ -26,31 +26,31 @@ pub record Lent : Type 0 where
   pub workOnes : List ℕ
   pub workTwos : List ℕ
 
-abbrev pub lent : Planes → List ℕ → List ℕ → List ℕ → List ℕ → List ℕ → List ℕ → Lent
-lent s start p ko kt wo wt = record { secret = s; start = start; p = p; keyOnes = ko; keyTwos = kt; workOnes = wo; workTwos = wt }
+abbrev pub buildCall : Planes → List ℕ → List ℕ → List ℕ → List ℕ → List ℕ → List ℕ → BuildCall
+buildCall s start p ko kt wo wt = record { secret = s; start = start; p = p; keyOnes = ko; keyTwos = kt; workOnes = wo; workTwos = wt }
 
 -- ---- 2: a length differs from what the sizes say
 
 -- the words of a row of the key, and of a working plane
-abbrev pub keyWords : Sizes → ℕ
-keyWords z = wordsFor (codim z)
+abbrev pub keyRowWords : Sizes → ℕ
+keyRowWords z = wordsFor (codim z)
 
-abbrev pub workWords : Sizes → ℕ
-workWords z = codim z * (halfWords z + halfWords z)
+abbrev pub buildWorkWords : Sizes → ℕ
+buildWorkWords z = codim z * (halfWords z + halfWords z)
 
 -- the lengths of the starting order, p, the key and the working space
 unfoldable pub keyDiffers : Sizes → ℕ → ℕ → ℕ → ℕ → ℕ → ℕ → Bool
-keyDiffers z s p k1 k2 w1 w2 = pairDiffers (places z) s p || (pairDiffers (dim z * keyWords z) k1 k2 || pairDiffers (workWords z) w1 w2)
+keyDiffers z s p k1 k2 w1 w2 = pairDiffers (places z) s p || (pairDiffers (dim z * keyRowWords z) k1 k2 || pairDiffers (buildWorkWords z) w1 w2)
 
 -- every length
-unfoldable pub lengthsDiffer : Sizes → Lent → Bool
+unfoldable pub lengthsDiffer : Sizes → BuildCall → Bool
 lengthsDiffer z i =
     let k = i .secret in
     secretDiffers z (length (k .huOnes)) (length (k .huTwos)) (length (k .hvOnes)) (length (k .hvTwos)) (length (k .bOnes)) (length (k .bTwos)) (length (k .cOnes)) (length (k .cTwos))
     || keyDiffers z (length (i .start)) (length (i .p)) (length (i .keyOnes)) (length (i .keyTwos)) (length (i .workOnes)) (length (i .workTwos))
 
 -- ---- the answer: 1, every length, the contents of the secret and of the starting order, then 9 and 10
-unfoldable pub buildAnswer : Sizes → Lent → ℕ
+unfoldable pub buildAnswer : Sizes → BuildCall → ℕ
 buildAnswer z i =
     demand (sizesFit z) 1
     (refuse (lengthsDiffer z i) 2
@@ -61,25 +61,25 @@ buildAnswer z i =
 -- ---- each lent buffer at exit
 
 -- the final order
-unfoldable pub orderExit : Sizes → Lent → List ℕ
+unfoldable pub orderExit : Sizes → BuildCall → List ℕ
 orderExit z i = atExit (buildAnswer z i) (keyOrder z (secretOf z (i .secret)) (i .start)) (i .p)
 
 -- R: k rows of n-k trits, one after another, each beginning a new word
 unfoldable pub keyOnesOf : Sizes → Secret → List ℕ → List ℕ
-keyOnesOf z s start = rowsOf (λ j. onesOf (upTo (codim z) (keyRow z s start j)) (keyWords z)) (dim z)
+keyOnesOf z s start = rowsOf (λ j. onesOf (upTo (codim z) (keyRow z s start j)) (keyRowWords z)) (dim z)
 
 unfoldable pub keyTwosOf : Sizes → Secret → List ℕ → List ℕ
-keyTwosOf z s start = rowsOf (λ j. twosOf (upTo (codim z) (keyRow z s start j)) (keyWords z)) (dim z)
+keyTwosOf z s start = rowsOf (λ j. twosOf (upTo (codim z) (keyRow z s start j)) (keyRowWords z)) (dim z)
 
-unfoldable pub keyOnesExit : Sizes → Lent → List ℕ
+unfoldable pub keyOnesExit : Sizes → BuildCall → List ℕ
 keyOnesExit z i = atExit (buildAnswer z i) (keyOnesOf z (secretOf z (i .secret)) (i .start)) (i .keyOnes)
 
-unfoldable pub keyTwosExit : Sizes → Lent → List ℕ
+unfoldable pub keyTwosExit : Sizes → BuildCall → List ℕ
 keyTwosExit z i = atExit (buildAnswer z i) (keyTwosOf z (secretOf z (i .secret)) (i .start)) (i .keyTwos)
 
 -- the working space
-unfoldable pub workOnesExit : Sizes → Lent → List ℕ
+unfoldable pub workOnesExit : Sizes → BuildCall → List ℕ
 workOnesExit z i = workExit (buildAnswer z i) (i .workOnes)
 
-unfoldable pub workTwosExit : Sizes → Lent → List ℕ
+unfoldable pub workTwosExit : Sizes → BuildCall → List ℕ
 workTwosExit z i = workExit (buildAnswer z i) (i .workTwos)

@@ -17,7 +17,7 @@ use Rattle.calls.specs.Lent.{Planes, halfWords, secretOf, pairDiffers, s
 -- ---- what is lent
 
 -- the secret, p, y, the V order and trits, the U order and values; then the word, s and the working space as they are at entry
-pub record Lent : Type 0 where
+pub record DrawCall : Type 0 where
   pub secret : Planes
   pub p : List ℕ
   pub yOnes : List ℕ
@@ -35,8 +35,8 @@ pub record Lent : Type 0 where
   pub workOnes : List ℕ
   pub workTwos : List ℕ
 
-abbrev pub lent : Planes → List ℕ → List ℕ → List ℕ → List ℕ → List ℕ → List ℕ → List ℕ → List ℕ → List ℕ → List ℕ → List ℕ → List ℕ → List ℕ → List ℕ → List ℕ → Lent
-lent s p yo yt ov vo vt ou uo ut eo et so st wo wt = record {
+abbrev pub drawCall : Planes → List ℕ → List ℕ → List ℕ → List ℕ → List ℕ → List ℕ → List ℕ → List ℕ → List ℕ → List ℕ → List ℕ → List ℕ → List ℕ → List ℕ → List ℕ → DrawCall
+drawCall s p yo yt ov vo vt ou uo ut eo et so st wo wt = record {
   secret = s;
   p = p;
   yOnes = yo;
@@ -56,10 +56,10 @@ lent s p yo yt ov vo vt ou uo ut eo et so st wo wt = record {
 }
 
 -- the syndrome and the choices that it holds
-abbrev pub syndromeOf : Lent → Vector
+abbrev pub syndromeOf : DrawCall → Vector
 syndromeOf i = tritAt (i .yOnes) (i .yTwos)
 
-abbrev pub choicesOf : Lent → Choices
+abbrev pub choicesOf : DrawCall → Choices
 choicesOf i = record { orderV = i .orderV; tritsV = tritAt (i .vOnes) (i .vTwos); orderU = i .orderU; valuesU = tritAt (i .uOnes) (i .uTwos) }
 
 -- ---- 2: a length differs from what the sizes say
@@ -69,8 +69,8 @@ abbrev pub matrixRows : Sizes → ℕ
 matrixRows z = cond (ltb (ru z) (rv z)) (rv z) (ru z)
 
 -- the words of a working plane
-abbrev pub workWords : Sizes → ℕ
-workWords z = (matrixRows z + 5) * halfWords z
+abbrev pub drawWorkWords : Sizes → ℕ
+drawWorkWords z = (matrixRows z + 5) * halfWords z
 
 -- the lengths of p, y, the V order, the V trits, the U order, the U values, the word, s and the working space
 unfoldable pub choicesDiffer : Sizes → ℕ → ℕ → ℕ → ℕ → ℕ → ℕ → ℕ → ℕ → ℕ → ℕ → ℕ → ℕ → ℕ → ℕ → ℕ → Bool
@@ -82,10 +82,10 @@ choicesDiffer z p y1 y2 ov v1 v2 ou u1 u2 e1 e2 s1 s2 w1 w2 =
     || (pairDiffers (wordsFor (z .ku)) u1 u2
     || (pairDiffers (wordsFor (places z)) e1 e2
     || (pairDiffers (wordsFor (dim z)) s1 s2
-    || pairDiffers (workWords z) w1 w2))))))
+    || pairDiffers (drawWorkWords z) w1 w2))))))
 
 -- every length
-unfoldable pub lengthsDiffer : Sizes → Lent → Bool
+unfoldable pub lengthsDiffer : Sizes → DrawCall → Bool
 lengthsDiffer z i =
     let k = i .secret in
     secretDiffers z (length (k .huOnes)) (length (k .huTwos)) (length (k .hvOnes)) (length (k .hvTwos)) (length (k .bOnes)) (length (k .bTwos)) (length (k .cOnes)) (length (k .cTwos))
@@ -95,7 +95,7 @@ lengthsDiffer z i =
 -- ---- 3, 4, 7 and 8: the contents, buffer after buffer
 
 -- after the secret: p, y, the V order, the V trits, the U order, the U values, of which those from g on may not be 0, used or not
-unfoldable pub choicesRefusal : Sizes → Lent → ℕ
+unfoldable pub choicesRefusal : Sizes → DrawCall → ℕ
 choicesRefusal z i =
     demand (isOrder (places z) (i .p)) 7
     (first (planesRefusal (i .yOnes) (i .yTwos) 1 (codim z))
@@ -107,7 +107,7 @@ choicesRefusal z i =
     0))))))
 
 -- ---- the answer: 1, every length, the contents, then 12, 13 and 14
-unfoldable pub drawAnswer : Sizes → Lent → ℕ
+unfoldable pub drawAnswer : Sizes → DrawCall → ℕ
 drawAnswer z i =
     demand (sizesFit z) 1
     (refuse (lengthsDiffer z i) 2
@@ -118,26 +118,26 @@ drawAnswer z i =
 -- ---- each lent buffer at exit
 
 -- the word drawn
-unfoldable pub wordOf : Sizes → Lent → Vector
+unfoldable pub wordOf : Sizes → DrawCall → Vector
 wordOf z i = drawn z (secretOf z (i .secret)) (i .p) (syndromeOf i) (choicesOf i)
 
 -- its n trits, in public places
-unfoldable pub wordOnesExit : Sizes → Lent → List ℕ
+unfoldable pub wordOnesExit : Sizes → DrawCall → List ℕ
 wordOnesExit z i = atExit (drawAnswer z i) (onesOf (upTo (places z) (wordOf z i)) (wordsFor (places z))) (i .wordOnes)
 
-unfoldable pub wordTwosExit : Sizes → Lent → List ℕ
+unfoldable pub wordTwosExit : Sizes → DrawCall → List ℕ
 wordTwosExit z i = atExit (drawAnswer z i) (twosOf (upTo (places z) (wordOf z i)) (wordsFor (places z))) (i .wordTwos)
 
 -- its last k trits
-unfoldable pub sOnesExit : Sizes → Lent → List ℕ
+unfoldable pub sOnesExit : Sizes → DrawCall → List ℕ
 sOnesExit z i = atExit (drawAnswer z i) (onesOf (upTo (dim z) (signature z (wordOf z i))) (wordsFor (dim z))) (i .sOnes)
 
-unfoldable pub sTwosExit : Sizes → Lent → List ℕ
+unfoldable pub sTwosExit : Sizes → DrawCall → List ℕ
 sTwosExit z i = atExit (drawAnswer z i) (twosOf (upTo (dim z) (signature z (wordOf z i))) (wordsFor (dim z))) (i .sTwos)
 
 -- the working space
-unfoldable pub workOnesExit : Sizes → Lent → List ℕ
+unfoldable pub workOnesExit : Sizes → DrawCall → List ℕ
 workOnesExit z i = workExit (drawAnswer z i) (i .workOnes)
 
-unfoldable pub workTwosExit : Sizes → Lent → List ℕ
+unfoldable pub workTwosExit : Sizes → DrawCall → List ℕ
 workTwosExit z i = workExit (drawAnswer z i) (i .workTwos)

@@ -11,7 +11,7 @@ use Rattle.trits.specs.Refusal.{first, planesRefusal}
 use Rattle.packing.specs.Packed.{digitOf, packedAt, packedRow, badByte, packedRefusal}
 use Rattle.heldkey.specs.declared.state.Held.{Held}
 use Rattle.verdict.specs.Verdict.{timesKey, fullWord, fullWeight}
-use Rattle.heldkey.specs.Held.{sizesFit, sound, heldRow, heldKey}
+use Rattle.heldkey.specs.Held.{numbersFit, sound, heldRow, heldKey}
 use Rattle.heldkey.specs.Store.{beginRefusal, begunHeld, beginHeld, rowRefusal, storePackedRefusal, nextHeld, storedHeld, storedPlane}
 use Rattle.heldkey.specs.Load.{offer, offerAll}
 use Rattle.checking.specs.Check.{callRefusal, planesLengths, planesContents, packedLengths, packedContents, checkRefusal, checkPackedRefusal, heldWeight, answered, checkAnswer, checkPackedAnswer, spaceAtExit}
@@ -21,32 +21,32 @@ abbrev held : ℕ → Held
 held rows = record { begun = 1; number = 7; n = 4; k = 2; w = 4; rows = rows }
 
 begun : beginHeld (record { begun = 5; number = 999; n = 7; k = 77; w = 777; rows = 7777 }) 7 4 2 4 ≡ held 0
-unfolding beginHeld beginRefusal begunHeld sizesFit
+unfolding beginHeld beginRefusal begunHeld numbersFit
 begun = refl
 
 -- n = 4 and 16,384 pass; 2, 5 and 16,386 give 1, and so does key number 256
 sizes-4 : beginRefusal 7 4 2 1 ≡ 0
-unfolding beginRefusal sizesFit
+unfolding beginRefusal numbersFit
 sizes-4 = refl
 
 sizes-16384 : beginRefusal 255 16384 16382 16384 ≡ 0
-unfolding beginRefusal sizesFit
+unfolding beginRefusal numbersFit
 sizes-16384 = refl
 
 sizes-2 : beginRefusal 7 2 2 1 ≡ 1
-unfolding beginRefusal sizesFit
+unfolding beginRefusal numbersFit
 sizes-2 = refl
 
 sizes-5 : beginRefusal 7 5 2 1 ≡ 1
-unfolding beginRefusal sizesFit
+unfolding beginRefusal numbersFit
 sizes-5 = refl
 
 sizes-16386 : beginRefusal 7 16386 2 1 ≡ 1
-unfolding beginRefusal sizesFit
+unfolding beginRefusal numbersFit
 sizes-16386 = refl
 
 number-256 : beginRefusal 256 4 2 1 ≡ 1
-unfolding beginRefusal sizesFit
+unfolding beginRefusal numbersFit
 number-256 = refl
 
 -- K 02 and K 22, packed 6 and 8, into words that mean nothing
@@ -54,32 +54,32 @@ abbrev rows : ℕ → List ℕ
 rows i = cond (eqb i 0) (6 ∷ []) (8 ∷ [])
 
 loaded : offerAll rows 2 (record { held = held 0; ones = 99 ∷ 99 ∷ []; twos = 98 ∷ 98 ∷ [] }) ≡ record { held = held 2; ones = 0 ∷ 0 ∷ []; twos = 2 ∷ 3 ∷ [] }
-unfolding offerAll offer storedHeld storedPlane storePackedRefusal first rowRefusal sound sizesFit packedRefusal badByte anyTo nextHeld putWords onesOf twosOf tabulate fromBits packedRow packedAt digitOf upTo
+unfolding offerAll offer storedHeld storedPlane storePackedRefusal first rowRefusal sound numbersFit packedRefusal badByte anyTo nextHeld putWords onesOf twosOf tabulate fromBits packedRow packedAt digitOf upTo
 loaded = refl
 
 -- a third row is 21
 third : storePackedRefusal (held 2) (0 ∷ 0 ∷ []) (2 ∷ 3 ∷ []) (243 ∷ []) ≡ 21
-unfolding storePackedRefusal first rowRefusal sound sizesFit
+unfolding storePackedRefusal first rowRefusal sound numbersFit
 third = refl
 
 -- S 7 12 12 11: weight 4, yes
 line-1 : checkPackedAnswer (held 2) 7 (0 ∷ 0 ∷ []) (2 ∷ 3 ∷ []) (7 ∷ []) (4 ∷ []) (5 ∷ []) (5 ∷ []) ≡ record { refusal = 0; yes = 1; weight = 4 }
-unfolding checkPackedAnswer answered checkPackedRefusal first callRefusal sound sizesFit packedLengths packedContents planesRefusal bothSet anyTo bitAt bit rowsPastEnd rowPart heldRow pastEnd tritAt packedRefusal badByte heldWeight fullWeight sumTo fullWord timesKey dotV heldKey packedRow packedAt digitOf upTo
+unfolding checkPackedAnswer answered checkPackedRefusal first callRefusal sound numbersFit packedLengths packedContents planesRefusal bothSet anyTo bitAt bit rowsPastEnd rowPart heldRow pastEnd tritAt packedRefusal badByte heldWeight fullWeight sumTo fullWord timesKey dotV heldKey packedRow packedAt digitOf upTo
 line-1 = refl
 
 -- S 7 13 12 12: weight 3, no
 line-2 : checkPackedAnswer (held 2) 7 (0 ∷ 0 ∷ []) (2 ∷ 3 ∷ []) (7 ∷ []) (7 ∷ []) (5 ∷ []) (5 ∷ []) ≡ record { refusal = 0; yes = 0; weight = 3 }
-unfolding checkPackedAnswer answered checkPackedRefusal first callRefusal sound sizesFit packedLengths packedContents planesRefusal bothSet anyTo bitAt bit rowsPastEnd rowPart heldRow pastEnd tritAt packedRefusal badByte heldWeight fullWeight sumTo fullWord timesKey dotV heldKey packedRow packedAt digitOf upTo
+unfolding checkPackedAnswer answered checkPackedRefusal first callRefusal sound numbersFit packedLengths packedContents planesRefusal bothSet anyTo bitAt bit rowsPastEnd rowPart heldRow pastEnd tritAt packedRefusal badByte heldWeight fullWeight sumTo fullWord timesKey dotV heldKey packedRow packedAt digitOf upTo
 line-2 = refl
 
 -- S 8 14 12 11: 22
 line-3 : checkPackedAnswer (held 2) 8 (0 ∷ 0 ∷ []) (2 ∷ 3 ∷ []) (7 ∷ []) (4 ∷ []) (5 ∷ []) (5 ∷ []) ≡ record { refusal = 22; yes = 0; weight = 0 }
-unfolding checkPackedAnswer answered checkPackedRefusal first callRefusal sound sizesFit
+unfolding checkPackedAnswer answered checkPackedRefusal first callRefusal sound numbersFit
 line-3 = refl
 
 -- the first of them in planes
 line-1-planes : checkAnswer (held 2) 7 (0 ∷ 0 ∷ []) (2 ∷ 3 ∷ []) (1 ∷ []) (2 ∷ []) (3 ∷ []) (0 ∷ []) (5 ∷ []) (5 ∷ []) ≡ record { refusal = 0; yes = 1; weight = 4 }
-unfolding checkAnswer answered checkRefusal first callRefusal sound sizesFit planesLengths planesContents planesRefusal bothSet anyTo bitAt bit rowsPastEnd rowPart heldRow pastEnd tritAt heldWeight fullWeight sumTo fullWord timesKey dotV heldKey
+unfolding checkAnswer answered checkRefusal first callRefusal sound numbersFit planesLengths planesContents planesRefusal bothSet anyTo bitAt bit rowsPastEnd rowPart heldRow pastEnd tritAt heldWeight fullWeight sumTo fullWord timesKey dotV heldKey
 line-1-planes = refl
 
 -- no key begun before all else; a state out of its ranges before missing rows; these before another key number; that before a length
@@ -92,28 +92,28 @@ unfolding checkPackedRefusal first callRefusal sound
 corrupt = refl
 
 missing : checkPackedRefusal (held 1) 8 [] [] [] [] [] [] ≡ 20
-unfolding checkPackedRefusal first callRefusal sound sizesFit
+unfolding checkPackedRefusal first callRefusal sound numbersFit
 missing = refl
 
 other : checkPackedRefusal (held 2) 8 [] [] [] [] [] [] ≡ 22
-unfolding checkPackedRefusal first callRefusal sound sizesFit
+unfolding checkPackedRefusal first callRefusal sound numbersFit
 other = refl
 
 -- a length before the contents; 3 in the last row before 4 in the first; 4 before 5
 short : checkPackedRefusal (held 2) 7 (4 ∷ 4 ∷ []) (4 ∷ 4 ∷ []) (243 ∷ []) (243 ∷ []) (5 ∷ []) [] ≡ 2
-unfolding checkPackedRefusal first callRefusal sound sizesFit
+unfolding checkPackedRefusal first callRefusal sound numbersFit
 short = refl
 
 both : checkPackedRefusal (held 2) 7 (4 ∷ 1 ∷ []) (2 ∷ 3 ∷ []) (243 ∷ []) (4 ∷ []) (5 ∷ []) (5 ∷ []) ≡ 3
-unfolding checkPackedRefusal first callRefusal sound sizesFit packedLengths packedContents planesRefusal bothSet anyTo bitAt bit
+unfolding checkPackedRefusal first callRefusal sound numbersFit packedLengths packedContents planesRefusal bothSet anyTo bitAt bit
 both = refl
 
 past : checkPackedRefusal (held 2) 7 (4 ∷ 0 ∷ []) (2 ∷ 3 ∷ []) (243 ∷ []) (4 ∷ []) (5 ∷ []) (5 ∷ []) ≡ 4
-unfolding checkPackedRefusal first callRefusal sound sizesFit packedLengths packedContents planesRefusal bothSet anyTo bitAt bit rowsPastEnd rowPart pastEnd
+unfolding checkPackedRefusal first callRefusal sound numbersFit packedLengths packedContents planesRefusal bothSet anyTo bitAt bit rowsPastEnd rowPart pastEnd
 past = refl
 
 large : checkPackedRefusal (held 2) 7 (0 ∷ 0 ∷ []) (2 ∷ 3 ∷ []) (243 ∷ []) (4 ∷ []) (5 ∷ []) (5 ∷ []) ≡ 5
-unfolding checkPackedRefusal first callRefusal sound sizesFit packedLengths packedContents planesRefusal bothSet anyTo bitAt bit rowsPastEnd rowPart pastEnd packedRefusal badByte
+unfolding checkPackedRefusal first callRefusal sound numbersFit packedLengths packedContents planesRefusal bothSet anyTo bitAt bit rowsPastEnd rowPart pastEnd packedRefusal badByte
 large = refl
 
 -- the working space: zero after a verdict, as it was after a refusal

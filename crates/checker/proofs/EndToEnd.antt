@@ -16,9 +16,9 @@ use Rattle.packing.specs.Packed.{bytesFor, packedRow, badByte}
 use Rattle.packing.proofs.Turned.{bytes-good}
 use Rattle.heldkey.specs.declared.state.Held.{Held}
 use Rattle.verdict.specs.Verdict.{Key, fullWeight}
-use Rattle.heldkey.specs.Held.{sizesFit, sound, heldKey}
+use Rattle.heldkey.specs.Held.{numbersFit, sound, heldKey}
 use Rattle.heldkey.specs.Store.{beginRefusal, begunHeld, beginHeld, rowRefusal, storePackedRefusal, nextHeld, storedHeld, storedPlane}
-use Rattle.heldkey.specs.Load.{Kept, offer, offerAll}
+use Rattle.heldkey.specs.Load.{Holding, offer, offerAll}
 use Rattle.checking.specs.Check.{callRefusal, packedLengths, packedContents, checkPackedRefusal, heldWeight, answered, checkPackedAnswer}
 use Rattle.heldkey.specs.Steps.{Whole}
 use Rattle.verdict.proofs.FullWord.{weight-cong}
@@ -28,7 +28,7 @@ use Rattle.heldkey.proofs.Storing.{plane-put}
 use Rattle.heldkey.proofs.Loader.{put-size}
 use Rattle.heldkey.proofs.Filled.{Filled, filled-none, filled-packed, filled-row, filled-passes}
 
-module _ (number n k w : ℕ) (z : sizesFit number n k w ≡ true) (rows : ℕ → List ℕ)
+module _ (number n k w : ℕ) (z : numbersFit number n k w ≡ true) (rows : ℕ → List ℕ)
     (size : (i : ℕ) → i < k → length (rows i) ≡ bytesFor (n - k)) (good : (i : ℕ) → i < k → badByte (rows i) ≡ false) where
   -- the state with i rows
   abbrev pub heldAt : ℕ → Held
@@ -48,7 +48,7 @@ module _ (number n k w : ℕ) (z : sizesFit number n k w ≡ true) (rows : ℕ �
   sound-at i l = rw (z, le-leb i k l)
 
   -- what holds after i rows
-  pub record Good (i : ℕ) (s : Kept) : Type 0 where
+  pub record Good (i : ℕ) (s : Holding) : Type 0 where
     pub held-is : s .held ≡ heldAt i
     pub ones-size : length (s .ones) ≡ k * wordsFor (n - k)
     pub twos-size : length (s .twos) ≡ k * wordsFor (n - k)
@@ -77,7 +77,7 @@ module _ (number n k w : ℕ) (z : sizesFit number n k w ≡ true) (rows : ℕ �
                 (storedPlane (storePackedRefusal (heldAt i) ones twos (rows i)) (heldAt i) twos (twosOf (key i) (wordsFor (n - k)))) key) c (filled-packed (heldAt i) ones twos (rows i) key row-passes refl f);
           }
 
-  next : (i : ℕ) (s : Kept) → i < k → Good i s → Good (suc i) (offer s (rows i))
+  next : (i : ℕ) (s : Holding) → i < k → Good i s → Good (suc i) (offer s (rows i))
   next i s l g =
       subst (λ h. Good (suc i) (offer (record { held = h; ones = s .ones; twos = s .twos }) (rows i))) (sym (g .held-is)) (more i (s .ones) (s .twos) l (g .ones-size) (g .twos-size) (g .rows-are))
 
@@ -89,7 +89,7 @@ module _ (number n k w : ℕ) (z : sizesFit number n k w ≡ true) (rows : ℕ �
   offered ones twos p q (suc i) l = next i (offerAll rows i (record { held = heldAt 0; ones = ones; twos = twos })) l (offered ones twos p q i (omega arith))
 
   -- and then a check
-  module _ (s : Kept) (g : Good k s) (y t wo wt : List ℕ) (yl : length y ≡ bytesFor (n - k)) (tl : length t ≡ bytesFor k) (yg : badByte y ≡ false) (tg : badByte t ≡ false)
+  module _ (s : Holding) (g : Good k s) (y t wo wt : List ℕ) (yl : length y ≡ bytesFor (n - k)) (tl : length t ≡ bytesFor k) (yg : badByte y ≡ false) (tg : badByte t ≡ false)
       (ol : length wo ≡ wordsFor (n - k)) (pl : length wt ≡ wordsFor (n - k)) where
     whole : Whole (heldAt k) (s .ones) (s .twos)
     whole = record { is-sound = sound-at k (le-refl k); all-rows = refl; ones-size = g .ones-size; twos-size = g .twos-size }

@@ -3,13 +3,13 @@ use mathlib.Core.Path.{_≡_, refl, sym, ap, ap₂, _∙_}
 use mathlib.Core.Logic.{_↔_}
 use mathlib.Core.Bool.{Bool, true, cond}
 use mathlib.Core.List.{List}
-use Prim.Native.Nat.{ℕ, _+_, _<_}
+use Prim.Native.Nat.{ℕ, _<_}
 use native.Mathlib.Omega.{arith}
 use native.Mathlib.Decide.{ℕ-discrete}
 use lib.Dec.{eqb}
 use lib.ListN.{length}
 use borrow.Author.Tests.{eq-eqb, ne-eqb}
-use Rattle.trits.specs.Trit.{Trit, weightV}
+use Rattle.trits.specs.Trit.{Trit}
 use Rattle.trits.specs.Planes.{tritAt}
 use Rattle.trits.specs.Refusal.{planesRefusal}
 use Rattle.trits.proofs.Refusals.{first-goes, passed-first}
@@ -18,10 +18,10 @@ use Rattle.packing.specs.Packed.{bytesFor, packedRow, packedBytes}
 use Rattle.packing.proofs.RoundTrip.{packed-length, packed-back, packed-good}
 use Rattle.packing.proofs.Turned.{bytes-good}
 use Rattle.heldkey.specs.declared.state.Held.{Held}
-use Rattle.verdict.specs.Verdict.{fullWeight, HasSyndrome, Extends}
+use Rattle.verdict.specs.Verdict.{fullWeight, Extending, Found}
 use Rattle.heldkey.specs.Held.{sound, rowTrits, heldKey}
 use Rattle.checking.specs.Check.{callRefusal, planesLengths, planesContents, packedLengths, packedContents, checkRefusal, checkPackedRefusal, heldWeight, answered, checkAnswer, checkPackedAnswer}
-use Rattle.heldkey.proofs.Sizes.{Sizes, sizes}
+use Rattle.heldkey.proofs.Sizes.{sizes}
 use Rattle.verdict.proofs.FullWord.{verifier, extends-once, yes-weight}
 use Rattle.checking.proofs.Passed.{Called, Fitted, fitted, contents, check-passed, check-packed-passed}
 use Rattle.checker.proofs.Weighed.{row-ended}
@@ -37,45 +37,34 @@ answered-yes weight w = (forth (ℕ-discrete weight w), λ e. ap (λ (t : Bool).
     forth (yes e) h = e
     forth (no f) h = let z : _≡_ {A = ℕ} 0 1 = sym (ap (λ (t : Bool). cond {A = ℕ} t 1 0) (ne-eqb weight w f)) ∙ h in absurd (omega arith)
 
--- a word of n trits that has the syndrome y, extends s and has weight w
-pub record Found (h : Held) (ones twos : List ℕ) (y s e : ℕ → Trit) : Type 0 where
-  pub weighs : weightV e (h .n) ≡ h .w
-  pub syndrome-is : HasSyndrome (rowTrits h) (h .k) (heldKey h ones twos) e y
-  pub extends : Extends (rowTrits h) (h .k) e s
-
-module _ (h : Held) (ones twos : List ℕ) (y s : ℕ → Trit) (all : Sizes h) where
-  places : rowTrits h + h .k ≡ h .n
-  places = omega (arith, all)
-
-  found : (answered 0 (heldWeight h ones twos y s) (h .w) .yes ≡ 1) ↔ ((e : ℕ → Trit) × Found h ones twos y s e)
+-- yes, where nothing is refused
+module _ (h : Held) (ones twos : List ℕ) (y s : ℕ → Trit) where
+  found : (answered 0 (heldWeight h ones twos y s) (h .w) .yes ≡ 1) ↔ Found (rowTrits h) (h .k) (h .w) (heldKey h ones twos) y s
   unfolding heldWeight
   found =
       let R = heldKey h ones twos in
       let v = verifier (rowTrits h) (h .k) R y s (h .w) in
       let a = answered-yes (fullWeight (rowTrits h) (h .k) R y s) (h .w) in
-      let g = yes-weight (rowTrits h) (h .k) R y s (h .w) in (
-        (λ q. let x = v .0 (g .1 (a .0 q)) in (x .0, record { weighs = sym (ap (weightV (x .0)) places) ∙ x .1; syndrome-is = x .2; extends = x .3 })),
-        λ (e, f). a .1 (g .0 (v .1 (e, ap (weightV e) places ∙ f .weighs, f .syndrome-is, f .extends))),
-      )
+      let g = yes-weight (rowTrits h) (h .k) R y s (h .w) in
+      ((λ q. v .0 (g .1 (a .0 q))), λ f. a .1 (g .0 (v .1 f)))
 
 -- the check in planes
-module _ (h : Held) (number : ℕ) (ones twos yOnes yTwos sOnes sTwos workOnes workTwos : List ℕ) (e : checkRefusal h number ones twos yOnes yTwos sOnes sTwos workOnes workTwos ≡ 0) where
-  pub check-verdict : (checkAnswer h number ones twos yOnes yTwos sOnes sTwos workOnes workTwos .yes ≡ 1)
-      ↔ ((z : ℕ → Trit) × Found h ones twos (tritAt yOnes yTwos) (tritAt sOnes sTwos) z)
-  unfolding checkAnswer
-  check-verdict = rw e (found h ones twos (tritAt yOnes yTwos) (tritAt sOnes sTwos) (sizes h (check-passed h number ones twos yOnes yTwos sOnes sTwos workOnes workTwos e .0 .is-sound)))
+pub check-verdict : (h : Held) (number : ℕ) (ones twos yOnes yTwos sOnes sTwos workOnes workTwos : List ℕ) → checkRefusal h number ones twos yOnes yTwos sOnes sTwos workOnes workTwos ≡ 0
+    → (checkAnswer h number ones twos yOnes yTwos sOnes sTwos workOnes workTwos .yes ≡ 1)
+    ↔ Found (rowTrits h) (h .k) (h .w) (heldKey h ones twos) (tritAt yOnes yTwos) (tritAt sOnes sTwos)
+unfolding checkAnswer
+check-verdict h number ones twos yOnes yTwos sOnes sTwos workOnes workTwos e = rw e (found h ones twos (tritAt yOnes yTwos) (tritAt sOnes sTwos))
 
 -- the packed check
-module _ (h : Held) (number : ℕ) (ones twos y s workOnes workTwos : List ℕ) (e : checkPackedRefusal h number ones twos y s workOnes workTwos ≡ 0) where
-  pub check-packed-verdict : (checkPackedAnswer h number ones twos y s workOnes workTwos .yes ≡ 1)
-      ↔ ((z : ℕ → Trit) × Found h ones twos (packedRow (rowTrits h) y) (packedRow (h .k) s) z)
-  unfolding checkPackedAnswer
-  check-packed-verdict = rw e (found h ones twos (packedRow (rowTrits h) y) (packedRow (h .k) s) (sizes h (check-packed-passed h number ones twos y s workOnes workTwos e .0 .is-sound)))
+pub check-packed-verdict : (h : Held) (number : ℕ) (ones twos y s workOnes workTwos : List ℕ) → checkPackedRefusal h number ones twos y s workOnes workTwos ≡ 0
+    → (checkPackedAnswer h number ones twos y s workOnes workTwos .yes ≡ 1) ↔ Found (rowTrits h) (h .k) (h .w) (heldKey h ones twos) (packedRow (rowTrits h) y) (packedRow (h .k) s)
+unfolding checkPackedAnswer
+check-packed-verdict h number ones twos y s workOnes workTwos e = rw e (found h ones twos (packedRow (rowTrits h) y) (packedRow (h .k) s))
 
 -- and there is one such word
-pub found-once : (h : Held) (ones twos : List ℕ) (y s e f : ℕ → Trit) → sound h ≡ true → Found h ones twos y s e → Found h ones twos y s f → (q : ℕ) → q < h .n → e q ≡ f q
-found-once h ones twos y s e f z a b q l =
-    extends-once (rowTrits h) (h .k) (heldKey h ones twos) y s e f (a .syndrome-is) (a .extends) (b .syndrome-is) (b .extends) q (omega (arith, sizes h z))
+pub found-once : (h : Held) (ones twos : List ℕ) (y s e f : ℕ → Trit) → sound h ≡ true → Extending (rowTrits h) (h .k) (heldKey h ones twos) y s e
+    → Extending (rowTrits h) (h .k) (heldKey h ones twos) y s f → (q : ℕ) → q < h .n → e q ≡ f q
+found-once h ones twos y s e f z a b q l = extends-once (rowTrits h) (h .k) (heldKey h ones twos) y s e f a b q (omega (arith, sizes h z))
 
 -- ---- the same trits in planes and packed
 

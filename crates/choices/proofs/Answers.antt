@@ -22,7 +22,7 @@ use Rattle.signer.specs.Sizes.{half, places, dim, ru, rv, codim, gapU, sizesFit
 use Rattle.signer.specs.Secret.{Secret, noZero}
 use Rattle.signer.specs.Draw.{Choices, firstV, firstU, drawn, drawRefusal}
 use Rattle.calls.specs.Lent.{pairDiffers, secretDiffers, hasZero, secretRefusal, workExit, Readable}
-use Rattle.calls.specs.DrawCall.{Lent, workWords, choicesDiffer, lengthsDiffer, choicesRefusal, drawAnswer}
+use Rattle.calls.specs.DrawCall.{DrawCall, drawWorkWords, choicesDiffer, lengthsDiffer, choicesRefusal, drawAnswer}
 use Rattle.calls.proofs.Exits.{planes-le, first-le, work-done, work-late}
 use Rattle.calls.proofs.Secrets.{or-none, pair-same, SecretLengths, secret-same, secret-le, row-of}
 use Rattle.choices.specs.Ready.{given, chosen, ending, Ready}
@@ -30,10 +30,10 @@ use Rattle.choices.specs.Ready.{given, chosen, ending, Ready}
 -- ---- the answer
 
 -- the contents of the secret, then those of p, y and the choices
-abbrev pub contents : Sizes → Lent → ℕ
+abbrev pub contents : Sizes → DrawCall → ℕ
 contents z i = first (secretRefusal z (i .secret)) (choicesRefusal z i)
 
-module _ (z : Sizes) (i : Lent) where
+module _ (z : Sizes) (i : DrawCall) where
   pub answer-size : sizesFit z ≡ false → 1 ≡ drawAnswer z i
   unfolding drawAnswer
   answer-size e = rw e
@@ -67,7 +67,7 @@ module _ (z : Sizes) (i : Lent) where
           by S p C q = rw (p, q)
 
 -- the choices are tested alone
-pub same-choices : (z : Sizes) (i : Lent) → choicesRefusal z (chosen (i .p) (i .yOnes) (i .yTwos) (i .orderV) (i .vOnes) (i .vTwos) (i .orderU) (i .uOnes) (i .uTwos)) ≡ choicesRefusal z i
+pub same-choices : (z : Sizes) (i : DrawCall) → choicesRefusal z (chosen (i .p) (i .yOnes) (i .yTwos) (i .orderV) (i .vOnes) (i .vTwos) (i .orderU) (i .uOnes) (i .uTwos)) ≡ choicesRefusal z i
 unfolding choicesRefusal
 same-choices z i = refl
 
@@ -79,7 +79,7 @@ refuse-le : (t : Bool) → refuse t 8 0 ≤ 8
 refuse-le true = omega arith
 refuse-le false = omega arith
 
-pub contents-le : (z : Sizes) (i : Lent) → contents z i ≤ 8
+pub contents-le : (z : Sizes) (i : DrawCall) → contents z i ≤ 8
 unfolding choicesRefusal
 contents-le z i =
     first-le (secretRefusal z (i .secret)) (choicesRefusal z i) (secret-le z (i .secret))
@@ -116,8 +116,8 @@ pub record ChoicesLengths (z : Sizes) (p y1 y2 ov v1 v2 ou u1 u2 e1 e2 s1 s2 w1 
   pub wordTwos : e2 ≡ wordsFor (places z)
   pub sOnes : s1 ≡ wordsFor (dim z)
   pub sTwos : s2 ≡ wordsFor (dim z)
-  pub workOnes : w1 ≡ workWords z
-  pub workTwos : w2 ≡ workWords z
+  pub workOnes : w1 ≡ drawWorkWords z
+  pub workTwos : w2 ≡ drawWorkWords z
 
 choices-same : (z : Sizes) (p y1 y2 ov v1 v2 ou u1 u2 e1 e2 s1 s2 w1 w2 : ℕ) → choicesDiffer z p y1 y2 ov v1 v2 ou u1 u2 e1 e2 s1 s2 w1 w2 ≡ false
     → ChoicesLengths z p y1 y2 ov v1 v2 ou u1 u2 e1 e2 s1 s2 w1 w2
@@ -159,7 +159,7 @@ none : (m : ℕ) (v : Vector) → hasZero m v ≡ false → noZero m v ≡ true
 unfolding hasZero noZero
 none m v e = ap not e
 
-module _ (z : Sizes) (i : Lent) where
+module _ (z : Sizes) (i : DrawCall) where
   -- the lengths one after another
   abbrev secretAll : Bool
   secretAll = secretDiffers z (length (i .secret .huOnes)) (length (i .secret .huTwos)) (length (i .secret .hvOnes)) (length (i .secret .hvTwos)) (length (i .secret .bOnes)) (length (i .secret .bTwos))
@@ -215,5 +215,5 @@ module _ (z : Sizes) (i : Lent) where
         }
 
 -- what the tests of the secret have shown, its words being words
-pub contents-secret : (z : Sizes) (i : Lent) → contents z i ≡ 0 → secretRefusal z (i .secret) ≡ 0
+pub contents-secret : (z : Sizes) (i : DrawCall) → contents z i ≡ 0 → secretRefusal z (i .secret) ≡ 0
 contents-secret z i g = passed-first (secretRefusal z (i .secret)) (choicesRefusal z i) g .0

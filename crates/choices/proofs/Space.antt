@@ -8,7 +8,7 @@ use lib.Dec.{ltb}
 use Rattle.signer.specs.declared.sizes.Sizes.{Sizes}
 use Rattle.signer.specs.Sizes.{ru, rv}
 use Rattle.calls.specs.Lent.{halfWords}
-use Rattle.calls.specs.DrawCall.{matrixRows, workWords}
+use Rattle.calls.specs.DrawCall.{matrixRows, drawWorkWords}
 use Rattle.calls.proofs.Bounds.{Bounds, prod}
 
 larger : (a b m : ℕ) → a ≤ m → b ≤ m → (a ≤ cond (ltb a b) b a) × (b ≤ cond (ltb a b) b a) × (cond (ltb a b) b a ≤ m)
@@ -23,7 +23,7 @@ pub record Space (z : Sizes) : Type 0 where
   pub u : ru z ≤ matrixRows z
   pub v : rv z ≤ matrixRows z
   pub rows : matrixRows z ≤ 8192
-  pub work : workWords z ≤ 1049216
+  pub work : drawWorkWords z ≤ 1049216
 
 pub space : (z : Sizes) → Bounds z → Space z
 space z b =

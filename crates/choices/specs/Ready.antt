@@ -11,22 +11,22 @@ use Rattle.signer.specs.Sizes.{half, places, codim, gapU}
 use Rattle.signer.specs.Secret.{noZero}
 use Rattle.signer.specs.Draw.{drawRefusal}
 use Rattle.calls.specs.Lent.{Planes, planes, secretOf, Readable}
-use Rattle.calls.specs.DrawCall.{Lent, lent, syndromeOf, choicesOf}
+use Rattle.calls.specs.DrawCall.{DrawCall, drawCall, syndromeOf, choicesOf}
 
 -- what is read: the secret, p, y and the choices, with nothing to write to
-abbrev pub given : Planes → List ℕ → List ℕ → List ℕ → List ℕ → List ℕ → List ℕ → List ℕ → List ℕ → List ℕ → Lent
-given s p yo yt ov vo vt ou uo ut = lent s p yo yt ov vo vt ou uo ut [] [] [] [] [] []
+abbrev pub given : Planes → List ℕ → List ℕ → List ℕ → List ℕ → List ℕ → List ℕ → List ℕ → List ℕ → List ℕ → DrawCall
+given s p yo yt ov vo vt ou uo ut = drawCall s p yo yt ov vo vt ou uo ut [] [] [] [] [] []
 
 -- p, y and the choices alone
-abbrev pub chosen : List ℕ → List ℕ → List ℕ → List ℕ → List ℕ → List ℕ → List ℕ → List ℕ → List ℕ → Lent
+abbrev pub chosen : List ℕ → List ℕ → List ℕ → List ℕ → List ℕ → List ℕ → List ℕ → List ℕ → List ℕ → DrawCall
 chosen = given (planes [] [] [] [] [] [] [] [])
 
 -- the end of a draw whose tests have passed: 12, 13, 14 or 0
-abbrev pub ending : Sizes → Lent → ℕ
+abbrev pub ending : Sizes → DrawCall → ℕ
 ending z i = drawRefusal z (secretOf z (i .secret)) (i .p) (syndromeOf i) (choicesOf i)
 
 -- rows that can be read, and orders
-pub record Ready (z : Sizes) (i : Lent) : Type 0 where
+pub record Ready (z : Sizes) (i : DrawCall) : Type 0 where
   pub secret : Readable z (i .secret)
   pub p : Order (places z) (i .p)
   pub y : Row (i .yOnes) (i .yTwos)

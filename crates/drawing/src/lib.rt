@@ -2,7 +2,7 @@
 ghost use mathlib.Core.Path.{_≡_};
 ghost use Rattle.trits.specs.Refusal.{codeOf};
 ghost use Rattle.calls.specs.Lent.{planes};
-ghost use Rattle.calls.specs.DrawCall.{lent, drawAnswer, wordOnesExit, wordTwosExit, sOnesExit, sTwosExit, workOnesExit, workTwosExit};
+ghost use Rattle.calls.specs.DrawCall.{drawCall, drawAnswer, wordOnesExit, wordTwosExit, sOnesExit, sTwosExit, workOnesExit, workTwosExit};
 use choices::tests;
 use signer::sizes::Sizes;
 use trits::refusal::Outcome;
@@ -35,7 +35,7 @@ pub fn draw(
     work_ones: &mut [u64],
     work_twos: &mut [u64],
 ) -> Outcome
-    ensures { λ r. ⌜ (let i = (lent (planes (now («hu_ones» .entry)) (now («hu_twos» .entry)) (now («hv_ones» .entry)) (now («hv_twos» .entry))
+    ensures { λ r. ⌜ (let i = (drawCall (planes (now («hu_ones» .entry)) (now («hu_twos» .entry)) (now («hv_ones» .entry)) (now («hv_twos» .entry))
         (now («b_ones» .entry)) (now («b_twos» .entry)) (now («c_ones» .entry)) (now («c_twos» .entry)))
         (now (p .entry)) (now («y_ones» .entry)) (now («y_twos» .entry)) (now («v_order» .entry)) (now («v_ones» .entry)) (now («v_twos» .entry))
         (now («u_order» .entry)) (now («u_ones» .entry)) (now («u_twos» .entry))
@@ -153,7 +153,7 @@ pub extern "C" fn wave_draw(
     work_ones: &mut [u64],
     work_twos: &mut [u64],
 ) -> u64
-    ensures { λ r. ⌜ (let i = (lent (planes (now («hu_ones» .entry)) (now («hu_twos» .entry)) (now («hv_ones» .entry)) (now («hv_twos» .entry))
+    ensures { λ r. ⌜ (let i = (drawCall (planes (now («hu_ones» .entry)) (now («hu_twos» .entry)) (now («hv_ones» .entry)) (now («hv_twos» .entry))
         (now («b_ones» .entry)) (now («b_twos» .entry)) (now («c_ones» .entry)) (now («c_twos» .entry)))
         (now (p .entry)) (now («y_ones» .entry)) (now («y_twos» .entry)) (now («v_order» .entry)) (now («v_ones» .entry)) (now («v_twos» .entry))
         (now («u_order» .entry)) (now («u_ones» .entry)) (now («u_twos» .entry))

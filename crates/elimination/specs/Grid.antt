@@ -1,8 +1,8 @@
 -- Matrices held in two planes, row after row, and the row operations of elimination. No rule of the paper: code is tied to it. Assumes nothing.
 use mathlib.Core.Path.{_≡_}
 use mathlib.Core.Bool.{_&&_, cond}
-use mathlib.Core.List.{List, [], _++_}
-use Prim.Native.Nat.{ℕ, zero, suc, _+_, _*_, _<_}
+use mathlib.Core.List.{List}
+use Prim.Native.Nat.{ℕ, _+_, _*_, _<_}
 use lib.Dec.{eqb, leb, ltb}
 use lib.ListN.{length, getD}
 use Rattle.trits.specs.Trit.{Trit, subT, mulT}
@@ -20,11 +20,6 @@ pub record Rows (ones twos : List ℕ) (r w : ℕ) : Type 0 where
 pub record Grid (ones twos : List ℕ) (r w : ℕ) (A : Matrix) : Type 0 where
   pub rows : Rows ones twos r w
   pub cells : matrixAt w ones twos ≡ A
-
--- f 0, f 1, .. f (k - 1), one after another
-unfoldable pub rowsOf : (ℕ → List ℕ) → ℕ → List ℕ
-rowsOf f zero = []
-rowsOf f (suc k) = rowsOf f k ++ f k
 
 -- row j has the trits v
 abbrev pub putRow : ℕ → Vector → Matrix → Matrix

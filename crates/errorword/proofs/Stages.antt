@@ -30,9 +30,9 @@ use Rattle.solving.proofs.HalfWords.{word-drawV, word-drawU, upto-ends}
 use Rattle.pairing.specs.Halves.{placedRows, partedRows, joinedRows}
 use Rattle.pairing.proofs.DrawRows.{placed-parted, joined-halves, drawV-half, drawU-half, drawn-weighs}
 use Rattle.calls.specs.Lent.{secretOf}
-use Rattle.calls.specs.DrawCall.{Lent, syndromeOf, choicesOf}
+use Rattle.calls.specs.DrawCall.{DrawCall, syndromeOf, choicesOf}
 use Rattle.choices.specs.Ready.{ending, Ready}
-use Rattle.errorword.specs.Stages.{pairsOf, startWord, Parted, ranksRefusal, SolvedWhere, Joined, wordV, wordU, MadeWhere}
+use Rattle.errorword.specs.Stages.{pairsOf, startWord, Parted, ranksRefusal, SolvedWhere, Joined, eVOf, eUOf, MadeWhere}
 
 -- ---- a working space of 0
 
@@ -122,7 +122,7 @@ module _ (l : ℕ) (s : Secret) (w : ℕ) (o₁ t₁ o₂ t₂ : List ℕ) {r : 
 
 -- ---- the whole
 
-pub unmade : {n : ℕ} {z : Sizes} {l : ℕ} {i : Lent} {A : Matrix} → 0 < n → MadeWhere n z l i A
+pub unmade : {n : ℕ} {z : Sizes} {l : ℕ} {i : DrawCall} {A : Matrix} → 0 < n → MadeWhere n z l i A
 unmade h = record { left = λ y. absurd (omega arith); right = λ y. absurd (omega arith) }
 
 module _ (z : Sizes) (s : Secret) (ch : Choices) where
@@ -159,7 +159,7 @@ module _ (z : Sizes) (s : Secret) (ch : Choices) where
     unfolding pivotsU rank
     full-u = eqb-true (rank (ru z) (half z) (s .hu) (firstU z ch)) (ru z) (tested .1)
 
-module _ (z : Sizes) (i : Lent) where
+module _ (z : Sizes) (i : DrawCall) where
   abbrev S : Secret
   S = secretOf z (i .secret)
 
@@ -176,19 +176,19 @@ module _ (z : Sizes) (i : Lent) where
     P = pairsOf (i .secret .bOnes) (i .secret .bTwos) (i .secret .cOnes) (i .secret .cTwos)
 
     module _ (l : ℕ) {A B C : Matrix} (r : Ready z i) (a : Parted z l P (startWord z (i .p) (syndromeOf i)) A) {n : ℕ} (n0 : n ≡ 0) (h : SolvedWhere n z l S (choicesOf i) (A l) (A (l + 1)) B) (j : Joined l P B C) where
-      row-eV : B (l + 3) ≡ wordV z i
+      row-eV : B (l + 3) ≡ eVOf z i
       row-eV = h .eV n0 ∙ ap (λ (x : Vector). drawV z S x (choicesOf i)) (a .right) ∙ drawV-half z S (vOf z S (startWord z (i .p) (syndromeOf i))) (choicesOf i)
 
-      row-eU : B (l + 4) ≡ wordU z i
+      row-eU : B (l + 4) ≡ eUOf z i
       row-eU =
           h .eU n0
           ∙ ap₂ (λ (x y : Vector). drawU z S x y (choicesOf i)) (a .left) (ap (λ (x : Vector). drawV z S x (choicesOf i)) (a .right) ∙ drawV-half z S (vOf z S (startWord z (i .p) (syndromeOf i))) (choicesOf i))
-          ∙ drawU-half z S (uOf z S (startWord z (i .p) (syndromeOf i))) (wordV z i) (choicesOf i)
+          ∙ drawU-half z S (uOf z S (startWord z (i .p) (syndromeOf i))) (eVOf z i) (choicesOf i)
 
-      row-left : C (l + 4) ≡ leftOf S (wordU z i) (wordV z i)
+      row-left : C (l + 4) ≡ leftOf S (eUOf z i) (eVOf z i)
       row-left = j .left ∙ ap₂ (leftOf S) row-eU row-eV
 
-      row-right : C (l + 3) ≡ rightOf S (wordU z i) (wordV z i)
+      row-right : C (l + 3) ≡ rightOf S (eUOf z i) (eVOf z i)
       row-right = j .right ∙ ap₂ (rightOf S) row-eU row-eV
 
       pub made : MadeWhere 0 z l i C

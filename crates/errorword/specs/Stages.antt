@@ -12,7 +12,7 @@ use Rattle.signer.specs.Sizes.{half, ru, rv, codim}
 use Rattle.signer.specs.Secret.{Secret, join, uOf, vOf, leftOf, rightOf}
 use Rattle.signer.specs.Draw.{Choices, placed, firstV, firstU, drawV, drawU}
 use Rattle.calls.specs.Lent.{secretOf}
-use Rattle.calls.specs.DrawCall.{Lent, syndromeOf, choicesOf}
+use Rattle.calls.specs.DrawCall.{DrawCall, syndromeOf, choicesOf}
 
 -- b and c alone, with no matrices
 abbrev pub pairsOf : List ℕ → List ℕ → List ℕ → List ℕ → Secret
@@ -51,13 +51,13 @@ pub record Joined (l : ℕ) (s : Secret) (A B : Matrix) : Type 0 where
   pub right : B (l + 3) ≡ rightOf s (A (l + 4)) (A (l + 3))
 
 -- e_V and e_U of a draw
-abbrev pub wordV : Sizes → Lent → Vector
-wordV z i = drawV z (secretOf z (i .secret)) (vOf z (secretOf z (i .secret)) (startWord z (i .p) (syndromeOf i))) (choicesOf i)
+abbrev pub eVOf : Sizes → DrawCall → Vector
+eVOf z i = drawV z (secretOf z (i .secret)) (vOf z (secretOf z (i .secret)) (startWord z (i .p) (syndromeOf i))) (choicesOf i)
 
-abbrev pub wordU : Sizes → Lent → Vector
-wordU z i = drawU z (secretOf z (i .secret)) (uOf z (secretOf z (i .secret)) (startWord z (i .p) (syndromeOf i))) (wordV z i) (choicesOf i)
+abbrev pub eUOf : Sizes → DrawCall → Vector
+eUOf z i = drawU z (secretOf z (i .secret)) (uOf z (secretOf z (i .secret)) (startWord z (i .p) (syndromeOf i))) (eVOf z i) (choicesOf i)
 
 -- where nothing is refused, the rows hold the halves of the word
-pub record MadeWhere (n : ℕ) (z : Sizes) (l : ℕ) (i : Lent) (A : Matrix) : Type 0 where
-  pub left : n ≡ 0 → A (l + 4) ≡ leftOf (secretOf z (i .secret)) (wordU z i) (wordV z i)
-  pub right : n ≡ 0 → A (l + 3) ≡ rightOf (secretOf z (i .secret)) (wordU z i) (wordV z i)
+pub record MadeWhere (n : ℕ) (z : Sizes) (l : ℕ) (i : DrawCall) (A : Matrix) : Type 0 where
+  pub left : n ≡ 0 → A (l + 4) ≡ leftOf (secretOf z (i .secret)) (eUOf z i) (eVOf z i)
+  pub right : n ≡ 0 → A (l + 3) ≡ rightOf (secretOf z (i .secret)) (eUOf z i) (eVOf z i)

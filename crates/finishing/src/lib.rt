@@ -8,7 +8,7 @@ ghost use Rattle.trits.specs.Refusal.{codeOf, atExit};
 ghost use Rattle.signer.specs.Sizes.{sizesFit, places, dim};
 ghost use Rattle.signer.specs.Draw.{signature};
 ghost use Rattle.calls.specs.Lent.{planes};
-ghost use Rattle.calls.specs.DrawCall.{workWords, wordOf};
+ghost use Rattle.calls.specs.DrawCall.{drawWorkWords, wordOf};
 ghost use Rattle.choices.specs.Ready.{given, ending, Ready};
 use choices::tests;
 use errorword::word;
@@ -46,7 +46,7 @@ pub fn make(
     requires { ⌜ Ready z (given (planes (now «hu_ones») (now «hu_twos») (now «hv_ones») (now «hv_twos») (now «b_ones») (now «b_twos») (now «c_ones») (now «c_twos»))
         (now p) (now «y_ones») (now «y_twos») (now «v_order») (now «v_ones») (now «v_twos») (now «u_order») (now «u_ones») (now «u_twos»)) ⌝ }
     requires { ⌜ (length (now «word_ones») ≡ wordsFor (places z)) × (length (now «word_twos») ≡ wordsFor (places z)) × (length (now «s_ones») ≡ wordsFor (dim z)) × (length (now «s_twos») ≡ wordsFor (dim z))
-        × (length (now «work_ones») ≡ workWords z) × (length (now «work_twos») ≡ workWords z) ⌝ }
+        × (length (now «work_ones») ≡ drawWorkWords z) × (length (now «work_twos») ≡ drawWorkWords z) ⌝ }
     ensures { λ r. ⌜ (let i = (given (planes (now («hu_ones» .entry)) (now («hu_twos» .entry)) (now («hv_ones» .entry)) (now («hv_twos» .entry))
         (now («b_ones» .entry)) (now («b_twos» .entry)) (now («c_ones» .entry)) (now («c_twos» .entry)))
         (now (p .entry)) (now («y_ones» .entry)) (now («y_twos» .entry)) (now («v_order» .entry)) (now («v_ones» .entry)) (now («v_twos» .entry))
@@ -130,7 +130,7 @@ pub fn finish(
     requires { ⌜ Ready z (given (planes (now «hu_ones») (now «hu_twos») (now «hv_ones») (now «hv_twos») (now «b_ones») (now «b_twos») (now «c_ones») (now «c_twos»))
         (now p) (now «y_ones») (now «y_twos») (now «v_order») (now «v_ones») (now «v_twos») (now «u_order») (now «u_ones») (now «u_twos»)) ⌝ }
     requires { ⌜ (length (now «word_ones») ≡ wordsFor (places z)) × (length (now «word_twos») ≡ wordsFor (places z)) × (length (now «s_ones») ≡ wordsFor (dim z)) × (length (now «s_twos») ≡ wordsFor (dim z))
-        × (length (now «work_ones») ≡ workWords z) × (length (now «work_twos») ≡ workWords z) ⌝ }
+        × (length (now «work_ones») ≡ drawWorkWords z) × (length (now «work_twos») ≡ drawWorkWords z) ⌝ }
     ensures { λ r. ⌜ (let i = (given (planes (now («hu_ones» .entry)) (now («hu_twos» .entry)) (now («hv_ones» .entry)) (now («hv_twos» .entry))
         (now («b_ones» .entry)) (now («b_twos» .entry)) (now («c_ones» .entry)) (now («c_twos» .entry)))
         (now (p .entry)) (now («y_ones» .entry)) (now («y_twos» .entry)) (now («v_order» .entry)) (now («v_ones» .entry)) (now («v_twos» .entry))

@@ -18,7 +18,7 @@ use Rattle.trits.proofs.Matrix.{row-le}
 use Rattle.trits.proofs.Reading.{length-ones, length-twos, holds-reads}
 use Rattle.packing.specs.Packed.{packedRow}
 use Rattle.heldkey.specs.declared.state.Held.{Held}
-use Rattle.heldkey.specs.Held.{sizesFit, sound, rowTrits, rowWords, keyWords, heldRow, heldKey}
+use Rattle.heldkey.specs.Held.{numbersFit, sound, rowTrits, rowWords, keyWords, heldRow, heldKey}
 use Rattle.heldkey.specs.Store.{storeRefusal, storePackedRefusal, nextHeld, storedPlane}
 use Rattle.heldkey.proofs.Sizes.{and-both}
 use Rattle.heldkey.proofs.Stretch.{row-there}
@@ -56,7 +56,7 @@ pub sound-after : {h : Held} {ones twos : ℕ} → Room h ones twos → sound (n
 unfolding sound nextHeld
 sound-after {h} f =
     let a = and-both (eqb (h .begun) 1) _ (f .is-sound) in
-    let z = and-both (sizesFit (h .number) (h .n) (h .k) (h .w)) (leb (h .rows) (h .k)) (a .1) in
+    let z = and-both (numbersFit (h .number) (h .n) (h .k) (h .w)) (leb (h .rows) (h .k)) (a .1) in
     rw (a .0, z .0, le-leb (h .rows + 1) (h .k) (omega (arith, f .more)))
 
 -- one plane: `new` is the row's words in it

@@ -7,7 +7,7 @@ use native.Mathlib.Omega.{arith}
 use lib.Dec.{eqb, leb}
 use borrow.Author.Tests.{leb-true, eqb-true}
 use Rattle.heldkey.specs.declared.state.Held.{Held}
-use Rattle.heldkey.specs.Held.{mostKeyNumber, sizesFit, sound, rowWords, keyWords}
+use Rattle.heldkey.specs.Held.{mostKeyNumber, numbersFit, sound, rowWords, keyWords}
 
 pub and-both : (a b : Bool) → (a && b) ≡ true → (a ≡ true) × (b ≡ true)
 and-both true b e = (refl, e)
@@ -23,10 +23,10 @@ pub record Sizes (h : Held) : Type 0 where
   pub room : keyWords h ≤ 16384 * 256
 
 pub sizes : (h : Held) → sound h ≡ true → Sizes h
-unfolding sound sizesFit
+unfolding sound numbersFit
 sizes h e =
     let a = and-both (eqb (h .begun) 1) _ e in
-    let z = and-both (sizesFit (h .number) (h .n) (h .k) (h .w)) (leb (h .rows) (h .k)) (a .1) in
+    let z = and-both (numbersFit (h .number) (h .n) (h .k) (h .w)) (leb (h .rows) (h .k)) (a .1) in
     let b = and-both (leb (h .number) mostKeyNumber) _ (z .0) in
     let c = and-both (leb 4 (h .n)) _ (b .1) in
     let d = and-both (leb (h .n) 16384) _ (c .1) in

@@ -13,13 +13,13 @@ abbrev pub mostKeyNumber : ℕ
 mostKeyNumber = 255
 
 -- the numbers of a key are in their ranges: its key number, n even from 4 to 16,384, k from 2 to n-2, w from 1 to n
-unfoldable pub sizesFit : ℕ → ℕ → ℕ → ℕ → Bool
-sizesFit number n k w =
+unfoldable pub numbersFit : ℕ → ℕ → ℕ → ℕ → Bool
+numbersFit number n k w =
     leb number mostKeyNumber && (leb 4 n && (leb n 16384 && (eqb (n % 2) 0 && (leb 2 k && (leb k (n - 2) && (leb 1 w && leb w n))))))
 
 -- a state that is begun, with its numbers in their ranges and no more than k rows counted
 unfoldable pub sound : Held → Bool
-sound h = eqb (h .begun) 1 && (sizesFit (h .number) (h .n) (h .k) (h .w) && leb (h .rows) (h .k))
+sound h = eqb (h .begun) 1 && (numbersFit (h .number) (h .n) (h .k) (h .w) && leb (h .rows) (h .k))
 
 -- a row of the key has n-k trits
 abbrev pub rowTrits : Held → ℕ

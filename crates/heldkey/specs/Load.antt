@@ -8,13 +8,13 @@ use Rattle.heldkey.specs.Held.{rowTrits, rowWords}
 use Rattle.heldkey.specs.Store.{storePackedRefusal, storedHeld, storedPlane}
 
 -- the state and the planes of the key
-pub record Kept : Type 0 where
+pub record Holding : Type 0 where
   pub held : Held
   pub ones : List ℕ
   pub twos : List ℕ
 
 -- a packed row is offered: what the call leaves
-unfoldable pub offer : Kept → List ℕ → Kept
+unfoldable pub offer : Holding → List ℕ → Holding
 offer s row = record {
   held = storedHeld (storePackedRefusal (s .held) (s .ones) (s .twos) row) (s .held);
   ones = storedPlane (storePackedRefusal (s .held) (s .ones) (s .twos) row) (s .held) (s .ones) (onesOf (packedRow (rowTrits (s .held)) row) (rowWords (s .held)));
@@ -22,6 +22,6 @@ offer s row = record {
 }
 
 -- the first i of these rows are offered, one after the other
-unfoldable pub offerAll : (ℕ → List ℕ) → ℕ → Kept → Kept
+unfoldable pub offerAll : (ℕ → List ℕ) → ℕ → Holding → Holding
 offerAll rows zero s = s
 offerAll rows (suc i) s = offer (offerAll rows i s) (rows i)

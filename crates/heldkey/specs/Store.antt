@@ -8,7 +8,7 @@ use Rattle.trits.specs.Rows.{putWords}
 use Rattle.trits.specs.Refusal.{refuse, demand, first, atExit, planesRefusal}
 use Rattle.packing.specs.Packed.{bytesFor, packedRefusal}
 use Rattle.heldkey.specs.declared.state.Held.{Held}
-use Rattle.heldkey.specs.Held.{sizesFit, sound, rowTrits, rowWords, keyWords}
+use Rattle.heldkey.specs.Held.{numbersFit, sound, rowTrits, rowWords, keyWords}
 
 -- a refusal leaves the state as it was
 abbrev pub heldAtExit : ℕ → Held → Held → Held
@@ -18,7 +18,7 @@ heldAtExit refusal new old = cond (eqb refusal 0) new old
 
 -- only a size can be refused
 unfoldable pub beginRefusal : ℕ → ℕ → ℕ → ℕ → ℕ
-beginRefusal number n k w = demand (sizesFit number n k w) 1 0
+beginRefusal number n k w = demand (numbersFit number n k w) 1 0
 
 -- a key of which no row is stored yet
 unfoldable pub begunHeld : ℕ → ℕ → ℕ → ℕ → Held

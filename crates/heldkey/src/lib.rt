@@ -23,7 +23,7 @@ pub fn begin(held: Held, number: u64, n: u64, k: u64, w: u64) -> Stored
     ensures { λ r. ⌜ codeOf (r .outcome) ≡ beginRefusal number n k w ⌝ }
     ensures { λ r. ⌜ r .held ≡ beginHeld held number n k w ⌝ }
 {
-    if state::sizes_fit(number, n, k, w) {
+    if state::numbers_fit(number, n, k, w) {
         return Stored {
             outcome: Outcome::Done,
             held: Held {

@@ -1,7 +1,7 @@
 // The module's state, and the sizes that it says.
 ghost use mathlib.Core.Path.{_≡_};
 ghost use mathlib.Core.Bool.{true};
-ghost use Rattle.heldkey.specs.Held.{sizesFit, sound, rowTrits, rowWords, keyWords};
+ghost use Rattle.heldkey.specs.Held.{numbersFit, sound, rowTrits, rowWords, keyWords};
 
 // The state: begun is 0 or 1, and all zero is no key begun.
 #[repr(C)]
@@ -18,8 +18,8 @@ pub struct Held {
 const MOST_KEY_NUMBER: u64 = 255;
 
 // Whether the numbers of a key are in their ranges.
-pub fn sizes_fit(number: u64, n: u64, k: u64, w: u64) -> bool
-    ensures { λ r. ⌜ r ≡ sizesFit number n k w ⌝ }
+pub fn numbers_fit(number: u64, n: u64, k: u64, w: u64) -> bool
+    ensures { λ r. ⌜ r ≡ numbersFit number n k w ⌝ }
 {
     if number > MOST_KEY_NUMBER {
         return false;
@@ -52,7 +52,7 @@ pub fn is_sound(held: Held) -> bool
     if held.begun != 1 {
         return false;
     }
-    if sizes_fit(held.number, held.n, held.k, held.w) {
+    if numbers_fit(held.number, held.n, held.k, held.w) {
         return held.rows <= held.k;
     }
     false

@@ -10,12 +10,11 @@ use lib.ListN.{length, getD, take, drop, length-append, drop-of-length-le}
 use lib.Seq.{drop-drop}
 use Rattle.trits.specs.Trit.{upTo}
 use Rattle.trits.specs.Planes.{onesOf, twosOf}
-use Rattle.trits.specs.Rows.{matrixAt}
+use Rattle.trits.specs.Rows.{matrixAt, rowsOf}
 use Rattle.trits.proofs.Reading.{length-ones, length-twos}
 use Rattle.trits.proofs.Ends.{upto-same}
 use Rattle.matrix.specs.Linear.{Matrix, column}
 use Rattle.signer.specs.Build.{rowOfR}
-use Rattle.elimination.specs.Grid.{rowsOf}
 use Rattle.secretmatrix.specs.Work.{colOf, placedAt}
 use Rattle.keymatrix.specs.KeyRows.{Keyed, readDown, keyOnes, keyTwos}
 

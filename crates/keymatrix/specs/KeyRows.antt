@@ -6,7 +6,7 @@ use lib.ListN.{getD}
 use Rattle.trits.specs.Trit.{upTo}
 use Rattle.trits.specs.Planes.{onesOf, twosOf}
 use Rattle.matrix.specs.Linear.{Vector, Matrix, column}
-use Rattle.elimination.specs.Grid.{rowsOf}
+use Rattle.trits.specs.Rows.{rowsOf}
 use Rattle.signer.specs.Build.{rowOfR}
 use Rattle.secretmatrix.specs.Work.{colOf}
 

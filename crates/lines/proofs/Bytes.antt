@@ -5,7 +5,8 @@ use Prim.Native.Nat.{ℕ, _+_, _≤_, _<_}
 use borrow.Author.Tests.{eq-eqb, ne-eqb, lt-ltb, le-ltb}
 use lib.ListN.{set, take}
 use Rattle.text.specs.Forms.{Line, noForm}
-use Rattle.oneline.specs.Answer.{Kept, linePrints, lineKept, readLine}
+use Rattle.heldkey.specs.Load.{Holding}
+use Rattle.oneline.specs.Answer.{linePrints, lineKept, readLine}
 use Rattle.lines.specs.Machine.{Machine, gathered, ended, longer, stepped, stepPrints, finished, endPrints}
 
 module _ (m : Machine) where
@@ -17,7 +18,7 @@ module _ (m : Machine) where
   unfolding gathered
   gathered-short l = rw (le-ltb 1024 (m .len) l)
 
-  pub ended-as : {f : Line} {k : Kept} → f ≡ gathered m → k ≡ lineKept (m .kept) f → _≡_ {A = Machine} (record { len = 0; line = m .line; kept = k }) (ended m)
+  pub ended-as : {f : Line} {k : Holding} → f ≡ gathered m → k ≡ lineKept (m .kept) f → _≡_ {A = Machine} (record { len = 0; line = m .line; kept = k }) (ended m)
   unfolding ended
   ended-as e q = λ i. record { len = 0; line = m .line; kept = (q ∙ ap (lineKept (m .kept)) e) i }
 

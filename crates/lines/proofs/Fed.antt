@@ -16,7 +16,8 @@ use Rattle.text.specs.Fields.{onto, split}
 use Rattle.text.proofs.Parting.{some-part}
 use Rattle.text.specs.Forms.{Line, noForm, lineOf}
 use Rattle.text.specs.Answers.{header}
-use Rattle.oneline.specs.Answer.{Kept, linePrints, lineKept, readLine}
+use Rattle.heldkey.specs.Load.{Holding}
+use Rattle.oneline.specs.Answer.{linePrints, lineKept, readLine}
 use Rattle.lines.specs.Print.{withoutEmptyEnd, linesOf, answers, noKey, prints}
 use Rattle.lines.specs.Machine.{Machine, gathered, ended, stepped, stepPrints, endPrints, fed, started}
 use Rattle.lines.proofs.Bytes.{gathered-long, gathered-short, step-end, step-none, step-more, step-full, end-none, end-some}
@@ -127,7 +128,7 @@ module _ {m : Machine} {p : List ℕ} (g : Gathers m p) where
 -- ---- the whole text
 
 -- a line, and then the others
-next-line : (kept : Kept) (p t : List ℕ) → answers kept (withoutEmptyEnd (p ∷ split 10 t)) ≡ linePrints kept (readLine p) ++ answers (lineKept kept (readLine p)) (withoutEmptyEnd (split 10 t))
+next-line : (kept : Holding) (p t : List ℕ) → answers kept (withoutEmptyEnd (p ∷ split 10 t)) ≡ linePrints kept (readLine p) ++ answers (lineKept kept (readLine p)) (withoutEmptyEnd (split 10 t))
 unfolding withoutEmptyEnd answers
 next-line kept p t =
     let s = some-part 10 t in
@@ -154,10 +155,10 @@ fed-from (b ∷ text) m p g o = by (ℕ-discrete b 10) (λ q. fed-from text (end
         let h = gathers-more g b f in
         ap (λ (x : List ℕ). x ++ fed (stepped b m) text) (sym (step-none m b f))
         ∙ r (h .0) (open-more p b f o)
-        ∙ ap₂ (λ (k : Kept) (x : List ℕ). answers k (withoutEmptyEnd (split 10 x))) (h .1) (append-assoc p (b ∷ []) text)
+        ∙ ap₂ (λ (k : Holding) (x : List ℕ). answers k (withoutEmptyEnd (split 10 x))) (h .1) (append-assoc p (b ∷ []) text)
 
 -- a text fed byte by byte from no line on, whatever is held and whatever the buffer has, prints what its lines print
-pub fed-lines : (kept : Kept) (line text : List ℕ) → length line ≡ 1025 → fed (record { len = 0; line = line; kept = kept }) text ≡ answers kept (linesOf text)
+pub fed-lines : (kept : Holding) (line text : List ℕ) → length line ≡ 1025 → fed (record { len = 0; line = line; kept = kept }) text ≡ answers kept (linesOf text)
 unfolding linesOf
 fed-lines kept line text s = fed-from text (record { len = 0; line = line; kept = kept }) [] (gathers-none _ s refl) open-none
 

@@ -6,7 +6,8 @@ use lib.Dec.{eqb, ltb}
 use lib.ListN.{set, take}
 use Rattle.trits.specs.Planes.{zeroWords}
 use Rattle.text.specs.Forms.{Line, noForm, mostBytes}
-use Rattle.oneline.specs.Answer.{Kept, keeping, linePrints, lineKept, readLine}
+use Rattle.heldkey.specs.Load.{Holding}
+use Rattle.oneline.specs.Answer.{holding, linePrints, lineKept, readLine}
 use Rattle.lines.specs.Print.{noKey}
 use Rattle.lines.specs.declared.State.{State}
 
@@ -14,11 +15,11 @@ use Rattle.lines.specs.declared.State.{State}
 pub record Machine : Type 0 where
   pub len : ℕ
   pub line : List ℕ
-  pub kept : Kept
+  pub kept : Holding
 
 -- the machine of a state and the lent buffers
 abbrev pub machine : State → List ℕ → List ℕ → List ℕ → Machine
-machine s line ones twos = record { len = s .len; line = line; kept = keeping (s .held) ones twos }
+machine s line ones twos = record { len = s .len; line = line; kept = holding (s .held) ones twos }
 
 -- what the gathered line says: above 1,024 bytes it is none of the forms
 unfoldable pub gathered : Machine → Line

@@ -7,7 +7,8 @@ use lib.ListN.{length}
 use Rattle.trits.specs.Planes.{zeroWords}
 use Rattle.text.specs.Fields.{split}
 use Rattle.text.specs.Answers.{header}
-use Rattle.oneline.specs.Answer.{Kept, linePrints, lineKept, readLine}
+use Rattle.heldkey.specs.Load.{Holding}
+use Rattle.oneline.specs.Answer.{linePrints, lineKept, readLine}
 
 -- parts without the last, if that is empty
 unfoldable pub withoutEmptyEnd : List (List ℕ) → List (List ℕ)
@@ -20,7 +21,7 @@ unfoldable pub linesOf : List ℕ → List (List ℕ)
 linesOf text = withoutEmptyEnd (split 10 text)
 
 -- what lines print, one after another
-unfoldable pub answers : Kept → List (List ℕ) → List ℕ
+unfoldable pub answers : Holding → List (List ℕ) → List ℕ
 answers kept [] = []
 answers kept (line ∷ rest) = linePrints kept (readLine line) ++ answers (lineKept kept (readLine line)) rest
 
@@ -29,7 +30,7 @@ abbrev pub mostWords : ℕ
 mostWords = 382
 
 -- no key begun
-unfoldable pub noKey : Kept
+unfoldable pub noKey : Holding
 noKey = record { held = record { begun = 0; number = 0; n = 0; k = 0; w = 0; rows = 0 }; ones = zeroWords mostWords; twos = zeroWords mostWords }
 
 -- what the program prints for a text: the header, and the answers

@@ -15,10 +15,11 @@ use Rattle.text.specs.Answers.{lineRefused, verdictAnswer, signRefused}
 use Rattle.text.proofs.Numbers.{value-small, value-large}
 use Rattle.heldkey.specs.declared.state.Held.{Held}
 use Rattle.checking.specs.declared.Checked.{Checked}
-use Rattle.heldkey.specs.Held.{mostKeyNumber, sizesFit}
+use Rattle.heldkey.specs.Held.{mostKeyNumber, numbersFit}
 use Rattle.heldkey.specs.Store.{beginRefusal, beginHeld}
 use Rattle.heldkey.proofs.Sizes.{and-both}
-use Rattle.oneline.specs.Answer.{Kept, keyRefusal, keyHeld, refusalPrints, signPrints, linePrints, lineKept}
+use Rattle.heldkey.specs.Load.{Holding}
+use Rattle.oneline.specs.Answer.{keyRefusal, keyHeld, refusalPrints, signPrints, linePrints, lineKept}
 
 -- nothing printed leaves the buffer
 pub none-put : (l : List ℕ) → l ≡ putWords 0 l []
@@ -73,8 +74,8 @@ above-same v x h = by (decLt 65535 v)
     by (no l) = ap (leb x) (sym (value-small v (omega arith)))
 
 module _ (number n k w : ℕ) where
-  fit-same : n ≤ 256 → sizesFit number n (atMostLarge k) (atMostLarge w) ≡ sizesFit number n k w
-  unfolding sizesFit
+  fit-same : n ≤ 256 → numbersFit number n (atMostLarge k) (atMostLarge w) ≡ numbersFit number n k w
+  unfolding numbersFit
   fit-same l = λ i. leb number mostKeyNumber && (leb 4 n && (leb n 16384 && (eqb (n % 2) 0 && (above-same k 2 (omega arith) i && (below-same k (n - 2) (omega arith) i && (above-same w 1 (omega arith) i && below-same w n (omega arith) i))))))
 
   pub refusal-same : keyRefusal number (atMostLarge n) (atMostLarge k) (atMostLarge w) ≡ keyRefusal number n k w
@@ -88,10 +89,10 @@ module _ (number n k w : ℕ) where
 
   -- what is not refused is in reach
   small : keyRefusal number n k w ≡ 0 → (n ≤ 65535) × (k ≤ 65535) × (w ≤ 65535)
-  unfolding keyRefusal beginRefusal sizesFit
+  unfolding keyRefusal beginRefusal numbersFit
   small z =
       let p = passed-refuse (ltb 256 n) 1 (beginRefusal number n k w) (lit< tt) z in
-      let f = passed-demand (sizesFit number n k w) 1 0 (lit< tt) (p .1) .0 in
+      let f = passed-demand (numbersFit number n k w) 1 0 (lit< tt) (p .1) .0 in
       let a = and-both (leb number mostKeyNumber) _ f .1 in
       let b = and-both (leb 4 n) _ a .1 in
       let c = and-both (leb n 16384) _ b .1 in
@@ -117,14 +118,14 @@ module _ (h : Held) (number n k w : ℕ) where
 
 -- ---- a line as it is read, with sizes that count as large
 
-pub prints-same : (kept : Kept) (l : Line) → linePrints kept (bounded l) ≡ linePrints kept l
+pub prints-same : (kept : Holding) (l : Line) → linePrints kept (bounded l) ≡ linePrints kept l
 unfolding linePrints bounded
 prints-same kept noForm = refl
 prints-same kept (keyLine number n k w) = ap refusalPrints (refusal-same number n k w)
 prints-same kept (rowLine digits) = refl
 prints-same kept (signLine number formula y s) = refl
 
-pub kept-same : (kept : Kept) (l : Line) → lineKept kept (bounded l) ≡ lineKept kept l
+pub kept-same : (kept : Holding) (l : Line) → lineKept kept (bounded l) ≡ lineKept kept l
 unfolding lineKept bounded
 kept-same kept noForm = refl
 kept-same kept (keyLine number n k w) = λ i. record { held = held-same (kept .held) number n k w i; ones = kept .ones; twos = kept .twos }
@@ -132,7 +133,7 @@ kept-same kept (rowLine digits) = refl
 kept-same kept (signLine number formula y s) = refl
 
 -- the answer to a line from what its form says
-module _ (kept : Kept) (l : Line) {f : Line} (e : f ≡ bounded l) where
+module _ (kept : Holding) (l : Line) {f : Line} (e : f ≡ bounded l) where
   pub line-kept : lineKept kept f ≡ lineKept kept l
   line-kept = ap (lineKept kept) e ∙ kept-same kept l
 

@@ -12,18 +12,13 @@ use Rattle.text.specs.Answers.{verdictAnswer, signRefused, lineRefused}
 use Rattle.heldkey.specs.declared.state.Held.{Held}
 use Rattle.checking.specs.declared.Checked.{Checked}
 use Rattle.heldkey.specs.Held.{mostKeyNumber, rowTrits, rowWords, keyWords}
+use Rattle.heldkey.specs.Load.{Holding}
 use Rattle.heldkey.specs.Store.{heldAtExit, beginRefusal, begunHeld, storeRefusal, storedHeld, storedPlane}
 use Rattle.checking.specs.Check.{checkAnswer}
 
 -- what is kept from line to line: the state, and the words of the held key
-pub record Kept : Type 0 where
-  pub held : Held
-  pub ones : List ℕ
-  pub twos : List ℕ
-
--- what a state and the lent words keep
-abbrev pub keeping : Held → List ℕ → List ℕ → Kept
-keeping h ones twos = record { held = h; ones = ones; twos = twos }
+abbrev pub holding : Held → List ℕ → List ℕ → Holding
+holding h ones twos = record { held = h; ones = ones; twos = twos }
 
 -- "the program takes n up to 256"
 abbrev pub mostPlaces : ℕ
@@ -57,7 +52,7 @@ keyHeld h number n k w = heldAtExit (keyRefusal number n k w) (begunHeld number 
 
 -- ---- K: the next row, as the checker stores it
 
-unfoldable pub digitsRefusal : Kept → List ℕ → ℕ
+unfoldable pub digitsRefusal : Holding → List ℕ → ℕ
 digitsRefusal kept digits =
     storeRefusal (kept .held) (keyPart (kept .held) (kept .ones)) (keyPart (kept .held) (kept .twos)) (offeredOnes (rowTrits (kept .held)) digits) (offeredTwos (rowTrits (kept .held)) digits)
 
@@ -65,7 +60,7 @@ digitsRefusal kept digits =
 unfoldable pub rowPlane : ℕ → Held → List ℕ → List ℕ → List ℕ
 rowPlane refusal h plane row = storedPlane refusal h (keyPart h plane) row ++ afterKey h plane
 
-unfoldable pub rowKept : Kept → List ℕ → Kept
+unfoldable pub rowKept : Holding → List ℕ → Holding
 rowKept kept digits = record {
   held = storedHeld (digitsRefusal kept digits) (kept .held);
   ones = rowPlane (digitsRefusal kept digits) (kept .held) (kept .ones) (offeredOnes (rowTrits (kept .held)) digits);
@@ -74,7 +69,7 @@ rowKept kept digits = record {
 
 -- ---- S: the check, as the checker answers it; working space of one row is lent to it
 
-unfoldable pub signAnswer : Kept → ℕ → List ℕ → List ℕ → Checked
+unfoldable pub signAnswer : Holding → ℕ → List ℕ → List ℕ → Checked
 signAnswer kept number y s =
     checkAnswer (kept .held) number (keyPart (kept .held) (kept .ones)) (keyPart (kept .held) (kept .twos))
     (offeredOnes (rowTrits (kept .held)) y) (offeredTwos (rowTrits (kept .held)) y)
@@ -92,13 +87,13 @@ refusalPrints refusal = cond (eqb refusal 0) [] (lineRefused refusal)
 
 -- ---- any line
 
-unfoldable pub linePrints : Kept → Line → List ℕ
+unfoldable pub linePrints : Holding → Line → List ℕ
 linePrints kept noForm = lineRefused 11
 linePrints kept (keyLine number n k w) = refusalPrints (keyRefusal number n k w)
 linePrints kept (rowLine digits) = refusalPrints (digitsRefusal kept digits)
 linePrints kept (signLine number formula y s) = signPrints number formula (signAnswer kept number y s)
 
-unfoldable pub lineKept : Kept → Line → Kept
+unfoldable pub lineKept : Holding → Line → Holding
 lineKept kept noForm = kept
 lineKept kept (keyLine number n k w) = record { held = keyHeld (kept .held) number n k w; ones = kept .ones; twos = kept .twos }
 lineKept kept (rowLine digits) = rowKept kept digits

@@ -5,7 +5,7 @@ ghost use Prim.Native.Nat.{_≤_};
 ghost use lib.ListN.{length, take};
 ghost use Rattle.trits.specs.Rows.{putWords};
 ghost use Rattle.text.specs.Digits.{isDigits};
-ghost use Rattle.oneline.specs.Answer.{keyRefusal, keyHeld, digitsRefusal, rowKept, signAnswer, signPrints, refusalPrints, linePrints, lineKept, readLine, keeping};
+ghost use Rattle.oneline.specs.Answer.{keyRefusal, keyHeld, digitsRefusal, rowKept, signAnswer, signPrints, refusalPrints, linePrints, lineKept, readLine, holding};
 use super::offer::key_words;
 use super::offer::offer;
 use super::offer::row_trits;
@@ -50,8 +50,8 @@ fn begin_key(held: Held, number: u64, n: u64, k: u64, w: u64) -> Changed
 fn store_digits(held: Held, ones: &mut [u64], twos: &mut [u64], digits: &[u8]) -> Changed
     requires { ⌜ isDigits (now digits) ≡ true ⌝ }
     requires { ⌜ (length (now digits) ≤ 1024) × (length (now ones) ≡ 382) × (length (now twos) ≡ 382) ⌝ }
-    ensures { λ r. ⌜ r .refusal ≡ digitsRefusal (keeping held (now (ones .entry)) (now (twos .entry))) (now (digits .entry)) ⌝ }
-    ensures { λ r. ⌜ keeping (r .held) (now (ones .exit)) (now (twos .exit)) ≡ rowKept (keeping held (now (ones .entry)) (now (twos .entry))) (now (digits .entry)) ⌝ }
+    ensures { λ r. ⌜ r .refusal ≡ digitsRefusal (holding held (now (ones .entry)) (now (twos .entry))) (now (digits .entry)) ⌝ }
+    ensures { λ r. ⌜ holding (r .held) (now (ones .exit)) (now (twos .exit)) ≡ rowKept (holding held (now (ones .entry)) (now (twos .entry))) (now (digits .entry)) ⌝ }
 {
     let mut row_ones = [0u64; 16];
     let mut row_twos = [0u64; 16];
@@ -77,7 +77,7 @@ fn check_digits(held: Held, number: u64, ones: &[u64], twos: &[u64], y: &[u8], s
     requires { ⌜ isDigits (now y) ≡ true ⌝ }
     requires { ⌜ isDigits (now s) ≡ true ⌝ }
     requires { ⌜ (length (now y) ≤ 1024) × (length (now s) ≤ 1024) × (length (now ones) ≡ 382) × (length (now twos) ≡ 382) ⌝ }
-    ensures { λ r. ⌜ r ≡ signAnswer (keeping held (now (ones .entry)) (now (twos .entry))) number (now (y .entry)) (now (s .entry)) ⌝ }
+    ensures { λ r. ⌜ r ≡ signAnswer (holding held (now (ones .entry)) (now (twos .entry))) number (now (y .entry)) (now (s .entry)) ⌝ }
 {
     let mut y_ones = [0u64; 16];
     let mut y_twos = [0u64; 16];
@@ -153,9 +153,9 @@ fn handle_row(
 ) -> Handled
     requires { ⌜ isDigits (now digits) ≡ true ⌝ }
     requires { ⌜ (length (now digits) ≤ 1024) × (length (now ones) ≡ 382) × (length (now twos) ≡ 382) × (96 ≤ length (now out)) ⌝ }
-    ensures { λ r. ⌜ keeping (r .held) (now (ones .exit)) (now (twos .exit)) ≡ rowKept (keeping held (now (ones .entry)) (now (twos .entry))) (now (digits .entry)) ⌝ }
-    ensures { λ r. ⌜ r .count ≡ length (refusalPrints (digitsRefusal (keeping held (now (ones .entry)) (now (twos .entry))) (now (digits .entry)))) ⌝ }
-    ensures { λ _. ⌜ now (out .exit) ≡ putWords 0 (now (out .entry)) (refusalPrints (digitsRefusal (keeping held (now (ones .entry)) (now (twos .entry))) (now (digits .entry)))) ⌝ }
+    ensures { λ r. ⌜ holding (r .held) (now (ones .exit)) (now (twos .exit)) ≡ rowKept (holding held (now (ones .entry)) (now (twos .entry))) (now (digits .entry)) ⌝ }
+    ensures { λ r. ⌜ r .count ≡ length (refusalPrints (digitsRefusal (holding held (now (ones .entry)) (now (twos .entry))) (now (digits .entry)))) ⌝ }
+    ensures { λ _. ⌜ now (out .exit) ≡ putWords 0 (now (out .entry)) (refusalPrints (digitsRefusal (holding held (now (ones .entry)) (now (twos .entry))) (now (digits .entry)))) ⌝ }
 {
     let changed = store_digits(held, ones, twos, digits);
     let after = changed.held;
@@ -179,8 +179,8 @@ fn handle_sign(
     requires { ⌜ isDigits (now y) ≡ true ⌝ }
     requires { ⌜ isDigits (now s) ≡ true ⌝ }
     requires { ⌜ (length (now y) ≤ 1024) × (length (now s) ≤ 1024) × (length (now ones) ≡ 382) × (length (now twos) ≡ 382) × (96 ≤ length (now out)) ⌝ }
-    ensures { λ r. ⌜ r ≡ length (signPrints number formula (signAnswer (keeping held (now (ones .entry)) (now (twos .entry))) number (now (y .entry)) (now (s .entry)))) ⌝ }
-    ensures { λ _. ⌜ now (out .exit) ≡ putWords 0 (now (out .entry)) (signPrints number formula (signAnswer (keeping held (now (ones .entry)) (now (twos .entry))) number (now (y .entry)) (now (s .entry)))) ⌝ }
+    ensures { λ r. ⌜ r ≡ length (signPrints number formula (signAnswer (holding held (now (ones .entry)) (now (twos .entry))) number (now (y .entry)) (now (s .entry)))) ⌝ }
+    ensures { λ _. ⌜ now (out .exit) ≡ putWords 0 (now (out .entry)) (signPrints number formula (signAnswer (holding held (now (ones .entry)) (now (twos .entry))) number (now (y .entry)) (now (s .entry)))) ⌝ }
 {
     let checked = check_digits(held, number, ones, twos, y, s);
     print_sign(number, formula, checked, out)
@@ -195,9 +195,9 @@ pub fn handle(
     out: &mut [u8],
 ) -> Handled
     requires { ⌜ (length (now line) ≤ 1024) × (length (now ones) ≡ 382) × (length (now twos) ≡ 382) × (96 ≤ length (now out)) ⌝ }
-    ensures { λ r. ⌜ keeping (r .held) (now (ones .exit)) (now (twos .exit)) ≡ lineKept (keeping held (now (ones .entry)) (now (twos .entry))) (readLine (now (line .entry))) ⌝ }
-    ensures { λ r. ⌜ r .count ≡ length (linePrints (keeping held (now (ones .entry)) (now (twos .entry))) (readLine (now (line .entry)))) ⌝ }
-    ensures { λ _. ⌜ now (out .exit) ≡ putWords 0 (now (out .entry)) (linePrints (keeping held (now (ones .entry)) (now (twos .entry))) (readLine (now (line .entry)))) ⌝ }
+    ensures { λ r. ⌜ holding (r .held) (now (ones .exit)) (now (twos .exit)) ≡ lineKept (holding held (now (ones .entry)) (now (twos .entry))) (readLine (now (line .entry))) ⌝ }
+    ensures { λ r. ⌜ r .count ≡ length (linePrints (holding held (now (ones .entry)) (now (twos .entry))) (readLine (now (line .entry)))) ⌝ }
+    ensures { λ _. ⌜ now (out .exit) ≡ putWords 0 (now (out .entry)) (linePrints (holding held (now (ones .entry)) (now (twos .entry))) (readLine (now (line .entry)))) ⌝ }
 {
     let form = text::forms::read_line(line, 255);
     match form {
@@ -237,9 +237,9 @@ pub fn handle_front(
     out: &mut [u8],
 ) -> Handled
     requires { ⌜ (len ≤ 1024) × (length (now buffer) ≡ 1025) × (length (now ones) ≡ 382) × (length (now twos) ≡ 382) × (96 ≤ length (now out)) ⌝ }
-    ensures { λ r. ⌜ keeping (r .held) (now (ones .exit)) (now (twos .exit)) ≡ lineKept (keeping held (now (ones .entry)) (now (twos .entry))) (readLine (take len (now (buffer .entry)))) ⌝ }
-    ensures { λ r. ⌜ r .count ≡ length (linePrints (keeping held (now (ones .entry)) (now (twos .entry))) (readLine (take len (now (buffer .entry))))) ⌝ }
-    ensures { λ _. ⌜ now (out .exit) ≡ putWords 0 (now (out .entry)) (linePrints (keeping held (now (ones .entry)) (now (twos .entry))) (readLine (take len (now (buffer .entry))))) ⌝ }
+    ensures { λ r. ⌜ holding (r .held) (now (ones .exit)) (now (twos .exit)) ≡ lineKept (holding held (now (ones .entry)) (now (twos .entry))) (readLine (take len (now (buffer .entry)))) ⌝ }
+    ensures { λ r. ⌜ r .count ≡ length (linePrints (holding held (now (ones .entry)) (now (twos .entry))) (readLine (take len (now (buffer .entry))))) ⌝ }
+    ensures { λ _. ⌜ now (out .exit) ≡ putWords 0 (now (out .entry)) (linePrints (holding held (now (ones .entry)) (now (twos .entry))) (readLine (take len (now (buffer .entry))))) ⌝ }
 {
     handle(&buffer[0..len], held, ones, twos, out)
 }

@@ -147,13 +147,13 @@ module _ (z : Sizes) (s : Secret) (p : List ℕ) (y : Vector) (ch : Choices) whe
   abbrev pub startOf : Vector
   startOf = placed p (join (codim z) y zeros)
 
-  abbrev pub wordV : Vector
-  wordV = drawV z s (vOf z s startOf) ch
+  abbrev pub drawnV : Vector
+  drawnV = drawV z s (vOf z s startOf) ch
 
-  abbrev pub wordU : Vector
-  wordU = drawU z s (uOf z s startOf) wordV ch
+  abbrev pub drawnU : Vector
+  drawnU = drawU z s (uOf z s startOf) drawnV ch
 
-  module _ (L R : Vector) (l : L ≡ leftOf s wordU wordV) (r : R ≡ rightOf s wordU wordV) where
+  module _ (L R : Vector) (l : L ≡ leftOf s drawnU drawnV) (r : R ≡ rightOf s drawnU drawnV) where
     -- two rows that hold its halves are written as the word, and from place n-k on as the signature
     written : (from : ℕ) → writtenFrom (half z) L R p from ≡ (λ (j : ℕ). drawn z s p y ch (from + j))
     unfolding drawn
@@ -171,6 +171,6 @@ module _ (z : Sizes) (s : Secret) (p : List ℕ) (y : Vector) (ch : Choices) whe
     unfolding drawn
     drawn-weighs va fv fu o m h =
         let ev = drawV-ends z s ch va fv (vOf z s startOf) in
-        let eu = drawU-ends z s ch va fu (uOf z s startOf) wordV in
+        let eu = drawU-ends z s ch va fu (uOf z s startOf) drawnV in
         ap₂ (λ (a b : Vector). weightV a m + weightV b m) l r
-        ∙ pair-weighs (half z) m p (leftOf s wordU wordV) (rightOf s wordU wordV) o h (left-ends s (half z) wordU wordV eu ev) (right-ends s (half z) wordU wordV eu ev)
+        ∙ pair-weighs (half z) m p (leftOf s drawnU drawnV) (rightOf s drawnU drawnV) o h (left-ends s (half z) drawnU drawnV eu ev) (right-ends s (half z) drawnU drawnV eu ev)

@@ -10,17 +10,17 @@ use Rattle.signer.specs.Sizes.{half, dim, ru, rv, codim}
 use Rattle.signer.specs.Secret.{Secret}
 use Rattle.signer.specs.Build.{buildRefusal}
 use Rattle.calls.specs.Lent.{halfWords}
-use Rattle.calls.specs.BuildCall.{keyWords, workWords}
+use Rattle.calls.specs.BuildCall.{keyRowWords, buildWorkWords}
 use Rattle.calls.proofs.Bounds.{Bounds, prod, words}
 
 -- no product of sizes is large, and each matrix has room in the working space
 pub record Products (z : Sizes) : Type 0 where
   pub u : ru z * halfWords z ≤ 1048576
   pub v : rv z * halfWords z ≤ 1048576
-  pub key : dim z * keyWords z ≤ 4194304
-  pub work : workWords z ≤ 4194304
-  pub u-room : ru z * halfWords z ≤ workWords z
-  pub v-room : rv z * halfWords z ≤ workWords z
+  pub key : dim z * keyRowWords z ≤ 4194304
+  pub work : buildWorkWords z ≤ 4194304
+  pub u-room : ru z * halfWords z ≤ buildWorkWords z
+  pub v-room : rv z * halfWords z ≤ buildWorkWords z
 
 pub products : (z : Sizes) → Bounds z → Products z
 products z b =
@@ -29,12 +29,12 @@ products z b =
     let hu = b .ku in
     let hv = b .kv in
     let m = words z b in
-    let f : workWords z ≡ codim z * halfWords z + codim z * halfWords z = mul-add (codim z) (halfWords z) (halfWords z) in
+    let f : buildWorkWords z ≡ codim z * halfWords z + codim z * halfWords z = mul-add (codim z) (halfWords z) (halfWords z) in
     let e : codim z * halfWords z ≡ ru z * halfWords z + rv z * halfWords z = add-mul (ru z) (rv z) (halfWords z) in
     record {
       u = m .u;
       v = m .v;
-      key = prod (dim z) (keyWords z) 16384 256 (omega arith) (omega arith);
+      key = prod (dim z) (keyRowWords z) 16384 256 (omega arith) (omega arith);
       work = prod (codim z) (halfWords z + halfWords z) 16384 256 (omega arith) (omega arith);
       u-room = omega (arith, e, f);
       v-room = omega (arith, e, f);

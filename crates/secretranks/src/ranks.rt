@@ -10,7 +10,7 @@ ghost use Rattle.elimination.specs.Grid.{Rows};
 ghost use Rattle.signer.specs.Sizes.{sizesFit, ru, rv};
 ghost use Rattle.signer.specs.Build.{buildRefusal};
 ghost use Rattle.calls.specs.Lent.{halfWords};
-ghost use Rattle.calls.specs.BuildCall.{workWords};
+ghost use Rattle.calls.specs.BuildCall.{buildWorkWords};
 ghost use Rattle.secretranks.specs.Matrices.{matrices};
 use signer::sizes::Sizes;
 use trits::refusal::Outcome;
@@ -76,7 +76,7 @@ pub fn test_ranks(
     requires { ⌜ sizesFit z ≡ true ⌝ }
     requires { ⌜ Rows (now «hu_ones») (now «hu_twos») (ru z) (halfWords z) ⌝ }
     requires { ⌜ Rows (now «hv_ones») (now «hv_twos») (rv z) (halfWords z) ⌝ }
-    requires { ⌜ (length (now «work_ones») ≡ workWords z) × (length (now «work_twos») ≡ workWords z) ⌝ }
+    requires { ⌜ (length (now «work_ones») ≡ buildWorkWords z) × (length (now «work_twos») ≡ buildWorkWords z) ⌝ }
     ensures { λ r. ⌜ codeOf r ≡ buildRefusal z (matrices z (now («hu_ones» .entry)) (now («hu_twos» .entry)) (now («hv_ones» .entry)) (now («hv_twos» .entry))) ⌝ }
 {
     let half = z.n as usize / 2;

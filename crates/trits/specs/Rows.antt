@@ -1,11 +1,16 @@
 -- The rows of a matrix in two planes, one after another, each beginning a new word ("Trits in words and bytes"). Assumes nothing.
 use mathlib.Core.Bool.{Bool, _&&_, cond}
 use mathlib.Core.List.{List, [], _++_}
-use Prim.Native.Nat.{ℕ, _+_, _*_}
+use Prim.Native.Nat.{ℕ, zero, suc, _+_, _*_}
 use lib.Dec.{eqb, ltb}
 use lib.ListN.{length, take, drop}
 use Rattle.trits.specs.Trit.{Trit, t0, anyTo}
 use Rattle.trits.specs.Planes.{tritAt, wordsFor, pastEnd}
+
+-- the words of k rows, one after another: f 0, f 1, .. f (k - 1)
+unfoldable pub rowsOf : (ℕ → List ℕ) → ℕ → List ℕ
+rowsOf f zero = []
+rowsOf f (suc k) = rowsOf f k ++ f k
 
 -- row i of a plane of `rows` rows of w words each is that stretch of its words; for no such row, or words of a wrong length, the stretch is empty
 unfoldable pub rowPart : List ℕ → ℕ → ℕ → ℕ → List ℕ

@@ -9,7 +9,7 @@ use lib.Dec.{ltb}
 use Rattle.trits.specs.Trit.{Trit, addT, subT, mulT, nonZero, dotV, weightV}
 use Rattle.trits.proofs.Arithmetic.{law2}
 use Rattle.trits.proofs.Counts.{sum-cong}
-use Rattle.verdict.specs.Verdict.{Key, timesKey, fullWord, fullWeight, saysYes, syndrome, HasSyndrome, Extends}
+use Rattle.verdict.specs.Verdict.{Key, timesKey, fullWord, fullWeight, saysYes, syndrome, HasSyndrome, Extends, Extending, Found}
 
 -- s·R-transposed reads k trits of s and k rows
 pub times-key-cong : (k : ℕ) (R Q : Key) (s t : ℕ → Trit) (j : ℕ) → ((i : ℕ) → i < k → s i ≡ t i) → ((i : ℕ) → i < k → R i j ≡ Q i j) → timesKey k R s j ≡ timesKey k Q t j
@@ -77,13 +77,13 @@ module _ (m k : ℕ) (R : Key) (y s : ℕ → Trit) where
   yes-weight w = (eqb-true (fullWeight m k R y s) w, eq-eqb (fullWeight m k R y s) w)
 
   -- yes exactly when some word of weight w that has the syndrome extends s
-  pub verifier : (w : ℕ) → (saysYes m k w R y s ≡ true) ↔ ((e : ℕ → Trit) × (weightV e (m + k) ≡ w) × HasSyndrome m k R e y × Extends m k e s)
+  pub verifier : (w : ℕ) → (saysYes m k w R y s ≡ true) ↔ Found m k w R y s
   unfolding fullWeight
   verifier w = (
-    (λ h. (fullWord m k R y s, yes-weight w .0 h, full-syndrome, full-extends)),
-    λ (e, h, a, b). yes-weight w .1 (weight-of e a b ∙ h),
+    (λ h. record { word = fullWord m k R y s; weighs = yes-weight w .0 h; extending = record { has-syndrome = full-syndrome; extends = full-extends } }),
+    λ f. yes-weight w .1 (weight-of (f .word) (f .extending .has-syndrome) (f .extending .extends) ∙ f .weighs),
   )
 
   -- no two words of one syndrome extend the same signature
-  pub extends-once : (e f : ℕ → Trit) → HasSyndrome m k R e y → Extends m k e s → HasSyndrome m k R f y → Extends m k f s → (q : ℕ) → q < m + k → e q ≡ f q
-  extends-once e f a b c d q h = full-unique e a b q h ∙ sym (full-unique f c d q h)
+  pub extends-once : (e f : ℕ → Trit) → Extending m k R y s e → Extending m k R y s f → (q : ℕ) → q < m + k → e q ≡ f q
+  extends-once e f a b q h = full-unique e (a .has-syndrome) (a .extends) q h ∙ sym (full-unique f (b .has-syndrome) (b .extends) q h)

@@ -36,3 +36,14 @@ HasSyndrome m k R e y = (j : ℕ) → j < m → syndrome m k R e j ≡ y j
 -- the word e extends the signature s: s is its last k trits
 abbrev pub Extends : ℕ → ℕ → (ℕ → Trit) → (ℕ → Trit) → Type 0
 Extends m k e s = (i : ℕ) → i < k → e (m + i) ≡ s i
+
+-- it has the syndrome y and extends s
+pub record Extending (m k : ℕ) (R : Key) (y s e : ℕ → Trit) : Type 0 where
+  pub has-syndrome : HasSyndrome m k R e y
+  pub extends : Extends m k e s
+
+-- some word of weight w, of n = m + k trits, does
+pub record Found (m k w : ℕ) (R : Key) (y s : ℕ → Trit) : Type 0 where
+  pub word : ℕ → Trit
+  pub weighs : weightV word (m + k) ≡ w
+  pub extending : Extending m k R y s word

@@ -25,11 +25,11 @@ use Rattle.matrix.proofs.Field.{not-false}
 use Rattle.matrix.proofs.Places.{or-false-left, or-false-right}
 use Rattle.verdict.specs.Verdict.{Key, fullWeight}
 use Rattle.verdict.proofs.FullWord.{weight-cong, weight-of}
-use Rattle.heldkey.specs.Held.{sizesFit as heldFits}
+use Rattle.heldkey.specs.Held.{numbersFit}
 use Rattle.heldkey.specs.declared.state.Held.{Held}
 use Rattle.checking.specs.declared.Checked.{Checked}
 use Rattle.heldkey.specs.Held.{rowTrits}
-use Rattle.heldkey.specs.Load.{Kept, offerAll}
+use Rattle.heldkey.specs.Load.{Holding, offerAll}
 use Rattle.checking.specs.Check.{callRefusal, planesLengths, planesContents, checkRefusal, checkPackedRefusal, answered, checkPackedAnswer}
 use Rattle.checking.proofs.Passed.{check-packed-passed, packed-contents}
 use Rattle.checker.proofs.EndToEnd.{begun, offered, loaded}
@@ -40,9 +40,9 @@ use Rattle.signer.specs.Build.{keyRow}
 use Rattle.signer.specs.Draw.{signature}
 use Rattle.signer.proofs.Ranges.{sizes-fit, codim-dim}
 use Rattle.calls.specs.Lent.{secretOf, pairDiffers}
-use Rattle.calls.specs.BuildCall.{Lent as Build, keyWords, keyOnesExit, keyTwosExit}
-use Rattle.calls.specs.DrawCall.{Lent as Draw, choicesDiffer, lengthsDiffer, drawAnswer, wordOf, sOnesExit, sTwosExit}
-use Rattle.wave.specs.Demand.{Built, builtKey, sized, Under, KeyTerms}
+use Rattle.calls.specs.BuildCall.{BuildCall, keyRowWords, keyOnesExit, keyTwosExit}
+use Rattle.calls.specs.DrawCall.{DrawCall, choicesDiffer, lengthsDiffer, drawAnswer, wordOf, sOnesExit, sTwosExit}
+use Rattle.wave.specs.Terms.{Built, builtKey, sized, Under, KeyTerms}
 use Rattle.wave.specs.Verifier.{verdict, packedVerdict, Host, packedKeyRow, carried, carriedCheck, carriedPlanes, yes}
 use Rattle.wave.proofs.Written.{written-passes}
 use Rattle.wave.proofs.Passed.{differs, DrawPassed, draw-call}
@@ -68,8 +68,8 @@ ended ones twos m e lo lt =
 -- ---- sizes
 
 -- those of a draw are those of a key
-fits-held : (z : Sizes) (number : ℕ) → sizesFit z ≡ true → number ≤ 255 → heldFits number (z .n) (dim z) (z .w) ≡ true
-unfolding sizesFit heldFits
+fits-held : (z : Sizes) (number : ℕ) → sizesFit z ≡ true → number ≤ 255 → numbersFit number (z .n) (dim z) (z .w) ≡ true
+unfolding sizesFit numbersFit
 fits-held z number h l =
     let a = and-eq-true-iff (leb 4 (z .n)) _ .0 h in
     let b = and-eq-true-iff (leb (z .n) 16384) _ .0 (a .1) in
@@ -92,14 +92,14 @@ both-lengths : (m a b : ℕ) → pairDiffers m a b ≡ false → (a ≡ m) × (b
 both-lengths m a b e =
     (eqb-true a m (not-false (eqb a m) (or-false-left (not (eqb a m)) (not (eqb b m)) e)), eqb-true b m (not-false (eqb b m) (or-false-right (not (eqb a m)) (not (eqb b m)) e)))
 
-y-lengths : (z : Sizes) (l : Draw) → lengthsDiffer z l ≡ false → (length (l .yOnes) ≡ wordsFor (codim z)) × (length (l .yTwos) ≡ wordsFor (codim z))
+y-lengths : (z : Sizes) (l : DrawCall) → lengthsDiffer z l ≡ false → (length (l .yOnes) ≡ wordsFor (codim z)) × (length (l .yTwos) ≡ wordsFor (codim z))
 unfolding lengthsDiffer choicesDiffer
 y-lengths z l e =
     let a = or-false-right (differs z (l .secret)) _ e in
     let b = or-false-right (not (eqb (length (l .p)) (places z))) _ a in
     both-lengths (wordsFor (codim z)) (length (l .yOnes)) (length (l .yTwos)) (or-false-left (pairDiffers (wordsFor (codim z)) (length (l .yOnes)) (length (l .yTwos))) _ b)
 
-module _ (z : Sizes) (i : Build) (b : Built z i) (g w : ℕ) (l : Draw) (u : Under z i l) (d : drawAnswer (sized z g w) l ≡ 0) (m : Host z) where
+module _ (z : Sizes) (i : BuildCall) (b : Built z i) (g w : ℕ) (l : DrawCall) (u : Under z i l) (d : drawAnswer (sized z g w) l ≡ 0) (m : Host z) where
   abbrev Z : Sizes
   Z = sized z g w
 
@@ -124,8 +124,8 @@ module _ (z : Sizes) (i : Build) (b : Built z i) (g w : ℕ) (l : Draw) (u : Und
   unfolding builtKey
   row-is j h =
       let v : Vector = upTo (codim z) (keyRow z (secretOf z (i .secret)) (i .start) j) in
-      pack-writes (codim z) (rowPart (keyOnesExit z i) (dim z) (keyWords z) j) (rowPart (keyTwosExit z i) (dim z) (keyWords z) j) (m .rowBytes j) few-codim
-      (ap length (sym (ones-row z i b j h)) ∙ length-ones v (keyWords z)) (ap length (sym (twos-row z i b j h)) ∙ length-twos v (keyWords z)) (m .row-bytes-size j h)
+      pack-writes (codim z) (rowPart (keyOnesExit z i) (dim z) (keyRowWords z) j) (rowPart (keyTwosExit z i) (dim z) (keyRowWords z) j) (m .rowBytes j) few-codim
+      (ap length (sym (ones-row z i b j h)) ∙ length-ones v (keyRowWords z)) (ap length (sym (twos-row z i b j h)) ∙ length-twos v (keyRowWords z)) (m .row-bytes-size j h)
       (ap₂ (λ (x y : List ℕ). planesRefusal x y 1 (codim z)) (sym (ones-row z i b j h)) (sym (twos-row z i b j h)) ∙ written-passes (codim z) (keyRow z (secretOf z (i .secret)) (i .start) j))
 
   row-size : (j : ℕ) → j < dim z → length (packedKeyRow z i m j) ≡ bytesFor (z .n - dim z)
@@ -207,7 +207,7 @@ module _ (z : Sizes) (i : Build) (b : Built z i) (g w : ℕ) (l : Draw) (u : Und
   abbrev H : Held
   H = record { begun = 1; number = m .number; n = z .n; k = dim z; w = w; rows = dim z }
 
-  abbrev key : Kept
+  abbrev key : Holding
   key = carried z i w m
 
   held-is : key .held ≡ H

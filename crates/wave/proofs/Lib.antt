@@ -1,4 +1,5 @@
--- The theorems: the syndrome and the secret matrix, what draws reach over vectors and over calls, the verifier, end to end; demand 3 whole; last, the starred cases.
+-- The theorems: first, cases beside the stars; the syndrome and the secret matrix, what draws reach over vectors and over calls, the verifier, end to end; demand 3 whole; last, the starred cases.
+pub mod Beside
 pub mod Syndrome
 pub mod Reach
 pub mod Verifier
@@ -9,5 +10,4 @@ pub mod ReachCalls
 pub mod Checks
 pub mod EndToEnd
 pub mod Demands
-pub mod Cases
-pub mod CallCases
+pub mod Starred

@@ -18,8 +18,8 @@ use Rattle.signer.specs.Secret.{noZero}
 use Rattle.signer.specs.Build.{buildFits, buildRefusal}
 use Rattle.signer.specs.Draw.{choicesFit, drawRefusal}
 use Rattle.calls.specs.Lent.{Planes, secretOf, pairDiffers, secretDiffers, hasZero, secretRefusal}
-use Rattle.calls.specs.BuildCall.{Lent as Build, lengthsDiffer as buildLengths, buildAnswer}
-use Rattle.calls.specs.DrawCall.{Lent as Draw, syndromeOf, choicesOf, workWords, choicesDiffer, lengthsDiffer as drawLengths, choicesRefusal, drawAnswer}
+use Rattle.calls.specs.BuildCall.{BuildCall, lengthsDiffer as buildLengths, buildAnswer}
+use Rattle.calls.specs.DrawCall.{DrawCall, syndromeOf, choicesOf, drawWorkWords, choicesDiffer, lengthsDiffer as drawLengths, choicesRefusal, drawAnswer}
 
 -- a trit that is 0 is there, or none is
 pub zero-none : (m : ℕ) (v : Vector) → hasZero m v ≡ false → noZero m v ≡ true
@@ -53,14 +53,14 @@ secret-unit z k e =
 
 -- ---- a build
 
-pub record BuildPassed (z : Sizes) (i : Build) : Type 0 where
+pub record BuildPassed (z : Sizes) (i : BuildCall) : Type 0 where
   pub sizes : sizesFit z ≡ true
   pub lengths : differs z (i .secret) ≡ false
   pub contents : secretRefusal z (i .secret) ≡ 0
   pub start : isOrder (places z) (i .start) ≡ true
   pub ranks : buildRefusal z (secretOf z (i .secret)) ≡ 0
 
-pub build-call : (z : Sizes) (i : Build) → buildAnswer z i ≡ 0 → BuildPassed z i
+pub build-call : (z : Sizes) (i : BuildCall) → buildAnswer z i ≡ 0 → BuildPassed z i
 unfolding buildAnswer buildLengths
 build-call z i e =
     let a = passed-demand (sizesFit z) 1 _ (lit< tt) e in
@@ -70,13 +70,13 @@ build-call z i e =
     record { sizes = a .0; lengths = or-false-left (differs z (i .secret)) _ (b .0); contents = c .0; start = d .0; ranks = d .1 }
 
 -- what it was given is in order
-pub build-fits : (z : Sizes) (i : Build) → BuildPassed z i → buildFits z (secretOf z (i .secret)) (i .start) ≡ true
+pub build-fits : (z : Sizes) (i : BuildCall) → BuildPassed z i → buildFits z (secretOf z (i .secret)) (i .start) ≡ true
 unfolding buildFits
 build-fits z i p = rw (p .sizes, secret-unit z (i .secret) (p .contents), p .start)
 
 -- ---- a draw
 
-pub record DrawPassed (z : Sizes) (l : Draw) : Type 0 where
+pub record DrawPassed (z : Sizes) (l : DrawCall) : Type 0 where
   pub sizes : sizesFit z ≡ true
   pub lengths : drawLengths z l ≡ false
   pub contents : secretRefusal z (l .secret) ≡ 0
@@ -89,7 +89,7 @@ pub record DrawPassed (z : Sizes) (l : Draw) : Type 0 where
   pub last-u : hasZero (z .ku - gapU z) (λ j. tritAt (l .uOnes) (l .uTwos) (gapU z + j)) ≡ false
   pub draws : drawRefusal z (secretOf z (l .secret)) (l .p) (syndromeOf l) (choicesOf l) ≡ 0
 
-pub draw-call : (z : Sizes) (l : Draw) → drawAnswer z l ≡ 0 → DrawPassed z l
+pub draw-call : (z : Sizes) (l : DrawCall) → drawAnswer z l ≡ 0 → DrawPassed z l
 unfolding drawAnswer choicesRefusal
 draw-call z l e =
     let a = passed-demand (sizesFit z) 1 _ (lit< tt) e in
@@ -118,13 +118,13 @@ draw-call z l e =
     }
 
 -- and the other way
-pub call-draws : (z : Sizes) (l : Draw) → DrawPassed z l → drawAnswer z l ≡ 0
+pub call-draws : (z : Sizes) (l : DrawCall) → DrawPassed z l → drawAnswer z l ≡ 0
 unfolding drawAnswer choicesRefusal first
 call-draws z l p =
     rw (p .sizes, p .lengths, p .contents, p .order, p .syndrome, p .order-v, p .trits-v, p .order-u, p .values-u, p .last-u) (p .draws)
 
 -- the choices are in order
-pub choices-fit : (z : Sizes) (l : Draw) → DrawPassed z l → choicesFit z (choicesOf l) ≡ true
+pub choices-fit : (z : Sizes) (l : DrawCall) → DrawPassed z l → choicesFit z (choicesOf l) ≡ true
 unfolding choicesFit
 choices-fit z l p = rw (p .order-v, p .order-u, zero-none (z .ku - gapU z) (λ j. tritAt (l .uOnes) (l .uTwos) (gapU z + j)) (p .last-u))
 
@@ -136,7 +136,7 @@ same-pair m a b p q = rw (eq-eqb a m p, eq-eqb b m q)
 pub choices-same : (z : Sizes) {p y1 y2 ov v1 v2 ou u1 u2 e1 e2 s1 s2 w1 w2 : ℕ}
     → p ≡ places z → y1 ≡ wordsFor (codim z) → y2 ≡ wordsFor (codim z) → ov ≡ half z → v1 ≡ wordsFor (z .kv) → v2 ≡ wordsFor (z .kv)
     → ou ≡ half z → u1 ≡ wordsFor (z .ku) → u2 ≡ wordsFor (z .ku) → e1 ≡ wordsFor (places z) → e2 ≡ wordsFor (places z)
-    → s1 ≡ wordsFor (dim z) → s2 ≡ wordsFor (dim z) → w1 ≡ workWords z → w2 ≡ workWords z
+    → s1 ≡ wordsFor (dim z) → s2 ≡ wordsFor (dim z) → w1 ≡ drawWorkWords z → w2 ≡ drawWorkWords z
     → choicesDiffer z p y1 y2 ov v1 v2 ou u1 u2 e1 e2 s1 s2 w1 w2 ≡ false
 unfolding choicesDiffer
 choices-same z {p} {y1} {y2} {ov} {v1} {v2} {ou} {u1} {u2} {e1} {e2} {s1} {s2} {w1} {w2} ep ey1 ey2 eov ev1 ev2 eou eu1 eu2 ee1 ee2 es1 es2 ew1 ew2 =
@@ -148,11 +148,11 @@ choices-same z {p} {y1} {y2} {ov} {v1} {v2} {ou} {u1} {u2} {e1} {e2} {s1} {s2} {
       same-pair (wordsFor (z .ku)) u1 u2 eu1 eu2,
       same-pair (wordsFor (places z)) e1 e2 ee1 ee2,
       same-pair (wordsFor (dim z)) s1 s2 es1 es2,
-      same-pair (workWords z) w1 w2 ew1 ew2,
+      same-pair (drawWorkWords z) w1 w2 ew1 ew2,
     )
 
 -- every length of a draw
-pub lengths-same : (z : Sizes) (l : Draw) → differs z (l .secret) ≡ false
+pub lengths-same : (z : Sizes) (l : DrawCall) → differs z (l .secret) ≡ false
     → choicesDiffer z (length (l .p)) (length (l .yOnes)) (length (l .yTwos)) (length (l .orderV)) (length (l .vOnes)) (length (l .vTwos)) (length (l .orderU)) (length (l .uOnes)) (length (l .uTwos))
     (length (l .wordOnes)) (length (l .wordTwos)) (length (l .sOnes)) (length (l .sTwos)) (length (l .workOnes)) (length (l .workTwos)) ≡ false
     → drawLengths z l ≡ false

@@ -30,7 +30,7 @@ use Rattle.signer.specs.Draw.{Choices, placed, pivotsV, suppliedV, drawV, first
 use Rattle.signer.proofs.Pairs.{pair-left, pair-right, pair-forced, join-low, join-high, secret-u, secret-v, whole-u, whole-v, by-rows}
 use Rattle.signer.proofs.Ranges.{sizes-fit, codim-dim, Builds, build-passed, build-ends}
 use Rattle.signer.proofs.Draws.{Valid, choices-valid, valid-choices, Passes, passes-released, released-passes, parts, first-below, either-part, keptV, keptU, drawV-good, drawU-good, last-below, last-pair}
-use Rattle.wave.specs.Demand.{sized, Terms}
+use Rattle.wave.specs.Terms.{sized, Terms}
 use Rattle.wave.specs.Vectors.{Released, Releases}
 use Rattle.wave.proofs.Syndrome.{syndrome-iff}
 

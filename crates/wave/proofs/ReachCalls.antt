@@ -29,9 +29,9 @@ use Rattle.signer.proofs.Pairs.{zero-no}
 use Rattle.signer.proofs.Ranges.{sizes-fit}
 use Rattle.signer.proofs.Draws.{Valid}
 use Rattle.calls.specs.Lent.{secretOf, secretDiffers, secretRefusal}
-use Rattle.calls.specs.BuildCall.{Lent as Build, keyWords, orderExit, keyOnesOf, keyTwosOf, keyOnesExit, keyTwosExit}
-use Rattle.calls.specs.DrawCall.{Lent as Draw, choicesOf, workWords, lengthsDiffer, drawAnswer, wordOf, wordOnesExit, wordTwosExit, sOnesExit, sTwosExit}
-use Rattle.wave.specs.Demand.{Built, builtKey, sized, LentSyndrome, Under, HandsOut, Bits, SomeDraw, KeyTerms}
+use Rattle.calls.specs.BuildCall.{BuildCall, keyRowWords, orderExit, keyOnesOf, keyTwosOf, keyOnesExit, keyTwosExit}
+use Rattle.calls.specs.DrawCall.{DrawCall, choicesOf, drawWorkWords, lengthsDiffer, drawAnswer, wordOf, wordOnesExit, wordTwosExit, sOnesExit, sTwosExit}
+use Rattle.wave.specs.Terms.{Built, builtKey, sized, LentSyndrome, LentAs, Under, HandsOut, Bits, SomeDraw, KeyTerms}
 use Rattle.wave.specs.Vectors.{Released, Releases}
 use Rattle.wave.proofs.Written.{written-back, written-passes, ones-words, twos-words, zero-words, rows-part}
 use Rattle.wave.proofs.Cut.{cut, cut-valid, cut-passed, cut-word}
@@ -41,21 +41,21 @@ use Rattle.wave.proofs.Reach.{reach}
 
 -- ---- a build that is not refused released its p and its key, as the words lent back say
 
-module _ (z : Sizes) (i : Build) (b : Built z i) where
+module _ (z : Sizes) (i : BuildCall) (b : Built z i) where
   abbrev s : Secret
   s = secretOf z (i .secret)
 
-  pub ones-row : (j : ℕ) → j < dim z → onesOf (upTo (codim z) (keyRow z (secretOf z (i .secret)) (i .start) j)) (keyWords z) ≡ rowPart (keyOnesExit z i) (dim z) (keyWords z) j
+  pub ones-row : (j : ℕ) → j < dim z → onesOf (upTo (codim z) (keyRow z (secretOf z (i .secret)) (i .start) j)) (keyRowWords z) ≡ rowPart (keyOnesExit z i) (dim z) (keyRowWords z) j
   unfolding keyOnesExit keyOnesOf
   ones-row j l =
-      sym (ap (λ (x : List ℕ). rowPart x (dim z) (keyWords z) j) (sym (exit-new (keyOnesOf z s (i .start)) (i .keyOnes) b))
-      ∙ rows-part (λ k. onesOf (upTo (codim z) (keyRow z s (i .start) k)) (keyWords z)) (keyWords z) (λ k. length-ones (upTo (codim z) (keyRow z s (i .start) k)) (keyWords z)) (dim z) j l)
+      sym (ap (λ (x : List ℕ). rowPart x (dim z) (keyRowWords z) j) (sym (exit-new (keyOnesOf z s (i .start)) (i .keyOnes) b))
+      ∙ rows-part (λ k. onesOf (upTo (codim z) (keyRow z s (i .start) k)) (keyRowWords z)) (keyRowWords z) (λ k. length-ones (upTo (codim z) (keyRow z s (i .start) k)) (keyRowWords z)) (dim z) j l)
 
-  pub twos-row : (j : ℕ) → j < dim z → twosOf (upTo (codim z) (keyRow z (secretOf z (i .secret)) (i .start) j)) (keyWords z) ≡ rowPart (keyTwosExit z i) (dim z) (keyWords z) j
+  pub twos-row : (j : ℕ) → j < dim z → twosOf (upTo (codim z) (keyRow z (secretOf z (i .secret)) (i .start) j)) (keyRowWords z) ≡ rowPart (keyTwosExit z i) (dim z) (keyRowWords z) j
   unfolding keyTwosExit keyTwosOf
   twos-row j l =
-      sym (ap (λ (x : List ℕ). rowPart x (dim z) (keyWords z) j) (sym (exit-new (keyTwosOf z s (i .start)) (i .keyTwos) b))
-      ∙ rows-part (λ k. twosOf (upTo (codim z) (keyRow z s (i .start) k)) (keyWords z)) (keyWords z) (λ k. length-twos (upTo (codim z) (keyRow z s (i .start) k)) (keyWords z)) (dim z) j l)
+      sym (ap (λ (x : List ℕ). rowPart x (dim z) (keyRowWords z) j) (sym (exit-new (keyTwosOf z s (i .start)) (i .keyTwos) b))
+      ∙ rows-part (λ k. twosOf (upTo (codim z) (keyRow z s (i .start) k)) (keyRowWords z)) (keyRowWords z) (λ k. length-twos (upTo (codim z) (keyRow z s (i .start) k)) (keyRowWords z)) (dim z) j l)
 
   -- a row of the key's words is a row of R, and 0 past it
   pub built-row : (j : ℕ) → j < dim z → builtKey z i j ≡ upTo (codim z) (keyRow z (secretOf z (i .secret)) (i .start) j)
@@ -76,13 +76,13 @@ module _ (z : Sizes) (i : Build) (b : Built z i) where
 -- ---- from a call to vectors
 
 -- the word lent back is the word drawn
-pub handed-word : (z : Sizes) (l : Draw) → drawAnswer z l ≡ 0 → tritAt (wordOnesExit z l) (wordTwosExit z l) ≡ upTo (places z) (wordOf z l)
+pub handed-word : (z : Sizes) (l : DrawCall) → drawAnswer z l ≡ 0 → tritAt (wordOnesExit z l) (wordTwosExit z l) ≡ upTo (places z) (wordOf z l)
 unfolding wordOnesExit wordTwosExit
 handed-word z l d =
     ap₂ tritAt (sym (exit-new (onesOf (upTo (places z) (wordOf z l)) (wordsFor (places z))) (l .wordOnes) d)) (sym (exit-new (twosOf (upTo (places z) (wordOf z l)) (wordsFor (places z))) (l .wordTwos) d))
     ∙ written-back (places z) (wordOf z l)
 
-call-releases : (z : Sizes) (l : Draw) (e : Vector) → HandsOut z l e → Releases z (secretOf z (l .secret)) (l .p) (tritAt (l .yOnes) (l .yTwos)) e
+call-releases : (z : Sizes) (l : DrawCall) (e : Vector) → HandsOut z l e → Releases z (secretOf z (l .secret)) (l .p) (tritAt (l .yOnes) (l .yTwos)) e
 unfolding wordOf
 call-releases z l e h =
     let p = draw-call z l (h .passed) in
@@ -94,26 +94,26 @@ call-releases z l e h =
     }
 
 -- under a build's secret and p
-pub under-releases : (z : Sizes) (i : Build) (g w : ℕ) (l : Draw) (e : Vector) → Under z i l → HandsOut (sized z g w) l e
+pub under-releases : (z : Sizes) (i : BuildCall) (g w : ℕ) (l : DrawCall) (e : Vector) → Under z i l → HandsOut (sized z g w) l e
     → Releases (sized z g w) (secretOf z (i .secret)) (orderExit z i) (tritAt (l .yOnes) (l .yTwos)) e
 under-releases z i g w l e u h =
     subst (λ k. Releases (sized z g w) (secretOf z k) (orderExit z i) (tritAt (l .yOnes) (l .yTwos)) e) (u .secret-is)
     (subst (λ (p : List ℕ). Releases (sized z g w) (secretOf z (l .secret)) p (tritAt (l .yOnes) (l .yTwos)) e) (u .order-is) (call-releases (sized z g w) l e h))
 
 -- and s lent back is its last k trits
-pub handed-ones : (z : Sizes) (l : Draw) → drawAnswer z l ≡ 0 → sOnesExit z l ≡ onesOf (upTo (dim z) (signature z (wordOf z l))) (wordsFor (dim z))
+pub handed-ones : (z : Sizes) (l : DrawCall) → drawAnswer z l ≡ 0 → sOnesExit z l ≡ onesOf (upTo (dim z) (signature z (wordOf z l))) (wordsFor (dim z))
 unfolding sOnesExit
 handed-ones z l d = sym (exit-new (onesOf (upTo (dim z) (signature z (wordOf z l))) (wordsFor (dim z))) (l .sOnes) d)
 
-pub handed-twos : (z : Sizes) (l : Draw) → drawAnswer z l ≡ 0 → sTwosExit z l ≡ twosOf (upTo (dim z) (signature z (wordOf z l))) (wordsFor (dim z))
+pub handed-twos : (z : Sizes) (l : DrawCall) → drawAnswer z l ≡ 0 → sTwosExit z l ≡ twosOf (upTo (dim z) (signature z (wordOf z l))) (wordsFor (dim z))
 unfolding sTwosExit
 handed-twos z l d = sym (exit-new (twosOf (upTo (dim z) (signature z (wordOf z l))) (wordsFor (dim z))) (l .sTwos) d)
 
-pub handed-signature : (z : Sizes) (l : Draw) → drawAnswer z l ≡ 0 → tritAt (sOnesExit z l) (sTwosExit z l) ≡ upTo (dim z) (signature z (wordOf z l))
+pub handed-signature : (z : Sizes) (l : DrawCall) → drawAnswer z l ≡ 0 → tritAt (sOnesExit z l) (sTwosExit z l) ≡ upTo (dim z) (signature z (wordOf z l))
 handed-signature z l d = ap₂ tritAt (handed-ones z l d) (handed-twos z l d) ∙ written-back (dim z) (signature z (wordOf z l))
 
 -- the terms hold of the word that a draw under a built key made
-pub drawn-terms : (z : Sizes) (i : Build) → Built z i → (g w : ℕ) (l : Draw) → Under z i l → drawAnswer (sized z g w) l ≡ 0 → KeyTerms z i g w (l .yOnes) (l .yTwos) (wordOf (sized z g w) l)
+pub drawn-terms : (z : Sizes) (i : BuildCall) → Built z i → (g w : ℕ) (l : DrawCall) → Under z i l → drawAnswer (sized z g w) l ≡ 0 → KeyTerms z i g w (l .yOnes) (l .yTwos) (wordOf (sized z g w) l)
 drawn-terms z i b g w l u d =
     let e = wordOf (sized z g w) l in
     reach z (secretOf z (i .secret)) (i .start) (orderExit z i) (builtKey z i) (built-released z i b) g w (draw-call (sized z g w) l d .sizes) (tritAt (l .yOnes) (l .yTwos)) e .0
@@ -134,7 +134,7 @@ order-words n ps o h j = by (decLt j (length ps))
     by (yes l) = let b = order-good n ps o .1 (getD ps j 0) (elem-at ps j l) in omega arith
     by (no f) = let e : getD ps j 0 ≡ 0 = List·getD-eq-default ps 0 (omega arith) in rw e (lit< tt)
 
-module _ (z : Sizes) (i : Build) (b : Built z i) (g w : ℕ) (fit : sizesFit (sized z g w) ≡ true) (yOnes yTwos : List ℕ) (ly : LentSyndrome z yOnes yTwos) (e : Vector)
+module _ (z : Sizes) (i : BuildCall) (b : Built z i) (g w : ℕ) (fit : sizesFit (sized z g w) ≡ true) (yOnes yTwos : List ℕ) (ly : LentSyndrome z yOnes yTwos) (e : Vector)
     (re : Releases (sized z g w) (secretOf z (i .secret)) (orderExit z i) (tritAt yOnes yTwos) e) where
   abbrev Z : Sizes
   Z = sized z g w
@@ -143,7 +143,7 @@ module _ (z : Sizes) (i : Build) (b : Built z i) (g w : ℕ) (fit : sizesFit (si
   ch = cut Z (re .choices)
 
   -- the choices in planes; word, s and working space of 0
-  abbrev made : Draw
+  abbrev made : DrawCall
   made =
       record {
         secret = i .secret;
@@ -160,8 +160,8 @@ module _ (z : Sizes) (i : Build) (b : Built z i) (g w : ℕ) (fit : sizesFit (si
         wordTwos = zeroWords (wordsFor (places z));
         sOnes = zeroWords (wordsFor (dim z));
         sTwos = zeroWords (wordsFor (dim z));
-        workOnes = zeroWords (workWords z);
-        workTwos = zeroWords (workWords z);
+        workOnes = zeroWords (drawWorkWords z);
+        workTwos = zeroWords (drawWorkWords z);
       }
 
   valid : Valid Z ch
@@ -181,7 +181,7 @@ module _ (z : Sizes) (i : Build) (b : Built z i) (g w : ℕ) (fit : sizesFit (si
       lengths-same Z made (build-call z i b .lengths)
       (choices-same Z (p-order .size) (ly .ones-size) (ly .twos-size) (valid .orderV .size) (length-ones (ch .tritsV) (wordsFor (z .kv))) (length-twos (ch .tritsV) (wordsFor (z .kv)))
       (valid .orderU .size) (length-ones (ch .valuesU) (wordsFor (z .ku))) (length-twos (ch .valuesU) (wordsFor (z .ku)))
-      (length-zeros (wordsFor (places z))) (length-zeros (wordsFor (places z))) (length-zeros (wordsFor (dim z))) (length-zeros (wordsFor (dim z))) (length-zeros (workWords z)) (length-zeros (workWords z)))
+      (length-zeros (wordsFor (places z))) (length-zeros (wordsFor (places z))) (length-zeros (wordsFor (dim z))) (length-zeros (wordsFor (dim z))) (length-zeros (drawWorkWords z)) (length-zeros (drawWorkWords z)))
 
   made-secret : secretRefusal Z (i .secret) ≡ 0
   unfolding secretRefusal
@@ -231,8 +231,8 @@ module _ (z : Sizes) (i : Build) (b : Built z i) (g w : ℕ) (fit : sizesFit (si
           word-twos = zero-words (wordsFor (places z));
           s-ones = zero-words (wordsFor (dim z));
           s-twos = zero-words (wordsFor (dim z));
-          work-ones = zero-words (workWords z);
-          work-twos = zero-words (workWords z);
+          work-ones = zero-words (drawWorkWords z);
+          work-twos = zero-words (drawWorkWords z);
         };
         under = record { secret-is = refl; order-is = refl };
         y-ones = refl;
@@ -243,14 +243,20 @@ module _ (z : Sizes) (i : Build) (b : Built z i) (g w : ℕ) (fit : sizesFit (si
 -- ---- both ways
 
 -- every y of n-k trits can be lent
-pub syndrome-lent : (z : Sizes) (y : Vector) → LentSyndrome z (onesOf (upTo (codim z) y) (wordsFor (codim z))) (twosOf (upTo (codim z) y) (wordsFor (codim z)))
-syndrome-lent z y = record {
-  ones-size = length-ones (upTo (codim z) y) (wordsFor (codim z));
-  twos-size = length-twos (upTo (codim z) y) (wordsFor (codim z));
-  contents = written-passes (codim z) y;
-}
+pub syndrome-lent : (z : Sizes) (y : Vector) → LentAs z y
+syndrome-lent z y =
+    let m = codim z in
+    let w = wordsFor (codim z) in
+    record {
+      ones = onesOf (upTo m y) w;
+      twos = twosOf (upTo m y) w;
+      ones-words = ones-words (upTo m y) w;
+      twos-words = twos-words (upTo m y) w;
+      passes = record { ones-size = length-ones (upTo m y) w; twos-size = length-twos (upTo m y) w; contents = written-passes m y };
+      back = λ j h. ap (λ (v : Vector). v j) (written-back m y) ∙ upto-in y m j h;
+    }
 
-pub reach-calls : (z : Sizes) (i : Build) → Built z i → (g w : ℕ) → sizesFit (sized z g w) ≡ true → (yOnes yTwos : List ℕ) → LentSyndrome z yOnes yTwos → (e : Vector)
+pub reach-calls : (z : Sizes) (i : BuildCall) → Built z i → (g w : ℕ) → sizesFit (sized z g w) ≡ true → (yOnes yTwos : List ℕ) → LentSyndrome z yOnes yTwos → (e : Vector)
     → SomeDraw z i g w yOnes yTwos e ↔ KeyTerms z i g w yOnes yTwos e
 reach-calls z i b g w fit yOnes yTwos ly e = (
   (λ d. iff .0 (by d)),

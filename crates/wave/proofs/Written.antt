@@ -11,7 +11,7 @@ use lib.ListN.{length, getD, take, drop, length-append, length-drop, List·getD-
 use lib.Seq.{take-all, drop-at, take-append-le, drop-append-le}
 use Rattle.trits.specs.Trit.{Trit, t0, t1, t2, upTo}
 use Rattle.trits.specs.Planes.{fromBits, one, two, tritAt, onesOf, twosOf, zeroWords, wordsFor, bothAt, bothSet}
-use Rattle.trits.specs.Rows.{rowPart}
+use Rattle.trits.specs.Rows.{rowPart, rowsOf}
 use Rattle.trits.specs.Refusal.{planesRefusal}
 use Rattle.trits.proofs.Bits.{from-lt}
 use Rattle.trits.proofs.Lists.{getD-tabulate, zero-at}
@@ -20,8 +20,7 @@ use Rattle.trits.proofs.Ends.{upto-out}
 use Rattle.trits.proofs.Tests.{none-any, zero-past}
 use Rattle.trits.proofs.Matrix.{row-le, part-there, one-row-past}
 use Rattle.matrix.specs.Linear.{Vector}
-use Rattle.elimination.specs.Grid.{rowsOf}
-use Rattle.wave.specs.Demand.{Bits}
+use Rattle.wave.specs.Terms.{Bits}
 
 -- ---- a vector of m trits
 

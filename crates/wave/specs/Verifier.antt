@@ -3,24 +3,23 @@ use mathlib.Core.Path.{_≡_}
 use mathlib.Core.List.{List}
 use Prim.Native.Nat.{ℕ, _*_, _≤_, _<_}
 use lib.ListN.{length}
-use Rattle.trits.specs.Trit.{weightV}
 use Rattle.trits.specs.Planes.{wordsFor}
 use Rattle.trits.specs.Rows.{rowPart}
 use Rattle.packing.specs.Packed.{bytesFor}
 use Rattle.packing.specs.Calls.{packExit}
 use Rattle.matrix.specs.Linear.{Vector}
-use Rattle.verdict.specs.Verdict.{HasSyndrome, Extends}
+use Rattle.verdict.specs.Verdict.{Extending, Found}
 use Rattle.heldkey.specs.declared.state.Held.{Held}
 use Rattle.checking.specs.declared.Checked.{Checked}
 use Rattle.heldkey.specs.Held.{mostKeyNumber, rowTrits, heldKey}
 use Rattle.heldkey.specs.Store.{beginHeld}
-use Rattle.heldkey.specs.Load.{Kept, offerAll}
+use Rattle.heldkey.specs.Load.{Holding, offerAll}
 use Rattle.checking.specs.Check.{checkAnswer, checkPackedAnswer}
 use Rattle.signer.specs.declared.sizes.Sizes.{Sizes}
 use Rattle.signer.specs.Sizes.{dim, codim}
-use Rattle.calls.specs.BuildCall.{Lent as Build, keyWords, keyOnesExit, keyTwosExit}
-use Rattle.calls.specs.DrawCall.{Lent as Draw, sOnesExit, sTwosExit}
-use Rattle.wave.specs.Demand.{sized}
+use Rattle.calls.specs.BuildCall.{BuildCall, keyRowWords, keyOnesExit, keyTwosExit}
+use Rattle.calls.specs.DrawCall.{DrawCall, sOnesExit, sTwosExit}
+use Rattle.wave.specs.Terms.{sized}
 
 -- ---- a call of the check
 
@@ -54,16 +53,13 @@ pub record PackedCheck : Type 0 where
 abbrev pub packedVerdict : PackedCheck → Checked
 packedVerdict c = checkPackedAnswer (c .held) (c .number) (c .ones) (c .twos) (c .y) (c .s) (c .workOnes) (c .workTwos)
 
--- the word e of n trits has the syndrome y under the whole key, any k rows that the call finds held, and extends s
-pub record Extending (h : Held) (ones twos : List ℕ) (y s e : Vector) : Type 0 where
-  pub has-syndrome : HasSyndrome (rowTrits h) (h .k) (heldKey h ones twos) e y
-  pub extends : Extends (rowTrits h) (h .k) e s
+-- the whole key is any k rows that the call finds held: under it the word e of n trits has the syndrome y and extends s
+abbrev pub HeldExtending : Held → List ℕ → List ℕ → Vector → Vector → Vector → Type 0
+HeldExtending h ones twos y s e = Extending (rowTrits h) (h .k) (heldKey h ones twos) y s e
 
--- there is one of weight w
-pub record Found (h : Held) (ones twos : List ℕ) (y s : Vector) : Type 0 where
-  pub word : Vector
-  pub weighs : weightV word (h .n) ≡ h .w
-  pub extending : Extending h ones twos y s word
+-- and some word of weight w does
+abbrev pub HeldFound : Held → List ℕ → List ℕ → Vector → Vector → Type 0
+HeldFound h ones twos y s = Found (rowTrits h) (h .k) (h .w) (heldKey h ones twos) y s
 
 -- ---- end to end
 
@@ -88,15 +84,15 @@ pub record Host (z : Sizes) : Type 0 where
   pub work-twos-size : length workTwos ≡ wordsFor (codim z)
 
 -- row j of the built key, packed by a call of `pack` from its stretch of the key's words
-abbrev pub packedKeyRow : (z : Sizes) → Build → Host z → ℕ → List ℕ
-packedKeyRow z i m j = packExit (codim z) (rowPart (keyOnesExit z i) (dim z) (keyWords z) j) (rowPart (keyTwosExit z i) (dim z) (keyWords z) j) (m .rowBytes j)
+abbrev pub packedKeyRow : (z : Sizes) → BuildCall → Host z → ℕ → List ℕ
+packedKeyRow z i m j = packExit (codim z) (rowPart (keyOnesExit z i) (dim z) (keyRowWords z) j) (rowPart (keyTwosExit z i) (dim z) (keyRowWords z) j) (m .rowBytes j)
 
 -- the module begins a key with these numbers, and its k packed rows are stored one after another
-abbrev pub carried : (z : Sizes) → Build → ℕ → Host z → Kept
+abbrev pub carried : (z : Sizes) → BuildCall → ℕ → Host z → Holding
 carried z i w m = offerAll (packedKeyRow z i m) (dim z) (record { held = beginHeld (m .before) (m .number) (z .n) (dim z) w; ones = m .ones; twos = m .twos })
 
 -- then it checks y and the s that the draw handed out, each packed by a call of `pack`
-abbrev pub carriedCheck : (z : Sizes) → Build → ℕ → ℕ → Draw → Host z → PackedCheck
+abbrev pub carriedCheck : (z : Sizes) → BuildCall → ℕ → ℕ → DrawCall → Host z → PackedCheck
 carriedCheck z i g w l m = record {
   held = carried z i w m .held;
   number = m .number;
@@ -109,7 +105,7 @@ carriedCheck z i g w l m = record {
 }
 
 -- or y and that s in planes, as they are lent
-abbrev pub carriedPlanes : (z : Sizes) → Build → ℕ → ℕ → Draw → Host z → Check
+abbrev pub carriedPlanes : (z : Sizes) → BuildCall → ℕ → ℕ → DrawCall → Host z → Check
 carriedPlanes z i g w l m = record {
   held = carried z i w m .held;
   number = m .number;

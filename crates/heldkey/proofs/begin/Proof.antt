@@ -6,20 +6,20 @@ use Rattle.heldkey.specs.Store.{beginRefusal, begunHeld, beginHeld}
 use Rattle.heldkey.proofs.begin.Statement.{statement}
 use Rattle.heldkey.proofs.begin.Tie as tie
 
-sizes-fit-requires : tie.Need-sizes-fit-requires
-sizes-fit-requires c κs = search needs
+numbers-fit-requires : tie.Need-numbers-fit-requires
+numbers-fit-requires c κs = search needs
 
 returns : tie.Need-returns
 unfolding beginRefusal beginHeld begunHeld
 returns c =
-    let e = sym (c .before .sizes-fit .ensures) ∙ c .if1 .taken in
+    let e = sym (c .before .numbers-fit .ensures) ∙ c .if1 .taken in
     (rw e, rw e)
 
 returns-2 : tie.Need-returns-2
 unfolding beginRefusal beginHeld begunHeld
 returns-2 c =
-    let e = sym (c .before .sizes-fit .ensures) ∙ c .if1 .left in
+    let e = sym (c .before .numbers-fit .ensures) ∙ c .if1 .left in
     (rw e, rw e)
 
 pub begin-spec : {M : Type 1} → statement M
-begin-spec = tie.close (tie.spec sizes-fit-requires returns returns-2)
+begin-spec = tie.close (tie.spec numbers-fit-requires returns returns-2)

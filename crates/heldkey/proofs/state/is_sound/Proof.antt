@@ -12,18 +12,18 @@ unfolding sound
 returns c =
     rw (ne-eqb _ _ (c .if1 .taken))
 
-sizes-fit-requires : tie.Need-sizes-fit-requires
-sizes-fit-requires c κs = search needs
+numbers-fit-requires : tie.Need-numbers-fit-requires
+numbers-fit-requires c κs = search needs
 
 returns-2 : tie.Need-returns-2
 unfolding sound
 returns-2 c =
-    rw (eq-eqb _ _ (c .before .before .before .if1 .left), sym (c .before .before .sizes-fit .ensures) ∙ c .before .if2 .taken)
+    rw (eq-eqb _ _ (c .before .before .before .if1 .left), sym (c .before .before .numbers-fit .ensures) ∙ c .before .if2 .taken)
 
 returns-3 : tie.Need-returns-3
 unfolding sound
 returns-3 c =
-    rw (eq-eqb _ _ (c .before .before .if1 .left), sym (c .before .sizes-fit .ensures) ∙ c .if2 .left)
+    rw (eq-eqb _ _ (c .before .before .if1 .left), sym (c .before .numbers-fit .ensures) ∙ c .if2 .left)
 
 pub is-sound-spec : {M : Type 1} → statement M
-is-sound-spec = tie.close (tie.spec returns sizes-fit-requires returns-2 returns-3)
+is-sound-spec = tie.close (tie.spec returns numbers-fit-requires returns-2 returns-3)

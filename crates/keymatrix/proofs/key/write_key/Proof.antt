@@ -7,12 +7,11 @@ use native.Mathlib.Omega.{arith}
 use borrow.Author.Needs.{needs}
 use lib.ListN.{length, getD, drop}
 use denote.Ref.{now}
-use Rattle.trits.specs.Rows.{matrixAt}
+use Rattle.trits.specs.Rows.{matrixAt, rowsOf}
 use Rattle.trits.proofs.Matrix.{row-le}
 use Rattle.trits.proofs.Parts.{length-mid}
 use Rattle.matrix.proofs.Places.{elem-at}
 use Rattle.matrix.proofs.Orders.{order-good}
-use Rattle.elimination.specs.Grid.{rowsOf}
 use Rattle.keymatrix.proofs.Arranging.{col-below}
 use Rattle.keymatrix.proofs.Written.{onesRow, twosRow, ones-size, twos-size, ones-down, twos-down, rows-none, rows-more, key-ones, key-twos}
 use Rattle.keymatrix.proofs.key.write_key.Statement.{statement}

@@ -6,7 +6,7 @@ use native.Mathlib.Omega.{arith}
 use borrow.Author.Needs.{needs}
 use lib.ListN.{length}
 use denote.Ref.{now}
-use Rattle.oneline.specs.Answer.{refusalPrints, linePrints, lineKept, keeping, readLine}
+use Rattle.oneline.specs.Answer.{refusalPrints, linePrints, lineKept, holding, readLine}
 use Rattle.oneline.proofs.Lent.{part-short}
 use Rattle.oneline.proofs.Lines.{line-kept, line-prints}
 use Rattle.trits.specs.Rows.{putWords}
@@ -107,7 +107,7 @@ unfolding lineKept linePrints refusalPrints
 returns c =
     let s = c .before .before .before .before .before .before .before .before .before .before .before in
     let l = now (s .args .line) in
-    let k = keeping (s .args .held) (now (s .args .ones)) (now (s .args .twos)) in
+    let k = holding (s .args .held) (now (s .args .ones)) (now (s .args .twos)) in
     let e = ap (says l) (sym (c .before .before .before .before .enum-told .given .1)) ∙ c .before .before .before .before .before .before .read-line .ensures .0 in
     let z = line-prints k (readLine l) e in
     let q = c .before .before .print-refusal .ensures in
@@ -121,11 +121,11 @@ unfolding lineKept linePrints
 returns-2 c =
     let s = c .before .before .before .before .before .before .before .before .before .before .before .before in
     let l = now (s .args .line) in
-    let k = keeping (s .args .held) (now (s .args .ones)) (now (s .args .twos)) in
+    let k = holding (s .args .held) (now (s .args .ones)) (now (s .args .twos)) in
     let e = ap (says l) (sym (c .before .before .before .before .before .form .given .1)) ∙ c .before .before .before .before .before .before .before .read-line .ensures .0 in
     let z = line-prints k (readLine l) e in
     let p = c .before .before .handle-key .ensures in
-    ((λ i. keeping (p .0 i) (now (s .args .ones)) (now (s .args .twos))) ∙ line-kept k (readLine l) e, (p .1 .0 ∙ ap length z, p .1 .1 ∙ ap (putWords 0 (now (s .args .out))) z))
+    ((λ i. holding (p .0 i) (now (s .args .ones)) (now (s .args .twos))) ∙ line-kept k (readLine l) e, (p .1 .0 ∙ ap length z, p .1 .1 ∙ ap (putWords 0 (now (s .args .out))) z))
 
 same-length-3 : tie.Need-same-length-3
 same-length-3 c = search needs
@@ -141,7 +141,7 @@ unfolding lineKept linePrints
 returns-3 c =
     let s = c .before .before .before .before .before .before .before .before .before .before .before .before .before .before .before .before .before .before in
     let l = now (s .args .line) in
-    let k = keeping (s .args .held) (now (s .args .ones)) (now (s .args .twos)) in
+    let k = holding (s .args .held) (now (s .args .ones)) (now (s .args .twos)) in
     let e = ap (says l) (sym (c .before .before .before .before .before .before .before .before .before .before .before .enum-told2 .given .1)) ∙ c .before .before .before .before .before .before .before .before .before .before .before .before .before .read-line .ensures .0 in
     let z = line-prints k (readLine l) e in
     let p = c .before .before .before .before .before .before .handle-row .ensures in
@@ -161,7 +161,7 @@ unfolding lineKept linePrints
 returns-4 c =
     let s = c .before .before .before .before .before .before .before .before .before .before .before .before .before .before .before .before in
     let l = now (s .args .line) in
-    let k = keeping (s .args .held) (now (s .args .ones)) (now (s .args .twos)) in
+    let k = holding (s .args .held) (now (s .args .ones)) (now (s .args .twos)) in
     let e = ap (says l) (sym (c .before .before .before .before .before .before .before .before .before .form2 .given .1)) ∙ c .before .before .before .before .before .before .before .before .before .before .before .read-line .ensures .0 in
     let z = line-prints k (readLine l) e in
     let p = c .before .before .handle-sign .ensures in

@@ -6,7 +6,7 @@ use mathlib.Core.List.{List}
 use borrow.Author.Needs.{needs}
 use lib.ListN.{length}
 use denote.Ref.{now}
-use Rattle.oneline.specs.Answer.{linePrints, lineKept, keeping, readLine}
+use Rattle.oneline.specs.Answer.{linePrints, lineKept, holding, readLine}
 use Rattle.oneline.proofs.Lent.{front-part}
 use Rattle.trits.specs.Rows.{putWords}
 use Rattle.oneline.proofs.handle.handle_front.Statement.{statement}
@@ -36,7 +36,7 @@ same-length-3 c = search needs
 returns : tie.Need-returns
 returns c =
     let s = c .before .before .before .before .before .before .before .before .before .before .before .before .before .before .before in
-    let k = keeping (s .args .held) (now (s .args .ones)) (now (s .args .twos)) in
+    let k = holding (s .args .held) (now (s .args .ones)) (now (s .args .twos)) in
     let e = front-part (s .args .len) (now (s .args .buffer)) in
     let p = c .before .before .before .before .before .before .handle .ensures in
     (p .0 ∙ ap (λ (x : List ℕ). lineKept k (readLine x)) e, (p .1 .0 ∙ ap (λ (x : List ℕ). length (linePrints k (readLine x))) e, p .1 .1 ∙ ap (λ (x : List ℕ). putWords 0 (now (s .args .out)) (linePrints k (readLine x))) e))

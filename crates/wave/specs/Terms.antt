@@ -16,8 +16,8 @@ use Rattle.signer.specs.Sizes.{half, places, dim, ru, codim, gapU}
 use Rattle.signer.specs.Secret.{Secret}
 use Rattle.signer.specs.Draw.{placed}
 use Rattle.calls.specs.Lent.{secretOf}
-use Rattle.calls.specs.BuildCall.{Lent as Build, keyWords, buildAnswer, orderExit, keyOnesExit, keyTwosExit}
-use Rattle.calls.specs.DrawCall.{Lent as Draw, drawAnswer, wordOnesExit, wordTwosExit}
+use Rattle.calls.specs.BuildCall.{BuildCall, keyRowWords, buildAnswer, orderExit, keyOnesExit, keyTwosExit}
+use Rattle.calls.specs.DrawCall.{DrawCall, drawAnswer, wordOnesExit, wordTwosExit}
 
 -- ---- the terms
 
@@ -40,12 +40,12 @@ pub record Terms (z : Sizes) (s : Secret) (p : List ℕ) (R : Key) (y e : Vector
 -- ---- a key that our builder released
 
 -- a call of the builder that was not refused; its p is the order lent back, `orderExit`
-abbrev pub Built : Sizes → Build → Type 0
+abbrev pub Built : Sizes → BuildCall → Type 0
 Built z i = buildAnswer z i ≡ 0
 
 -- and its R the key's words lent back: row j is that stretch of them
-unfoldable pub builtKey : Sizes → Build → Key
-builtKey z i j = tritAt (rowPart (keyOnesExit z i) (dim z) (keyWords z) j) (rowPart (keyTwosExit z i) (dim z) (keyWords z) j)
+unfoldable pub builtKey : Sizes → BuildCall → Key
+builtKey z i j = tritAt (rowPart (keyOnesExit z i) (dim z) (keyRowWords z) j) (rowPart (keyTwosExit z i) (dim z) (keyRowWords z) j)
 
 -- ---- a draw under it
 
@@ -59,22 +59,31 @@ pub record LentSyndrome (z : Sizes) (ones twos : List ℕ) : Type 0 where
   pub twos-size : length twos ≡ wordsFor (codim z)
   pub contents : planesRefusal ones twos 1 (codim z) ≡ 0
 
--- a call of the signer with that build's secret and p
-pub record Under (z : Sizes) (i : Build) (l : Draw) : Type 0 where
-  pub secret-is : l .secret ≡ i .secret
-  pub order-is : l .p ≡ orderExit z i
-
--- it releases the word e: it ends without a refusal and hands out that word, in its n places
-pub record HandsOut (z : Sizes) (l : Draw) (e : Vector) : Type 0 where
-  pub passed : drawAnswer z l ≡ 0
-  pub word : (q : ℕ) → q < places z → tritAt (wordOnesExit z l) (wordTwosExit z l) q ≡ e q
-
 -- numbers of b bits, as a slice has them
 abbrev pub Bits : ℕ → List ℕ → Type 0
 Bits b l = (j : ℕ) → getD l j 0 < 2 ^ b
 
+-- y of n-k trits as planes of 64-bit words that can be lent, and from which it is read back
+pub record LentAs (z : Sizes) (y : Vector) : Type 0 where
+  pub ones : List ℕ
+  pub twos : List ℕ
+  pub ones-words : Bits 64 ones
+  pub twos-words : Bits 64 twos
+  pub passes : LentSyndrome z ones twos
+  pub back : (j : ℕ) → j < codim z → tritAt ones twos j ≡ y j
+
+-- a call of the signer with that build's secret and p
+pub record Under (z : Sizes) (i : BuildCall) (l : DrawCall) : Type 0 where
+  pub secret-is : l .secret ≡ i .secret
+  pub order-is : l .p ≡ orderExit z i
+
+-- it releases the word e: it ends without a refusal and hands out that word, in its n places
+pub record HandsOut (z : Sizes) (l : DrawCall) (e : Vector) : Type 0 where
+  pub passed : drawAnswer z l ≡ 0
+  pub word : (q : ℕ) → q < places z → tritAt (wordOnesExit z l) (wordTwosExit z l) q ≡ e q
+
 -- what is supplied to a draw can be lent: orders of 16-bit numbers, planes of 64-bit words
-pub record Lendable (l : Draw) : Type 0 where
+pub record Lendable (l : DrawCall) : Type 0 where
   pub order-v : Bits 16 (l .orderV)
   pub v-ones : Bits 64 (l .vOnes)
   pub v-twos : Bits 64 (l .vTwos)
@@ -89,8 +98,8 @@ pub record Lendable (l : Draw) : Type 0 where
   pub work-twos : Bits 64 (l .workTwos)
 
 -- some draw under the key releases e for y, with any V order, V trits, U order and U values
-pub record SomeDraw (z : Sizes) (i : Build) (g w : ℕ) (yOnes yTwos : List ℕ) (e : Vector) : Type 0 where
-  pub call : Draw
+pub record SomeDraw (z : Sizes) (i : BuildCall) (g w : ℕ) (yOnes yTwos : List ℕ) (e : Vector) : Type 0 where
+  pub call : DrawCall
   pub lendable : Lendable call
   pub under : Under z i call
   pub y-ones : call .yOnes ≡ yOnes
@@ -98,5 +107,5 @@ pub record SomeDraw (z : Sizes) (i : Build) (g w : ℕ) (yOnes yTwos : List ℕ)
   pub releases : HandsOut (sized z g w) call e
 
 -- the terms of the word e for y under that key, at that g and w
-abbrev pub KeyTerms : Sizes → Build → ℕ → ℕ → List ℕ → List ℕ → Vector → Type 0
+abbrev pub KeyTerms : Sizes → BuildCall → ℕ → ℕ → List ℕ → List ℕ → Vector → Type 0
 KeyTerms z i g w yOnes yTwos e = Terms (sized z g w) (secretOf z (i .secret)) (orderExit z i) (builtKey z i) (tritAt yOnes yTwos) e

@@ -1,0 +1,135 @@
+-- The starred cases, by computation; that no draw makes 1200, by the terms: a pair with both trits not 0 would have a trit of s. Assumes nothing.
+use mathlib.Core.Path.{_≡_, refl, sym, ap, ap₂, _∙_, subst}
+use mathlib.Core.Bool.{true}
+use mathlib.Core.List.{List, [], _∷_}
+use Prim.Native.Nat.{ℕ, zero, suc, _+_, _-_, _<_}
+use native.Mathlib.Omega.{arith}
+use lib.ListN.{getD}
+use Rattle.trits.specs.Trit.{t0, isSet, dotV, anyTo, sumTo, upTo}
+use Rattle.trits.specs.Planes.{bit, fromBits, bitAt, tritAt, tabulate, onesOf, twosOf, zeroWords, bothSet, pastEnd}
+use Rattle.trits.specs.Rows.{rowsOf, rowPart, matrixAt, rowsPastEnd}
+use Rattle.trits.specs.Refusal.{first, planesRefusal}
+use Rattle.trits.proofs.Ends.{upto-in}
+use Rattle.packing.specs.Packed.{byteOf, digitOf, packedAt, packedRow, packedBytes, badByte, packedRefusal}
+use Rattle.packing.specs.Calls.{packRefusal, packExit, unpackRefusal, unpackOnes, unpackTwos}
+use Rattle.matrix.specs.Linear.{Vector, agree, find, solve, inSpan, keep, pivots, rank, without, fill, range}
+use Rattle.matrix.specs.Orders.{isOrder}
+use Rattle.matrix.specs.Digits.{digitRows}
+use Rattle.matrix.proofs.Field.{set-not}
+use Rattle.matrix.proofs.Places.{elem-at}
+use Rattle.verdict.specs.Verdict.{timesKey, fullWord, fullWeight, saysYes}
+use Rattle.heldkey.specs.Held.{numbersFit, sound, heldRow, heldKey}
+use Rattle.checking.specs.Check.{callRefusal, packedLengths, packedContents, checkPackedRefusal, heldWeight, answered, checkPackedAnswer}
+use Rattle.signer.specs.Sizes.{sizesFit}
+use Rattle.signer.specs.Secret.{secretMatrix}
+use Rattle.signer.specs.Build.{arrange, arranged, rowOfR, buildRefusal}
+use Rattle.signer.specs.Draw.{placed, signature, pivotsV, suppliedV, drawV, pivotsU, suppliedU, drawU, drawn, drawRefusal}
+use Rattle.calls.specs.Lent.{secretDiffers, hasZero, secretRefusal, workExit}
+use Rattle.calls.specs.BuildCall.{keyDiffers, lengthsDiffer as buildLengths, buildAnswer, orderExit, keyOnesOf, keyTwosOf, keyOnesExit, keyTwosExit, workOnesExit as buildWorkOnes, workTwosExit as buildWorkTwos}
+use Rattle.calls.specs.DrawCall.{DrawCall, choicesDiffer, lengthsDiffer as drawLengths, choicesRefusal, drawAnswer, wordOf, wordOnesExit, wordTwosExit, sOnesExit, sTwosExit, workOnesExit as drawWorkOnes, workTwosExit as drawWorkTwos}
+use Rattle.wave.specs.Terms.{Under}
+use Rattle.wave.specs.Examples.{sizes4, start1, build4}
+use Rattle.wave.specs.Starred.{NoDrawMakes1200, gap4, Starred}
+use Rattle.wave.proofs.ReachCalls.{handed-signature, drawn-terms}
+
+-- ---- the first key as a call, by computation
+
+first-built : buildAnswer (sizes4 0 4) (build4 start1) ≡ 0
+unfolding dotV anyTo bit bitAt tritAt bothSet pastEnd rowPart matrixAt rowsPastEnd first planesRefusal agree find solve inSpan keep pivots rank range isOrder sizesFit buildRefusal secretDiffers hasZero secretRefusal keyDiffers buildLengths buildAnswer
+first-built = refl
+
+first-order : orderExit (sizes4 0 4) (build4 start1) ≡ start1
+unfolding dotV anyTo bit bitAt tritAt bothSet pastEnd rowPart matrixAt rowsPastEnd first planesRefusal agree find solve inSpan keep pivots rank range isOrder sizesFit secretMatrix arrange arranged buildRefusal secretDiffers hasZero secretRefusal keyDiffers buildLengths buildAnswer orderExit
+first-order = refl
+
+-- ---- the star over every call
+
+zeros-at : (i : ℕ) → i < 2 → tritAt (0 ∷ []) (0 ∷ []) i ≡ t0
+unfolding bit bitAt tritAt
+zeros-at zero h = refl
+zeros-at (suc zero) h = refl
+zeros-at (suc (suc i)) h = absurd (omega arith)
+
+-- where k_U - g is 1, the word of a draw has a pair with both trits not 0, and its right trit is one of s
+never : (g : ℕ) → 1 - g ≡ 1 → NoDrawMakes1200 g
+unfolding fill
+never g one l u d s1 s2 =
+    let t = drawn-terms (sizes4 0 4) (build4 start1) first-built g 2 l u d in
+    let q = getD (t .chosen .pairs) 0 0 in
+    let m = elem-at (t .chosen .pairs) 0 (omega (arith, t .chosen .size, one)) in
+    right q (t .chosen .below q m) (subst (λ (p : List ℕ). isSet (placed p e (2 + q)) ≡ true) first-order (t .both-nonzero q m .1))
+  where
+    e : Vector
+    e = wordOf (sizes4 g 2) l
+
+    none : (i : ℕ) → i < 2 → e (2 + i) ≡ t0
+    none i h =
+        sym (upto-in (signature (sizes4 g 2) e) 2 i h) ∙ sym (ap (λ (v : Vector). v i) (handed-signature (sizes4 g 2) l d)) ∙ ap₂ (λ (a b : List ℕ). tritAt a b i) s1 s2 ∙ zeros-at i h
+
+    right : (q : ℕ) → q < 2 → isSet (placed start1 e (2 + q)) ≡ true → ⊥
+    right zero h c = set-not c (none 0 (omega arith))
+    right (suc zero) h c = set-not c (none 1 (omega arith))
+    right (suc (suc q)) h c = absurd (omega arith)
+
+-- ---- the table
+
+pub starred : Starred
+unfolding dotV anyTo sumTo upTo bit fromBits bitAt tritAt tabulate onesOf twosOf zeroWords bothSet pastEnd rowsOf rowPart matrixAt rowsPastEnd first planesRefusal byteOf digitOf packedAt packedRow packedBytes badByte packedRefusal packRefusal packExit unpackRefusal unpackOnes unpackTwos agree find solve inSpan keep pivots rank without fill range isOrder digitRows timesKey fullWord fullWeight saysYes numbersFit sound heldRow heldKey callRefusal packedLengths packedContents checkPackedRefusal heldWeight answered checkPackedAnswer sizesFit secretMatrix arrange arranged rowOfR buildRefusal pivotsV suppliedV drawV pivotsU suppliedU drawU drawn drawRefusal secretDiffers hasZero secretRefusal workExit keyDiffers buildLengths buildAnswer orderExit keyOnesOf keyTwosOf keyOnesExit keyTwosExit buildWorkOnes buildWorkTwos choicesDiffer drawLengths choicesRefusal drawAnswer wordOf wordOnesExit wordTwosExit sOnesExit sTwosExit drawWorkOnes drawWorkTwos
+starred = record {
+  packs-88 = refl;
+  packed-88 = refl;
+  reads-242 = refl;
+  ones-242 = refl;
+  twos-242 = refl;
+  refused-243 = refl;
+  ones-243 = refl;
+  twos-243 = refl;
+  order-0123 = refl;
+  rows-0123 = refl;
+  built-0123 = refl;
+  p-0123 = refl;
+  key-ones-0123 = refl;
+  key-twos-0123 = refl;
+  work-ones-0123 = refl;
+  work-twos-0123 = refl;
+  order-1203 = refl;
+  rows-1203 = refl;
+  built-1203 = refl;
+  p-1203 = refl;
+  key-ones-1203 = refl;
+  key-twos-1203 = refl;
+  last-column = refl;
+  word-2111 = refl;
+  released-2111 = refl;
+  other-2111 = refl;
+  answer-2111 = refl;
+  ones-2111 = refl;
+  twos-2111 = refl;
+  s-ones-2111 = refl;
+  s-twos-2111 = refl;
+  word-2221 = refl;
+  released-2221 = refl;
+  answer-2221 = refl;
+  ones-2221 = refl;
+  twos-2221 = refl;
+  s-ones-2221 = refl;
+  s-twos-2221 = refl;
+  word-0212 = refl;
+  refused-0212 = refl;
+  answer-0212 = refl;
+  ones-0212 = refl;
+  twos-0212 = refl;
+  s-ones-0212 = refl;
+  s-twos-0212 = refl;
+  work-ones-0212 = refl;
+  work-twos-0212 = refl;
+  word-0102 = refl;
+  released-0102 = refl;
+  answer-0102 = refl;
+  ones-0102 = refl;
+  twos-0102 = refl;
+  full-1200 = refl;
+  accepted-1200 = refl;
+  answer-1200 = refl;
+  never-1200 = never gap4 refl;
+}

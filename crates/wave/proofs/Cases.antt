@@ -12,7 +12,7 @@ use Rattle.packing.specs.Packed.{byteOf, digitOf, packedAt, packedRow, packedBy
 use Rattle.packing.specs.Calls.{unpackRefusal}
 use Rattle.matrix.specs.Linear.{Vector, agree, find, solve, inSpan, keep, pivots, rank, without, fill, range}
 use Rattle.matrix.specs.Orders.{isOrder}
-use Rattle.matrix.specs.Digits.{vector, digits, matrix, digitRows}
+use Rattle.trits.specs.Digits.{vector, digits, matrix, digitRows}
 use Rattle.matrix.proofs.Field.{set-not}
 use Rattle.matrix.proofs.Places.{elem-at}
 use Rattle.verdict.specs.Verdict.{Key, timesKey, fullWord, fullWeight, saysYes}

@@ -15,8 +15,9 @@ use Rattle.verdict.proofs.FullWord.{full-low, full-high}
 
 -- one row times a trit
 module _ (u r : ℕ → Trit) (t : ℕ) where
-  pub take-one : t ≡ 1 → zipV subT u r ≡ zipV subT u (zipV mulT (λ (q : ℕ). tritOf t) r)
-  take-one e = ap (λ (x : ℕ). zipV subT u (zipV mulT (λ (q : ℕ). tritOf x) r)) (sym e)
+  -- the trit of the row, known by its number
+  pub take-known : {x : ℕ} → t ≡ x → zipV subT u (zipV mulT (λ (q : ℕ). tritOf x) r) ≡ zipV subT u (zipV mulT (λ (q : ℕ). tritOf t) r)
+  take-known e = ap (λ (x : ℕ). zipV subT u (zipV mulT (λ (q : ℕ). tritOf x) r)) (sym e)
 
   pub take-two : t ≡ 2 → zipV addT u r ≡ zipV subT u (zipV mulT (λ (q : ℕ). tritOf t) r)
   take-two e =

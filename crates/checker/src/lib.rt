@@ -107,7 +107,7 @@ pub extern "C" fn wave_begin(held: Held, number: u64, n: u64, k: u64, w: u64) ->
     let outcome = stored.outcome;
     let after = stored.held;
     StoredNumbers {
-        refusal: trits::refusal::code(outcome),
+        refusal: trits::refusal::code(outcome), // of the beginning
         held: after,
     }
 }
@@ -132,7 +132,7 @@ pub extern "C" fn wave_store_row(
     let after = stored.held;
     StoredNumbers {
         refusal: trits::refusal::code(outcome),
-        held: after,
+        held: after, // one row more where it was stored
     }
 }
 

@@ -142,7 +142,8 @@ pub fn weigh(
     trits::words::copy_words(work_ones, y_ones);
     trits::words::copy_words(work_twos, y_twos);
     let taken = take_rows(held, ones, twos, s_ones, s_twos, work_ones, work_twos);
-    trits::rows::weight(work_ones, work_twos) + taken
+    let first = trits::rows::weight(work_ones, work_twos);
+    first + taken // as many rows as trits of s that are not 0
 }
 
 // The weight of the full word of packed y and s; the working space holds its first part.
@@ -163,5 +164,6 @@ pub fn weigh_packed(
 {
     packing::write::write_packed(heldkey::state::row_trits(held), y, work_ones, work_twos);
     let taken = take_packed_rows(held, ones, twos, s, work_ones, work_twos);
-    trits::rows::weight(work_ones, work_twos) + taken
+    let first = trits::rows::weight(work_ones, work_twos);
+    first + taken // as many rows as trits of the packed s that are not 0
 }

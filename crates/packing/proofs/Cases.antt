@@ -61,3 +61,12 @@ both-first = refl
 pub past-alone : packRefusal 2 (4 ∷ []) (0 ∷ []) (0 ∷ []) ≡ 4
 unfolding packRefusal planesRefusal bothSet rowsPastEnd rowPart pastEnd anyTo bitAt bit
 past-alone = refl
+
+-- 16,385 trits are 1 in all three calls, and 16,384 pass that test
+pub too-many : (packRefusal 16385 [] [] [] ≡ 1) × (unpackRefusal 16385 [] [] [] ≡ 1) × (streamRefusal 16385 [] [] [] ≡ 1)
+unfolding packRefusal unpackRefusal streamRefusal
+too-many = (refl, refl, refl)
+
+pub most-many : (packRefusal 16384 [] [] [] ≡ 2) × (unpackRefusal 16384 [] [] [] ≡ 2) × (streamRefusal 16384 [] [] [] ≡ 2)
+unfolding packRefusal unpackRefusal streamRefusal
+most-many = (refl, refl, refl)

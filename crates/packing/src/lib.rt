@@ -41,6 +41,7 @@ pub fn unpack(m: usize, bytes: &[u8], ones: &mut [u64], twos: &mut [u64]) -> Out
     ensures { λ _. ⌜ now (ones .exit) ≡ unpackOnes m (now (bytes .entry)) (now (ones .entry)) (now (twos .entry)) ⌝ }
     ensures { λ _. ⌜ now (twos .exit) ≡ unpackTwos m (now (bytes .entry)) (now (ones .entry)) (now (twos .entry)) ⌝ }
 {
+    // all tests of the bytes come before the planes are written
     if m > 16384 {
         return Outcome::Refused(Refusal::Size);
     }
@@ -68,6 +69,7 @@ pub fn from_stream(m: usize, bytes: &[u8], ones: &mut [u64], twos: &mut [u64]) -
     ensures { λ _. ⌜ now (ones .exit) ≡ streamOnes m (now (bytes .entry)) (now (ones .entry)) (now (twos .entry)) ⌝ }
     ensures { λ _. ⌜ now (twos .exit) ≡ streamTwos m (now (bytes .entry)) (now (ones .entry)) (now (twos .entry)) ⌝ }
 {
+    // all tests of the stream come before the planes are written
     if m > 16384 {
         return Outcome::Refused(Refusal::Size);
     }

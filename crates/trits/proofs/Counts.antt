@@ -66,11 +66,12 @@ nonZero-le t2 = le-refl 1
 pub weight-le : (v : ℕ → Trit) (m : ℕ) → weightV v m ≤ m
 weight-le v m = omega (arith, sum-le m 1 (λ i. nonZero (v i)) (λ i. nonZero-le (v i)))
 
+-- the bits set in either of two words are at most 64
+pub count-le : {x y : ℕ} → Fits w64 x → Fits w64 y → ones (bitOr x y) ≤ 64
+count-le {x} {y} hx hy = ones-le 64 _ (or-lt 64 x y (hx .fits) (hy .fits))
+
 -- a turn of the loop that has counted the words before i
 module _ (os ts : List ℕ) (i : ℕ) (ho : Fits w64 (getD os i 0)) (ht : Fits w64 (getD ts i 0)) where
-  pub count-le : ones (bitOr (getD os i 0) (getD ts i 0)) ≤ 64
-  count-le = ones-le 64 _ (or-lt 64 (getD os i 0) (getD ts i 0) (ho .fits) (ht .fits))
-
   pub weight-turn : (s : ℕ) → s ≡ weightV (tritAt os ts) (64 * i) → s + ones (bitOr (getD os i 0) (getD ts i 0)) ≡ weightV (tritAt os ts) (64 * (i + 1))
   weight-turn s =
       let o = getD os i 0 in

@@ -1,2 +1,3 @@
--- The laws of the full word, and the verifier.
+-- The worked cases; the laws of the full word, and the verifier.
+pub mod Cases
 pub mod FullWord

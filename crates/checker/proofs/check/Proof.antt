@@ -7,6 +7,7 @@ use Rattle.checking.specs.Check.{checkAnswer}
 use Rattle.checking.proofs.Passed.{whole, check-passed}
 use Rattle.heldkey.proofs.Answers.{positive}
 use Rattle.checking.proofs.Answers.{answer-kept, answer-new, space-kept, space-zero}
+use Rattle.checker.proofs.Spaces.{check-spaces}
 use Rattle.checker.proofs.check.Statement.{statement}
 use Rattle.checker.proofs.check.Tie as tie
 
@@ -29,8 +30,10 @@ returns : tie.Need-returns
 unfolding checkAnswer
 returns c =
     let l = positive (λ z. c .before .if1 .taken (c .before .before .code .ensures ∙ z)) in
-    let e = c .before .before .before .test-check .ensures in
-    (c .judge .ensures ∙ answer-kept 0 _ _ e l, (space-kept _ e l, space-kept _ e l))
+    let e = c .before .before .before .test-check .ensures in (
+      c .judge .ensures ∙ answer-kept 0 _ _ (e ∙ check-spaces _ _ _ _ _ _ _ _ _ _ _ _ (omega arith) (omega arith)) l,
+      (space-kept _ (e ∙ check-spaces _ _ _ _ _ _ _ _ _ _ _ _ (omega arith) (omega arith)) l, space-kept _ (e ∙ check-spaces _ _ _ _ _ _ _ _ _ _ _ _ (omega arith) (omega arith)) l),
+    )
 
 weigh-requires : tie.Need-weigh-requires
 weigh-requires c κs =

@@ -7,6 +7,7 @@ use Rattle.checking.specs.Check.{checkPackedAnswer}
 use Rattle.checking.proofs.Passed.{whole, check-packed-passed}
 use Rattle.heldkey.proofs.Answers.{positive}
 use Rattle.checking.proofs.Answers.{answer-kept, answer-new, space-kept, space-zero}
+use Rattle.checker.proofs.Spaces.{packed-spaces}
 use Rattle.checker.proofs.check_packed.Statement.{statement}
 use Rattle.checker.proofs.check_packed.Tie as tie
 
@@ -29,8 +30,10 @@ returns : tie.Need-returns
 unfolding checkPackedAnswer
 returns c =
     let l = positive (λ z. c .before .if1 .taken (c .before .before .code .ensures ∙ z)) in
-    let e = c .before .before .before .test-packed-check .ensures in
-    (c .judge .ensures ∙ answer-kept 0 _ _ e l, (space-kept _ e l, space-kept _ e l))
+    let e = c .before .before .before .test-packed-check .ensures in (
+      c .judge .ensures ∙ answer-kept 0 _ _ (e ∙ packed-spaces _ _ _ _ _ _ _ _ _ _ (omega arith) (omega arith)) l,
+      (space-kept _ (e ∙ packed-spaces _ _ _ _ _ _ _ _ _ _ (omega arith) (omega arith)) l, space-kept _ (e ∙ packed-spaces _ _ _ _ _ _ _ _ _ _ (omega arith) (omega arith)) l),
+    )
 
 weigh-packed-requires : tie.Need-weigh-packed-requires
 weigh-packed-requires c κs =

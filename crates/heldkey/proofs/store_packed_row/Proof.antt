@@ -4,10 +4,10 @@ use Prim.Native.Nat.{ℕ, _+_, _-_, _*_}
 use mathlib.Core.Path.{_≡_, sym, ap, _∙_}
 use native.Mathlib.Omega.{arith}
 use borrow.Author.Needs.{needs}
+use lib.ListN.{length-take, length-drop}
 use denote.Ref.{now}
 use Rattle.trits.specs.Planes.{wordsFor, onesOf, twosOf}
 use Rattle.trits.proofs.Reading.{length-ones, length-twos}
-use Rattle.trits.proofs.Parts.{length-mid}
 use Rattle.packing.specs.Packed.{packedRow}
 use Rattle.heldkey.specs.Held.{rowTrits, rowWords}
 use Rattle.heldkey.specs.Store.{storedHeld}
@@ -102,14 +102,20 @@ part-write-part-end-2 c =
 
 write-part-requires : tie.Need-write-part-requires
 write-part-requires c κs =
-    let r = stored-packed-passed (c .before .before .before .before .before .before .before .before .before .before .before .before .args .held) (now (c .before .before .before .before .before .before .before .before .before .before .before .before .args .ones)) (now (c .before .before .before .before .before .before .before .before .before .before .before .before .args .twos)) (now (c .before .before .before .before .before .before .before .before .before .before .before .before .args .row)) (sym (c .before .before .before .before .before .before .test-packed-row .ensures) ∙ sym (c .before .before .before .before .before .code .ensures) ∙ c .before .before .before .before .if1 .left) in
-    let e : c .before .before .before .before .before .before .before .before .before .before .before .before .args .held .rows * c .before .before .before .row-words .result ≡ c .before .before .before .before .before .before .before .before .before .before .before .before .args .held .rows * rowWords (c .before .before .before .before .before .before .before .before .before .before .before .before .args .held) = ap (λ (x : ℕ). c .before .before .before .before .before .before .before .before .before .before .before .before .args .held .rows * x) (c .before .before .before .row-words .ensures) in
-    let w = c .before .before .before .row-words .result in
-    let a = c .before .before .before .before .before .before .before .before .before .before .before .before .args .held .rows * w in
-    let d : a + w - a ≡ w = omega arith in
-    let lo = length-mid a (a + w - a) (now (c .before .before .before .before .before .before .before .before .before .before .before .before .args .ones)) (omega (arith, e, c .before .before .before .row-words .ensures, r .0 .within, r .0 .ones-are)) in
-    let lt = length-mid a (a + w - a) (now (c .before .before .before .before .before .before .before .before .before .before .before .before .args .twos)) (omega (arith, e, c .before .before .before .row-words .ensures, r .0 .within, r .0 .twos-are)) in
-    (omega (arith, lo, lt, d, c .before .before .before .row-words .ensures, c .before .before .row-trits .ensures, r .1, r .0 .all), r .2)
+    let s = c .before .before .before .before .before .before .before .before .before .before .before .before in
+    let w = c .before .before .before .row-words in
+    let z = sym (c .before .before .before .before .before .before .test-packed-row .ensures) ∙ sym (c .before .before .before .before .before .code .ensures) ∙ c .before .before .before .before .if1 .left in
+    let r = stored-packed-passed (s .args .held) (now (s .args .ones)) (now (s .args .twos)) (now (s .args .row)) z in
+    let e : s .args .held .rows * w .result ≡ s .args .held .rows * rowWords (s .args .held) = ap (λ (x : ℕ). s .args .held .rows * x) (w .ensures) in
+    let m = c .before .before .row-trits .ensures in (
+      (
+        simp (length-take, length-drop) (omega (arith, e, w .ensures, r .0 .within, r .0 .ones-are, m)),
+        simp (length-take, length-drop) (omega (arith, e, w .ensures, r .0 .within, r .0 .twos-are, m)),
+        omega (arith, m, r .1),
+        omega (arith, m, r .0 .all),
+      ),
+      r .2,
+    )
 
 count-row-requires : tie.Need-count-row-requires
 count-row-requires c κs =

@@ -12,7 +12,7 @@ use Rattle.trits.specs.Planes.{tritAt, Row}
 use Rattle.trits.proofs.Reading.{reads-to}
 use Rattle.heldkey.specs.Held.{heldKey}
 use Rattle.heldkey.proofs.Stretch.{ones-length, row-row}
-use Rattle.checker.proofs.Product.{take-one, take-two, take-none}
+use Rattle.checker.proofs.Product.{take-known, take-two, take-none}
 use Rattle.checker.proofs.weighing.take_row.Statement.{statement}
 use Rattle.checker.proofs.weighing.take_row.Tie as tie
 
@@ -45,11 +45,12 @@ same-length-2 c = search needs
 returns-2 : tie.Need-returns-2
 unfolding heldKey
 returns-2 c =
+    let a = c .before .before .before .before .before .before .before .before .before .before .before .before .before .before .before .args in
     let ea = c .before .before .before .before .before .before .before .before .before .held-row .ensures in
     let eb = c .before .before .before .before .before .before .before .before .held-row2 .ensures in
-    let u = tritAt (now (c .before .before .before .before .before .before .before .before .before .before .before .before .before .before .before .args .work-ones)) (now (c .before .before .before .before .before .before .before .before .before .before .before .before .before .before .before .args .work-twos)) in
-    let z : c .before .before .before .before .before .before .before .before .before .before .before .before .before .before .before .args .t ≡ 1 = c .before .before .before .before .before .before .before .if2 .taken in
-    (ap (λ (x : ℕ). nonZero (tritOf x)) (sym z), reads-to (c .before .before .before .before .sub-row .ensures) (ap₂ (λ (x y : List ℕ). zipV subT u (tritAt x y)) ea eb ∙ take-one u (heldKey (c .before .before .before .before .before .before .before .before .before .before .before .before .before .before .before .args .held) (now (c .before .before .before .before .before .before .before .before .before .before .before .before .before .before .before .args .ones)) (now (c .before .before .before .before .before .before .before .before .before .before .before .before .before .before .before .args .twos)) (c .before .before .before .before .before .before .before .before .before .before .before .before .before .before .before .args .i)) (c .before .before .before .before .before .before .before .before .before .before .before .before .before .before .before .args .t) z))
+    let u = tritAt (now (a .work-ones)) (now (a .work-twos)) in
+    let z = c .before .before .before .before .before .before .before .if2 .taken in
+    (ap (λ (x : ℕ). nonZero (tritOf x)) (sym z), reads-to (c .before .before .before .before .sub-row .ensures) (ap₂ (λ (x y : List ℕ). zipV subT u (tritAt x y)) ea eb ∙ take-known u (heldKey (a .held) (now (a .ones)) (now (a .twos)) (a .i)) (a .t) z))
 
 add-row-requires : tie.Need-add-row-requires
 add-row-requires c κs =

@@ -1,6 +1,7 @@
 -- Below m it is the row's trit, and past it 0.
 -- Assumes nothing.
 use mathlib.Core.Path.{sym, ap, _∙_}
+use native.Mathlib.Omega.{arith}
 use borrow.Author.Needs.{needs}
 use denote.Ref.{now}
 use Rattle.trits.specs.Trit.{number}
@@ -15,12 +16,12 @@ trit-at-requires c κs = search needs
 returns : tie.Need-returns
 returns c =
     let a = c .before .before .before .before .args in
-    c .trit-at .ensures ∙ ap number (sym (upto-in (tritAt (now (a .ones)) (now (a .twos))) (a .m) (a .p) (c .before .if1 .taken)))
+    c .trit-at .ensures ∙ ap number (sym (upto-in (tritAt (now (a .ones)) (now (a .twos))) (a .m) (a .p) (omega arith)))
 
 returns-2 : tie.Need-returns-2
 returns-2 c =
     let a = c .before .before .before .args in
-    ap number (sym (upto-out (tritAt (now (a .ones)) (now (a .twos))) (a .m) (a .p) (c .if1 .left)))
+    ap number (sym (upto-out (tritAt (now (a .ones)) (now (a .twos))) (a .m) (a .p) (omega arith)))
 
 pub trit-below-spec : {M : Type 1} → statement M
 trit-below-spec = tie.close (tie.spec trit-at-requires returns returns-2)

@@ -29,7 +29,7 @@ shared-slice-read-if1 c = search needs
 
 returns : tie.Need-returns Inv-loop μ-loop
 returns c =
-    big-found _ (c .before .before .before .loop .i) (omega arith) (c .if1 .taken)
+    big-found _ (c .before .before .before .loop .i) (omega arith) (omega arith)
 
 add-i : tie.Need-add-i Inv-loop μ-loop
 add-i c = search needs
@@ -40,7 +40,7 @@ loop-less c =
 
 loop-again : tie.Need-loop-again Inv-loop μ-loop
 loop-again c =
-    (omega arith, big-passed (now (c .before .before .before .before .args .bytes)) (c .before .before .before .loop .i) (c .before .before .before .loop .inv .1) (c .if1 .left))
+    (omega arith, big-passed (now (c .before .before .before .before .args .bytes)) (c .before .before .before .loop .i) (c .before .before .before .loop .inv .1) (omega arith))
 
 returns-2 : tie.Need-returns-2 Inv-loop μ-loop
 returns-2 c =

@@ -3,12 +3,10 @@
 use Prim.Native.Nat.{_-_, _*_, _≤_}
 use mathlib.Core.Path.{_≡_}
 use native.Mathlib.Omega.{arith}
-use lib.ListN.{length, getD}
+use lib.ListN.{length}
 use denote.Ref.{now}
 use Rattle.trits.specs.Planes.{tritAt}
 use Rattle.trits.specs.Trit.{sumTo, weightV}
-use lib.Bits.{bitOr}
-use lib.Count.{ones}
 use Rattle.trits.proofs.Counts.{count-le, weight-turn, weight-le}
 use Rattle.trits.proofs.rows.weight.Statement.{statement}
 use Rattle.trits.proofs.rows.weight.Tie as tie
@@ -37,20 +35,16 @@ mul-sum-2 c = omega arith
 shared-slice-read-sum-2 : tie.Need-shared-slice-read-sum-2 Inv-loop μ-loop
 shared-slice-read-sum-2 c = omega arith
 
-bounded : (c : tie.After-shared-slice-known2 Inv-loop μ-loop)
-    → ones (bitOr (getD (now (c .before .before .before .before .args .ones)) (c .before .before .before .loop .i) 0) (getD (now (c .before .before .before .before .args .twos)) (c .before .before .before .loop .i) 0)) ≤ 64
-bounded c =
-    let i = c .before .before .before .loop .i in
-    count-le (now (c .before .before .before .before .args .ones)) (now (c .before .before .before .before .args .twos)) i (c .before .shared-slice-known .given i) (c .shared-slice-known2 .given i)
-
 cast-sum : tie.Need-cast-sum Inv-loop μ-loop
 cast-sum c =
-    omega (arith, bounded c)
+    let i = c .before .before .before .loop .i in
+    omega (arith, count-le (c .before .shared-slice-known .given i) (c .shared-slice-known2 .given i))
 
 add-sum : tie.Need-add-sum Inv-loop μ-loop
 add-sum c =
     let s = c .before .before .before in
-    omega (arith, bounded c, weight-le (tritAt (now (s .before .args .ones)) (now (s .before .args .twos))) (64 * s .loop .i))
+    let b = count-le (c .before .shared-slice-known .given (s .loop .i)) (c .shared-slice-known2 .given (s .loop .i)) in
+    omega (arith, b, weight-le (tritAt (now (s .before .args .ones)) (now (s .before .args .twos))) (64 * s .loop .i))
 
 add-i : tie.Need-add-i Inv-loop μ-loop
 add-i c = omega arith

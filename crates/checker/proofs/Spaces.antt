@@ -1,0 +1,23 @@
+-- A check's refusal looks at the working space's lengths alone. Assumes nothing.
+use mathlib.Core.Path.{_≡_, ap₂}
+use mathlib.Core.List.{List}
+use Prim.Native.Nat.{ℕ}
+use lib.ListN.{length}
+use Rattle.trits.specs.Refusal.{first}
+use Rattle.heldkey.specs.declared.state.Held.{Held}
+use Rattle.checking.specs.Check.{callRefusal, planesLengths, planesContents, packedLengths, packedContents, checkRefusal, checkPackedRefusal}
+
+module _ (h : Held) (number : ℕ) (ones twos : List ℕ) where
+  pub check-spaces : (yOnes yTwos sOnes sTwos a b c d : List ℕ) → length a ≡ length c → length b ≡ length d
+      → checkRefusal h number ones twos yOnes yTwos sOnes sTwos a b ≡ checkRefusal h number ones twos yOnes yTwos sOnes sTwos c d
+  unfolding checkRefusal
+  check-spaces yOnes yTwos sOnes sTwos a b c d e f =
+      let rest = first (planesLengths h (length yOnes) (length yTwos) (length sOnes) (length sTwos)) (planesContents h ones twos yOnes yTwos sOnes sTwos) in
+      ap₂ (λ (x y : ℕ). first (callRefusal h number (length ones) (length twos) x y) rest) e f
+
+  pub packed-spaces : (y s a b c d : List ℕ) → length a ≡ length c → length b ≡ length d
+      → checkPackedRefusal h number ones twos y s a b ≡ checkPackedRefusal h number ones twos y s c d
+  unfolding checkPackedRefusal
+  packed-spaces y s a b c d e f =
+      let rest = first (packedLengths h (length y) (length s)) (packedContents h ones twos y s) in
+      ap₂ (λ (x y : ℕ). first (callRefusal h number (length ones) (length twos) x y) rest) e f

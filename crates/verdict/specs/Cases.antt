@@ -1,0 +1,38 @@
+-- Worked cases of the verdict ("The verdict"): the paper's example of lines, and a key that is not square, worked out apart from the definitions. Assumes nothing.
+use mathlib.Core.Path.{_≡_}
+use mathlib.Core.Bool.{true, false}
+use mathlib.Core.List.{[], _∷_}
+use Prim.Native.Nat.{ℕ}
+use Rattle.trits.specs.Trit.{Trit}
+use Rattle.trits.specs.Digits.{vector, digits, matrix}
+use Rattle.verdict.specs.Verdict.{Key, fullWord, fullWeight, saysYes}
+
+-- the key of the example of lines: rows 02 and 22; and its y, 12
+abbrev key4 : Key
+key4 = matrix ((0 ∷ 2 ∷ []) ∷ (2 ∷ 2 ∷ []) ∷ [])
+
+abbrev y4 : ℕ → Trit
+y4 = vector (1 ∷ 2 ∷ [])
+
+-- a key whose R is not square: rows 22212, 20200 and 12000; and y = 10221
+abbrev key8 : Key
+key8 = matrix ((2 ∷ 2 ∷ 2 ∷ 1 ∷ 2 ∷ []) ∷ (2 ∷ 0 ∷ 2 ∷ 0 ∷ 0 ∷ []) ∷ (1 ∷ 2 ∷ 0 ∷ 0 ∷ 0 ∷ []) ∷ [])
+
+abbrev y8 : ℕ → Trit
+y8 = vector (1 ∷ 0 ∷ 2 ∷ 2 ∷ 1 ∷ [])
+
+pub record Cases : Type 0 where
+  -- "Held key and lines of text": s = 11 makes 2111, of weight 4, which is yes at w = 4
+  pub full-11 : digits 4 (fullWord 2 2 key4 y4 (vector (1 ∷ 1 ∷ []))) ≡ 2 ∷ 1 ∷ 1 ∷ 1 ∷ []
+  pub weight-11 : fullWeight 2 2 key4 y4 (vector (1 ∷ 1 ∷ [])) ≡ 4
+  pub yes-11 : saysYes 2 2 4 key4 y4 (vector (1 ∷ 1 ∷ [])) ≡ true
+  -- s = 12 makes 0212, of weight 3, which is no
+  pub full-12 : digits 4 (fullWord 2 2 key4 y4 (vector (1 ∷ 2 ∷ []))) ≡ 0 ∷ 2 ∷ 1 ∷ 2 ∷ []
+  pub weight-12 : fullWeight 2 2 key4 y4 (vector (1 ∷ 2 ∷ [])) ≡ 3
+  pub no-12 : saysYes 2 2 4 key4 y4 (vector (1 ∷ 2 ∷ [])) ≡ false
+  -- "At the edges": s = 00 makes 1200, accepted at w = 2
+  pub full-00 : digits 4 (fullWord 2 2 key4 y4 (vector (0 ∷ 0 ∷ []))) ≡ 1 ∷ 2 ∷ 0 ∷ 0 ∷ []
+  pub yes-00 : saysYes 2 2 2 key4 y4 (vector (0 ∷ 0 ∷ [])) ≡ true
+  -- under the key that is not square, s = 112 makes 10112112 and s = 121 makes 02212121
+  pub full-112 : digits 8 (fullWord 5 3 key8 y8 (vector (1 ∷ 1 ∷ 2 ∷ []))) ≡ 1 ∷ 0 ∷ 1 ∷ 1 ∷ 2 ∷ 1 ∷ 1 ∷ 2 ∷ []
+  pub full-121 : digits 8 (fullWord 5 3 key8 y8 (vector (1 ∷ 2 ∷ 1 ∷ []))) ≡ 0 ∷ 2 ∷ 2 ∷ 1 ∷ 2 ∷ 1 ∷ 2 ∷ 1 ∷ []

@@ -2,3 +2,4 @@
 pub mod Linear
 pub mod Orders
 pub mod Eliminate
+pub mod Cases

@@ -5,20 +5,20 @@ use mathlib.Core.List.{[], _∷_}
 use Prim.Native.Nat.{ℕ}
 use Rattle.trits.specs.Trit.{Trit}
 use Rattle.trits.specs.Digits.{vector, digits, matrix}
-use Rattle.verdict.specs.Verdict.{Key, fullWord, fullWeight, saysYes}
+use Rattle.verdict.specs.Verdict.{Key, fullWord, fullWeight, saysYes, Found}
 
 -- the key of the example of lines: rows 02 and 22; and its y, 12
-abbrev key4 : Key
+abbrev pub key4 : Key
 key4 = matrix ((0 ∷ 2 ∷ []) ∷ (2 ∷ 2 ∷ []) ∷ [])
 
-abbrev y4 : ℕ → Trit
+abbrev pub y4 : ℕ → Trit
 y4 = vector (1 ∷ 2 ∷ [])
 
 -- a key whose R is not square: rows 22212, 20200 and 12000; and y = 10221
-abbrev key8 : Key
+abbrev pub key8 : Key
 key8 = matrix ((2 ∷ 2 ∷ 2 ∷ 1 ∷ 2 ∷ []) ∷ (2 ∷ 0 ∷ 2 ∷ 0 ∷ 0 ∷ []) ∷ (1 ∷ 2 ∷ 0 ∷ 0 ∷ 0 ∷ []) ∷ [])
 
-abbrev y8 : ℕ → Trit
+abbrev pub y8 : ℕ → Trit
 y8 = vector (1 ∷ 0 ∷ 2 ∷ 2 ∷ 1 ∷ [])
 
 pub record Cases : Type 0 where
@@ -30,6 +30,8 @@ pub record Cases : Type 0 where
   pub full-12 : digits 4 (fullWord 2 2 key4 y4 (vector (1 ∷ 2 ∷ []))) ≡ 0 ∷ 2 ∷ 1 ∷ 2 ∷ []
   pub weight-12 : fullWeight 2 2 key4 y4 (vector (1 ∷ 2 ∷ [])) ≡ 3
   pub no-12 : saysYes 2 2 4 key4 y4 (vector (1 ∷ 2 ∷ [])) ≡ false
+  -- and no word of weight 4 that has the syndrome 12 extends it
+  pub none-12 : Found 2 2 4 key4 y4 (vector (1 ∷ 2 ∷ [])) → ⊥
   -- "At the edges": s = 00 makes 1200, accepted at w = 2
   pub full-00 : digits 4 (fullWord 2 2 key4 y4 (vector (0 ∷ 0 ∷ []))) ≡ 1 ∷ 2 ∷ 0 ∷ 0 ∷ []
   pub yes-00 : saysYes 2 2 2 key4 y4 (vector (0 ∷ 0 ∷ [])) ≡ true

@@ -1,0 +1,12 @@
+-- The worked cases, computed from the definitions. Assumes nothing.
+use mathlib.Core.Path.{refl}
+use Rattle.trits.specs.Trit.{anyTo, dotV}
+use Rattle.trits.specs.Planes.{tabulate}
+use Rattle.trits.specs.Digits.{digitRows}
+use Rattle.matrix.specs.Linear.{agree, find, solve, inSpan, keep, pivots, rank}
+use Rattle.matrix.specs.Eliminate.{firstRow, hasPivot, stepOf, tried, eliminate, eliminated}
+use Rattle.matrix.specs.Cases.{Cases}
+
+pub cases : Cases
+unfolding anyTo dotV tabulate digitRows agree find solve inSpan keep pivots rank firstRow hasPivot stepOf tried eliminate eliminated
+cases = record { pivots-0123 = refl; pivots-3210 = refl; rank-01 = refl; solve-2 = refl; eliminated-2111 = refl }

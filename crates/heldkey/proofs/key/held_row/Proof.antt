@@ -19,7 +19,9 @@ slice-aggregate-result c = search needs
 
 returns : tie.Need-returns
 returns c =
-    row-missing (c .before .before .before .before .before .args .held) (now (c .before .before .before .before .before .args .plane)) (c .before .before .before .before .before .args .i) (sym (c .before .before .before .is-sound .ensures) ∙ c .before .before .if1 .taken) (c .before .if2 .taken)
+    let a = c .before .before .before .before .before .args in
+    let s = sym (c .before .before .before .is-sound .ensures) ∙ c .before .before .if1 .taken in
+    row-missing (a .held) (now (a .plane)) (a .i) s (omega (arith, sizes (a .held) s))
 
 row-words-requires : tie.Need-row-words-requires
 row-words-requires c κs =
@@ -32,7 +34,9 @@ row-part-requires c κs =
 
 returns-2 : tie.Need-returns-2
 returns-2 c =
-    c .row-part .ensures ∙ ap (λ (w : ℕ). rowPart (now (c .before .before .before .before .before .before .args .plane)) (c .before .before .before .before .before .before .args .held .k) w (c .before .before .before .before .before .before .args .i)) (c .before .row-words .ensures) ∙ row-stored (c .before .before .before .before .before .before .args .held) (now (c .before .before .before .before .before .before .args .plane)) (c .before .before .before .before .before .before .args .i) (sym (c .before .before .before .before .is-sound .ensures) ∙ c .before .before .before .if1 .taken) (c .before .before .if2 .left)
+    let a = c .before .before .before .before .before .before .args in
+    let s = sym (c .before .before .before .before .is-sound .ensures) ∙ c .before .before .before .if1 .taken in
+    c .row-part .ensures ∙ ap (λ (w : ℕ). rowPart (now (a .plane)) (a .held .k) w (a .i)) (c .before .row-words .ensures) ∙ row-stored (a .held) (now (a .plane)) (a .i) s (omega arith)
 
 slice-aggregate-result-2 : tie.Need-slice-aggregate-result-2
 slice-aggregate-result-2 c = search needs

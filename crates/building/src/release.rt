@@ -60,7 +60,7 @@ pub fn fill_matrix(
         work_twos,
         rows,
         hw,
-        ru,
+        ru, // the rows before those of H_V
         rv,
         hv_ones,
         hv_twos,

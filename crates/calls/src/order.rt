@@ -34,7 +34,7 @@ pub fn all_marked(flags: &[u8], n: usize) -> bool
     requires { ⌜ n ≤ length (now flags) ⌝ }
     ensures { λ r. ⌜ r ≡ allSet n (now (flags .entry)) ⌝ }
 {
-    let mut i = 0;
+    let mut i = 0; // the place that comes next
     while i < n {
         if flags[i] == 0 {
             return false;

@@ -75,7 +75,7 @@ pub fn write_key(
     ensures { λ _. ⌜ now (ko .exit) ≡ keyOnes k kw rows half hw (matrixAt w (now (ones .entry)) (now (twos .entry))) (now (order .entry)) ⌝ }
     ensures { λ _. ⌜ now (kt .exit) ≡ keyTwos k kw rows half hw (matrixAt w (now (ones .entry)) (now (twos .entry))) (now (order .entry)) ⌝ }
 {
-    let mut i = 0;
+    let mut i = 0; // the row that comes next
     while i < k {
         let q = order[rows + i] as usize;
         let c = arrange::column(q, half, hw);

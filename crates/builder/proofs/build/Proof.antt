@@ -24,7 +24,14 @@ sizes-fit-requires c κs = search needs
 returns : tie.Need-returns
 unfolding orderExit keyOnesExit keyTwosExit workOnesExit workTwosExit
 returns c =
-    let s = c .before .before .before .before .before .before .before .before .before .before .before .before .before .before .before .before in let a = s .args in let i = (buildCall (planes (now (a .hu-ones)) (now (a .hu-twos)) (now (a .hv-ones)) (now (a .hv-twos)) (now (a .b-ones)) (now (a .b-twos)) (now (a .c-ones)) (now (a .c-twos))) (now (a .start)) (now (a .p)) (now (a .key-ones)) (now (a .key-twos)) (now (a .work-ones)) (now (a .work-twos))) in let f = answer-size (a .z) i (sym (c .before .sizes-fit .ensures) ∙ not-true (c .before .sizes-fit .result) (c .if1 .taken)) in (f, exit-kept _ _ f (lit< tt), exit-kept _ _ f (lit< tt), exit-kept _ _ f (lit< tt), work-kept _ f (lit< tt) (lit< tt), work-kept _ f (lit< tt) (lit< tt))
+    let h = sym (c .before .sizes-fit .ensures) ∙ not-true (c .before .sizes-fit .result) (c .if1 .taken) in (
+      answer-size _ _ h,
+      exit-kept _ _ (answer-size _ _ h) (lit< tt),
+      exit-kept _ _ (answer-size _ _ h) (lit< tt),
+      exit-kept _ _ (answer-size _ _ h) (lit< tt),
+      work-kept _ (answer-size _ _ h) (lit< tt) (lit< tt),
+      work-kept _ (answer-size _ _ h) (lit< tt) (lit< tt),
+    )
 
 lengths-differ-requires : tie.Need-lengths-differ-requires
 lengths-differ-requires c κs =

@@ -27,7 +27,15 @@ sizes-fit-requires c κs = search needs
 returns : tie.Need-returns
 unfolding wordOnesExit wordTwosExit sOnesExit sTwosExit workOnesExit workTwosExit
 returns c =
-    let s = c .before .before .before .before .before .before .before .before .before .before .before .before .before .before .before .before .before .before .before .before .before .before .before .before .before in let a = s .args in let i = (drawCall (planes (now (a .hu-ones)) (now (a .hu-twos)) (now (a .hv-ones)) (now (a .hv-twos)) (now (a .b-ones)) (now (a .b-twos)) (now (a .c-ones)) (now (a .c-twos))) (now (a .p)) (now (a .y-ones)) (now (a .y-twos)) (now (a .v-order)) (now (a .v-ones)) (now (a .v-twos)) (now (a .u-order)) (now (a .u-ones)) (now (a .u-twos)) (now (a .word-ones)) (now (a .word-twos)) (now (a .s-ones)) (now (a .s-twos)) (now (a .work-ones)) (now (a .work-twos))) in let f = answer-size (a .z) i (sym (c .before .sizes-fit .ensures) ∙ not-true (c .before .sizes-fit .result) (c .if1 .taken)) in (f, exit-kept _ _ f (lit< tt), exit-kept _ _ f (lit< tt), exit-kept _ _ f (lit< tt), exit-kept _ _ f (lit< tt), work-kept _ f (lit< tt) (lit< tt), work-kept _ f (lit< tt) (lit< tt))
+    let h = sym (c .before .sizes-fit .ensures) ∙ not-true (c .before .sizes-fit .result) (c .if1 .taken) in (
+      answer-size _ _ h,
+      exit-kept _ _ (answer-size _ _ h) (lit< tt),
+      exit-kept _ _ (answer-size _ _ h) (lit< tt),
+      exit-kept _ _ (answer-size _ _ h) (lit< tt),
+      exit-kept _ _ (answer-size _ _ h) (lit< tt),
+      work-kept _ (answer-size _ _ h) (lit< tt) (lit< tt),
+      work-kept _ (answer-size _ _ h) (lit< tt) (lit< tt),
+    )
 
 lengths-differ-requires : tie.Need-lengths-differ-requires
 lengths-differ-requires c κs =
@@ -48,7 +56,18 @@ code-requires c κs = search needs
 returns-3 : tie.Need-returns-3
 unfolding wordOnesExit wordTwosExit sOnesExit sTwosExit workOnesExit workTwosExit
 returns-3 c =
-    let s = c .before .before .before .before .before .before .before .before .before .before .before .before .before .before .before .before .before .before .before .before .before .before .before .before .before .before .before .before .before .before in let a = s .args in let i = (drawCall (planes (now (a .hu-ones)) (now (a .hu-twos)) (now (a .hv-ones)) (now (a .hv-twos)) (now (a .b-ones)) (now (a .b-twos)) (now (a .c-ones)) (now (a .c-twos))) (now (a .p)) (now (a .y-ones)) (now (a .y-twos)) (now (a .v-order)) (now (a .v-ones)) (now (a .v-twos)) (now (a .u-order)) (now (a .u-ones)) (now (a .u-twos)) (now (a .word-ones)) (now (a .word-twos)) (now (a .s-ones)) (now (a .s-twos)) (now (a .work-ones)) (now (a .work-twos))) in let z = sym (c .before .before .before .before .before .before .sizes-fit .ensures) ∙ not-false (c .before .before .before .before .before .before .sizes-fit .result) (c .before .before .before .before .before .if1 .left) in let d = same-lengths (a .z) i (sym (c .before .before .before .before .lengths-differ .ensures) ∙ c .before .before .before .if2 .left) in let e = c .before .before .test-contents .ensures ∙ ap (first (secretRefusal (a .z) (i .secret))) (same-choices (a .z) i) in let f = c .before .code .ensures ∙ e in let h = positive _ (c .if3 .taken) in let g = answer-contents (a .z) i z d e (λ y. c .if3 .taken (c .before .code .ensures ∙ y)) in let k = c .before .code .ensures ∙ g in let t = contents-le (a .z) i in (g, exit-kept _ _ k h, exit-kept _ _ k h, exit-kept _ _ k h, exit-kept _ _ k h, work-kept _ k h (omega (arith, f, t)), work-kept _ k h (omega (arith, f, t)))
+    let s = c .before .before .before .before .before .before .before .before .before .before .before .before .before .before .before .before .before .before .before .before .before .before .before .before .before .before .before .before .before .before in let a = s .args in let i = (drawCall (planes (now (a .hu-ones)) (now (a .hu-twos)) (now (a .hv-ones)) (now (a .hv-twos)) (now (a .b-ones)) (now (a .b-twos)) (now (a .c-ones)) (now (a .c-twos))) (now (a .p)) (now (a .y-ones)) (now (a .y-twos)) (now (a .v-order)) (now (a .v-ones)) (now (a .v-twos)) (now (a .u-order)) (now (a .u-ones)) (now (a .u-twos)) (now (a .word-ones)) (now (a .word-twos)) (now (a .s-ones)) (now (a .s-twos)) (now (a .work-ones)) (now (a .work-twos))) in let z = sym (c .before .before .before .before .before .before .sizes-fit .ensures) ∙ not-false (c .before .before .before .before .before .before .sizes-fit .result) (c .before .before .before .before .before .if1 .left) in let d = same-lengths (a .z) i (sym (c .before .before .before .before .lengths-differ .ensures) ∙ c .before .before .before .if2 .left) in let e = c .before .before .test-contents .ensures ∙ ap (first (secretRefusal (a .z) (i .secret))) (same-choices (a .z) i) in
+    let b = c .before .code .ensures in
+    let q = c .if3 .taken in
+    let g = answer-contents (a .z) i z d (b ∙ e) q in (
+      sym b ∙ g,
+      exit-kept _ _ g (positive _ q),
+      exit-kept _ _ g (positive _ q),
+      exit-kept _ _ g (positive _ q),
+      exit-kept _ _ g (positive _ q),
+      work-kept _ g (positive _ q) (omega (arith, b, e, contents-le (a .z) i)),
+      work-kept _ g (positive _ q) (omega (arith, b, e, contents-le (a .z) i)),
+    )
 
 finish-requires : tie.Need-finish-requires
 finish-requires c κs =

@@ -1,6 +1,8 @@
 -- What is made is made, and the working space is 0 after it.
 -- Assumes nothing.
-use mathlib.Core.Path.{ap, _∙_}
+use mathlib.Core.Path.{_≡_, ap, _∙_}
+use mathlib.Core.List.{List}
+use Prim.Native.Nat.{ℕ}
 use Rattle.trits.specs.Planes.{zeroWords}
 use borrow.Author.Needs.{needs}
 use Rattle.builder.proofs.finish.finish.Statement.{statement}
@@ -28,9 +30,13 @@ same-length-4 c = search needs
 same-length-5 : tie.Need-same-length-5
 same-length-5 c = search needs
 
+-- words made 0 at a length that is also the entry's
+cleared : {w : List ℕ} {n m : ℕ} → w ≡ zeroWords n → n ≡ m → w ≡ zeroWords m
+cleared e d = e ∙ ap zeroWords d
+
 returns : tie.Need-returns
 returns c =
-    let e = c .before .before .before .before .before .before .before .before .before .before .before .before .before .before .before .before .before .make .ensures in let f = c .before .before .before .before .clear .ensures in (e .0, e .1, e .2, e .3, f .0 ∙ ap zeroWords (c .before .before .before .before .before .before .before .before .before .before .work-ones .given), f .1 ∙ ap zeroWords (c .before .before .before .before .before .before .before .before .work-twos .given))
+    (search needs, search needs, search needs, search needs, search (needs, cleared), search (needs, cleared))
 
 pub finish-spec : {M : Type 1} → statement M
 finish-spec =

@@ -13,8 +13,7 @@ use Rattle.builder.proofs.finish.make.Statement.{statement}
 use Rattle.builder.proofs.finish.make.Tie as tie
 
 test-ranks-requires : tie.Need-test-ranks-requires
-test-ranks-requires c κs =
-    let s = c .before .before .before .before .before .before .before .before .before .before .before .before .before .before .before .before in let r = s .pre .1 .0 in let l = s .pre .1 .1 .1 in (s .pre .0, (r .hu, (r .hv, (l .3, l .4))))
+test-ranks-requires c κs = (search needs, (search needs, (search needs, (search needs, search needs))))
 
 code-requires : tie.Need-code-requires
 code-requires c κs = search needs
@@ -27,7 +26,12 @@ same-length-2 c = search needs
 
 returns : tie.Need-returns
 returns c =
-    let s = c .before .before .before .before .before .before .before .before .before .before .before .before .before .before .before .before .before .before .before .before .before .before .before in let a = s .args in let l = s .pre .1 .1 .1 in let k = secretOf (a .z) (planes (now (a .hu-ones)) (now (a .hu-twos)) (now (a .hv-ones)) (now (a .hv-twos)) (now (a .b-ones)) (now (a .b-twos)) (now (a .c-ones)) (now (a .c-twos))) in let y = same-ranks (a .z) (matrices (a .z) (now (a .hu-ones)) (now (a .hu-twos)) (now (a .hv-ones)) (now (a .hv-twos))) k refl refl in let e = c .before .before .before .before .before .before .test-ranks .ensures ∙ y in let f = c .before .code .ensures ∙ e in let h = positive _ (c .if1 .taken) in (e, exit-kept _ _ f h, exit-kept _ _ f h, exit-kept _ _ f h)
+    let h = positive _ (c .if1 .taken) in (
+      c .before .before .before .before .before .before .test-ranks .ensures ∙ same-ranks _ _ _ refl refl,
+      exit-kept _ _ (c .before .code .ensures ∙ c .before .before .before .before .before .before .test-ranks .ensures ∙ same-ranks _ _ _ refl refl) h,
+      exit-kept _ _ (c .before .code .ensures ∙ c .before .before .before .before .before .before .test-ranks .ensures ∙ same-ranks _ _ _ refl refl) h,
+      exit-kept _ _ (c .before .code .ensures ∙ c .before .before .before .before .before .before .test-ranks .ensures ∙ same-ranks _ _ _ refl refl) h,
+    )
 
 release-requires : tie.Need-release-requires
 release-requires c κs =

@@ -65,7 +65,11 @@ returns-4 c =
 
 has-zero-requires : tie.Need-has-zero-requires
 has-zero-requires c κs =
-    let s = c .before .before .before .before .before .before .before .before .before .before .before .before .before .before .before .before .before .before .before .before in let b = bounds (s .args .z) (s .pre .0) in (s .pre .1 .7 ∙ sym (s .pre .1 .6), omega (arith, s .pre .1 .6), omega (arith, b .high))
+    let t = c .before .before .before .before .before .before .before .before .before .before in
+    let s = t .before .before .before .before .before .before .before .before .before .before in
+    let b = bounds (s .args .z) (s .pre .0) in
+    let l = s .pre .1 in
+    (omega (arith, l .4, l .5, l .6, l .7), omega (arith, l .4, l .6), omega (arith, b .high))
 
 returns-5 : tie.Need-returns-5
 returns-5 c =

@@ -35,7 +35,17 @@ sub-rv c =
 
 rank-of-requires-2 : tie.Need-rank-of-requires-2
 rank-of-requires-2 c κs =
-    let s = c .before .before .before .before .before .before .before .before .before .before .before .before .before .before .before .before in let p = products (s .args .z) (bounds (s .args .z) (s .pre .0)) in let g = s .pre .1 .1 .0 in (g, ((omega (arith, g .size, p .v), omega arith), (omega (arith, g .size, p .v-room, s .pre .1 .1 .1 .0), omega (arith, g .size, p .v-room, s .pre .1 .1 .1 .1))))
+    let s = c .before .before .before .before .before .before .before .before .before .before .before .before .before .before .before .before in
+    let p = products (s .args .z) (bounds (s .args .z) (s .pre .0)) in
+    let u = s .pre .1 .0 in
+    let v = s .pre .1 .1 .0 in
+    let l = s .pre .1 .1 .1 in (
+      search needs,
+      (
+        (omega (arith, u .size, v .size, p .u, p .v), omega arith),
+        (omega (arith, u .size, v .size, p .u-room, p .v-room, l .0), omega (arith, u .size, v .size, p .u-room, p .v-room, l .1)),
+      ),
+    )
 
 same-length-3 : tie.Need-same-length-3
 same-length-3 c = search needs

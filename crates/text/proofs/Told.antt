@@ -137,8 +137,8 @@ module _ {line : List ℕ} {b c d : ℕ} (f : Four line b c d) (most : ℕ) wher
         unfolding fourFields keyOf bounded
         key-told t e₁ e₂ e₃ e₄ = rw (f .are, q, r, s, t, ← e₁, ← e₂, ← e₃, ← e₄)
 
-    pub sign-told : {number formula : ℕ} → inRange mostFormula (part (b + 1) c line) ≡ true → isDigits (part (c + 1) d line) ≡ true → isDigits (part (d + 1) (length line) line) ≡ true
-        → number ≡ value (part 2 b line) → formula ≡ value (part (b + 1) c line)
+    pub sign-told : {number formula : ℕ} → inRange mostFormula (part (b + 1) c line) ≡ true → isDigits (part (c + 1) d line) ≡ true
+        → isDigits (part (d + 1) (length line) line) ≡ true → number ≡ value (part 2 b line) → formula ≡ value (part (b + 1) c line)
         → signLine number formula (part (c + 1) d line) (part (d + 1) (length line) line) ≡ bounded (fourFields (signOf most) (fields (drop 2 line)))
     unfolding fourFields signOf bounded
     sign-told r s t e₁ e₂ = rw (f .are, q, r, s, t, ← e₁, ← e₂)

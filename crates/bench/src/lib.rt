@@ -36,7 +36,7 @@ fn sum_refusal(ones: &[u64], twos: &[u64], so: &[u64], st: &[u64]) -> u64
         return 3;
     }
     if trits::faults::both_set(so, st) {
-        return 3;
+        return 3; // the source
     }
     0
 }

@@ -199,7 +199,7 @@ pub fn handle(
     ensures { λ r. ⌜ r .count ≡ length (linePrints (holding held (now (ones .entry)) (now (twos .entry))) (readLine (now (line .entry)))) ⌝ }
     ensures { λ _. ⌜ now (out .exit) ≡ putWords 0 (now (out .entry)) (linePrints (holding held (now (ones .entry)) (now (twos .entry))) (readLine (now (line .entry)))) ⌝ }
 {
-    let form = text::forms::read_line(line, 255);
+    let form = text::forms::read_line(line, heldkey::state::MOST_KEY_NUMBER);
     match form {
         Form::Neither => Handled {
             held: held,

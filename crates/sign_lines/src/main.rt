@@ -82,13 +82,17 @@ fn draw_with(
     trits::refusal::code(outcome)
 }
 
-// One draw with choices made from x: two orders, ten trits, and sixteen values that are not 0.
+// One draw with choices made from x: two orders, ten trits, and sixteen values that are not 0. The answer is 0, or the number of the refusal.
 fn draw(p: &[u16], x: u64, s_ones: &mut [u64], s_twos: &mut [u64]) -> u64 {
     let mut v_order = [0u16; 32];
     let mut u_order = [0u16; 32];
     let mut v_ones = [0u64; 1];
     let mut v_twos = [0u64; 1];
-    let last = samples::fill_row(10, x, &mut v_ones, &mut v_twos);
+    let row = samples::fill_row(10, x, &mut v_ones, &mut v_twos);
+    if row.refusal != 0 {
+        return row.refusal;
+    }
+    let last = row.last;
     let values = samples::next(last) % 65536;
     samples::fill_order(&mut v_order, 2 * (x % 16) as usize + 1, (x % 32) as usize);
     samples::fill_order(

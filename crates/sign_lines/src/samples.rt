@@ -1,11 +1,13 @@
 // Choices for draws, made up: the same ones on every run.
 ghost use mathlib.Core.Path.{_≡_};
-ghost use mathlib.Core.Logic.{_⊎_};
-ghost use Prim.Native.Nat.{_+_, _*_, _%_, _<_, _≤_};
+ghost use Prim.Native.Nat.{_+_, _*_, _/_, _%_, _<_, _≤_};
+ghost use lib.ListN.{length};
+ghost use Rattle.packing.specs.Calls.{unpackRefusal, unpackOnes, unpackTwos};
+ghost use Rattle.sign_lines.specs.{following, numberAfter, packedAfter, turned, ringOrder};
 
 // The number that follows x in a sequence of numbers below 65,537.
 pub fn next(x: u64) -> u64
-    ensures { λ r. ⌜ r ≡ (75 * (x % 65537) + 74) % 65537 ⌝ }
+    ensures { λ r. ⌜ r ≡ following x ⌝ }
 {
     (75 * (x % 65537) + 74) % 65537
 }
@@ -18,7 +20,10 @@ pub fn packed(x: u64) -> u8
 }
 
 // Packed bytes by the numbers that follow x; the answer is the last number.
-pub fn fill_bytes(bytes: &mut [u8], x: u64) -> u64 {
+pub fn fill_bytes(bytes: &mut [u8], x: u64) -> u64
+    ensures { λ r. ⌜ r ≡ numberAfter (length (now (bytes .entry))) x ⌝ }
+    ensures { λ _. ⌜ now (bytes .exit) ≡ packedAfter (length (now (bytes .entry))) x ⌝ }
+{
     let mut state = x;
     let mut j = 0;
     while j < bytes.len() {
@@ -29,18 +34,35 @@ pub fn fill_bytes(bytes: &mut [u8], x: u64) -> u64 {
     state
 }
 
-// A row of m trits, unpacked from such bytes.
-fn unpack_row(m: usize, x: u64, bytes: &mut [u8], ones: &mut [u64], twos: &mut [u64]) -> u64 {
-    let state = fill_bytes(bytes, x);
-    packing::unpack(m, bytes, ones, twos);
-    state
+// What became of a row: the number of a refusal, or 0; and the last number of the sequence.
+pub struct Filled {
+    pub refusal: u64,
+    pub last: u64,
 }
 
-// The same with bytes of its own, where the planes have the length of a row.
-pub fn fill_row(m: usize, x: u64, ones: &mut [u64], twos: &mut [u64]) -> u64 {
-    if m > 16384 {
-        return x;
+// A row of m trits, unpacked from such bytes.
+fn unpack_row(m: usize, x: u64, bytes: &mut [u8], ones: &mut [u64], twos: &mut [u64]) -> Filled
+    ensures { λ r. ⌜ r .refusal ≡ unpackRefusal m (packedAfter (length (now (bytes .entry))) x) (now (ones .entry)) (now (twos .entry)) ⌝ }
+    ensures { λ r. ⌜ r .last ≡ numberAfter (length (now (bytes .entry))) x ⌝ }
+    ensures { λ _. ⌜ now (ones .exit) ≡ unpackOnes m (packedAfter (length (now (bytes .entry))) x) (now (ones .entry)) (now (twos .entry)) ⌝ }
+    ensures { λ _. ⌜ now (twos .exit) ≡ unpackTwos m (packedAfter (length (now (bytes .entry))) x) (now (ones .entry)) (now (twos .entry)) ⌝ }
+{
+    let last = fill_bytes(bytes, x);
+    let outcome = packing::unpack(m, bytes, ones, twos);
+    Filled {
+        refusal: trits::refusal::code(outcome),
+        last: last,
     }
+}
+
+// The same with bytes of its own.
+pub fn fill_row(m: usize, x: u64, ones: &mut [u64], twos: &mut [u64]) -> Filled
+    requires { ⌜ m ≤ 16384 ⌝ }
+    ensures { λ r. ⌜ r .refusal ≡ unpackRefusal m (packedAfter ((m + 4) / 5) x) (now (ones .entry)) (now (twos .entry)) ⌝ }
+    ensures { λ r. ⌜ r .last ≡ numberAfter ((m + 4) / 5) x ⌝ }
+    ensures { λ _. ⌜ now (ones .exit) ≡ unpackOnes m (packedAfter ((m + 4) / 5) x) (now (ones .entry)) (now (twos .entry)) ⌝ }
+    ensures { λ _. ⌜ now (twos .exit) ≡ unpackTwos m (packedAfter ((m + 4) / 5) x) (now (ones .entry)) (now (twos .entry)) ⌝ }
+{
     let b = (m + 4) / 5;
     let mut bytes = [0u8; 3277];
     unpack_row(m, x, &mut bytes[0..b], ones, twos)
@@ -49,7 +71,8 @@ pub fn fill_row(m: usize, x: u64, ones: &mut [u64], twos: &mut [u64]) -> u64 {
 // The place a further on, of n places in a ring.
 fn turn(q: usize, a: usize, n: usize) -> usize
     requires { ⌜ (q < n) × (a < n) × (n ≤ 16384) ⌝ }
-    ensures { λ r. ⌜ (r < n) × ((r ≡ q + a) ⊎ (r + n ≡ q + a)) ⌝ }
+    ensures { λ r. ⌜ r ≡ turned n a q ⌝ }
+    ensures { λ r. ⌜ r < n ⌝ }
 {
     if q + a < n {
         return q + a;
@@ -57,12 +80,12 @@ fn turn(q: usize, a: usize, n: usize) -> usize
     q + a - n
 }
 
-// The order whose place j is b + a j in a ring of as many places, for a and b below their number.
-pub fn fill_order(order: &mut [u16], a: usize, b: usize) {
+// The order whose place j is b + a j in a ring of as many places.
+pub fn fill_order(order: &mut [u16], a: usize, b: usize)
+    requires { ⌜ (length (now order) ≤ 16384) × (a < length (now order)) × (b < length (now order)) ⌝ }
+    ensures { λ _. ⌜ now (order .exit) ≡ ringOrder (length (now (order .entry))) a b (length (now (order .entry))) ⌝ }
+{
     let n = order.len();
-    if n > 16384 || a >= n || b >= n {
-        return;
-    }
     let mut q = b;
     let mut j = 0;
     while j < n {

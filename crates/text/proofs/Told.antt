@@ -1,6 +1,6 @@
 -- What the fields of a line say: four fields found or not, numbers in and out of their ranges, and the forms. Assumes nothing.
 use mathlib.Core.Path.{_≡_, refl, sym, ap, _∙_}
-use mathlib.Core.Bool.{Bool, true, false, _&&_, cond}
+use mathlib.Core.Bool.{Bool, true, false, _&&_, cond, and-false}
 use mathlib.Core.List.{List, [], _∷_}
 use Prim.Native.Nat.{ℕ, _+_, _-_, _≤_, _<_}
 use native.Mathlib.Decide.{decLt, ℕ-discrete}
@@ -121,10 +121,6 @@ module _ {line : List ℕ} {b c d : ℕ} (f : Four line b c d) (most : ℕ) wher
     unfolding fourFields keyOf bounded
     key-not-2 r = rw (f .are, q, r)
 
-    pub sign-not-2 : inRange mostFormula (part (b + 1) c line) ≡ false → noForm ≡ bounded (fourFields (signOf most) (fields (drop 2 line)))
-    unfolding fourFields signOf bounded
-    sign-not-2 r = rw (f .are, q, r)
-
     module _ (r : isNumber (part (b + 1) c line) ≡ true) where
       pub key-not-3 : isNumber (part (c + 1) d line) ≡ false → noForm ≡ bounded (fourFields (keyOf most) (fields (drop 2 line)))
       unfolding fourFields keyOf bounded
@@ -141,20 +137,25 @@ module _ {line : List ℕ} {b c d : ℕ} (f : Four line b c d) (most : ℕ) wher
         unfolding fourFields keyOf bounded
         key-told t e₁ e₂ e₃ e₄ = rw (f .are, q, r, s, t, ← e₁, ← e₂, ← e₃, ← e₄)
 
-    module _ (r : inRange mostFormula (part (b + 1) c line) ≡ true) where
-      pub sign-not-3 : isDigits (part (c + 1) d line) ≡ false → noForm ≡ bounded (fourFields (signOf most) (fields (drop 2 line)))
-      unfolding fourFields signOf bounded
-      sign-not-3 s = rw (f .are, q, r, s)
+    pub sign-told : {number formula : ℕ} → inRange mostFormula (part (b + 1) c line) ≡ true → isDigits (part (c + 1) d line) ≡ true
+        → isDigits (part (d + 1) (length line) line) ≡ true → number ≡ value (part 2 b line) → formula ≡ value (part (b + 1) c line)
+        → signLine number formula (part (c + 1) d line) (part (d + 1) (length line) line) ≡ bounded (fourFields (signOf most) (fields (drop 2 line)))
+    unfolding fourFields signOf bounded
+    sign-told r s t e₁ e₂ = rw (f .are, q, r, s, t, ← e₁, ← e₂)
 
-      module _ (s : isDigits (part (c + 1) d line) ≡ true) where
-        pub sign-not-4 : isDigits (part (d + 1) (length line) line) ≡ false → noForm ≡ bounded (fourFields (signOf most) (fields (drop 2 line)))
-        unfolding fourFields signOf bounded
-        sign-not-4 t = rw (f .are, q, r, s, t)
+  -- one field that is not what it must be is enough
+  pub sign-not-2 : inRange mostFormula (part (b + 1) c line) ≡ false → noForm ≡ bounded (fourFields (signOf most) (fields (drop 2 line)))
+  unfolding fourFields signOf bounded
+  sign-not-2 r = rw (f .are, r, and-false (inRange most (part 2 b line)))
 
-        pub sign-told : {number formula : ℕ} → isDigits (part (d + 1) (length line) line) ≡ true → number ≡ value (part 2 b line) → formula ≡ value (part (b + 1) c line)
-            → signLine number formula (part (c + 1) d line) (part (d + 1) (length line) line) ≡ bounded (fourFields (signOf most) (fields (drop 2 line)))
-        unfolding fourFields signOf bounded
-        sign-told t e₁ e₂ = rw (f .are, q, r, s, t, ← e₁, ← e₂)
+  pub sign-not-3 : isDigits (part (c + 1) d line) ≡ false → noForm ≡ bounded (fourFields (signOf most) (fields (drop 2 line)))
+  unfolding fourFields signOf bounded
+  sign-not-3 s = rw (f .are, s, and-false (inRange most (part 2 b line) && inRange mostFormula (part (b + 1) c line)))
+
+  pub sign-not-4 : isDigits (part (d + 1) (length line) line) ≡ false → noForm ≡ bounded (fourFields (signOf most) (fields (drop 2 line)))
+  unfolding fourFields signOf bounded
+  sign-not-4 t =
+      rw (f .are, t, and-false (inRange most (part 2 b line) && inRange mostFormula (part (b + 1) c line) && isDigits (part (c + 1) d line)))
 
 -- the fields are not four
 pub not-key : (line : List ℕ) (most : ℕ) → NotFour line → noForm ≡ bounded (fourFields (keyOf most) (fields (drop 2 line)))

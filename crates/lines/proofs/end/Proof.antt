@@ -1,6 +1,7 @@
 -- A last line that is not empty counts, and an empty one does not.
 -- Assumes nothing.
 use mathlib.Core.Path.{ap, _∙_}
+use native.Mathlib.Omega.{arith}
 use borrow.Author.Needs.{needs}
 use lib.ListN.{length}
 use denote.Ref.{now}
@@ -15,7 +16,7 @@ returns : tie.Need-returns
 returns c =
     let s = c .before .before in
     let m = machine (s .args .state) (now (s .args .line)) (now (s .args .ones)) (now (s .args .twos)) in
-    let q = end-none m (c .if1 .taken) in
+    let q = end-none m (omega (arith, c .if1 .taken)) in
     (q .0, (ap length (q .1), none-put (now (s .args .out)) ∙ ap (putWords 0 (now (s .args .out))) (q .1)))
 
 end-line-requires : tie.Need-end-line-requires

@@ -1,6 +1,7 @@
 -- Byte 10 ends the line, and any other byte is put into the buffer while there is room.
 -- Assumes nothing.
 use mathlib.Core.Path.{ap, _∙_}
+use native.Mathlib.Omega.{arith}
 use borrow.Author.Needs.{needs}
 use lib.ListN.{length}
 use denote.Ref.{now}
@@ -34,7 +35,7 @@ returns-2 c =
     let m = machine (s .args .state) (now (s .args .line)) (now (s .args .ones)) (now (s .args .twos)) in
     let f = c .before .before .if1 .left in
     let z = step-none m (s .args .byte) f in
-    (step-more m (s .args .byte) f (c .before .if2 .taken), (ap length z, none-put (now (s .args .out)) ∙ ap (putWords 0 (now (s .args .out))) z))
+    (step-more m (s .args .byte) f (omega (arith, c .before .if2 .taken)), (ap length z, none-put (now (s .args .out)) ∙ ap (putWords 0 (now (s .args .out))) z))
 
 returns-3 : tie.Need-returns-3
 returns-3 c =

@@ -1,6 +1,7 @@
 -- An n above 256 is refused, and any other is the checker's to judge.
 -- Assumes nothing.
 use mathlib.Core.Path.{_∙_}
+use native.Mathlib.Omega.{arith}
 use borrow.Author.Needs.{needs}
 use Rattle.oneline.proofs.Lines.{key-long, key-short}
 use Rattle.oneline.proofs.handle.begin_key.Statement.{statement}
@@ -9,7 +10,7 @@ use Rattle.oneline.proofs.handle.begin_key.Tie as tie
 returns : tie.Need-returns
 returns c =
     let a = c .before .args in
-    key-long (a .held) (a .number) (a .n) (a .k) (a .w) (c .if1 .taken)
+    key-long (a .held) (a .number) (a .n) (a .k) (a .w) (omega (arith, c .if1 .taken))
 
 begin-requires : tie.Need-begin-requires
 begin-requires c κs = search needs

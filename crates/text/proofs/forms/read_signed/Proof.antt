@@ -44,8 +44,7 @@ read-number-requires-2 c κs = search needs
 returns-2 : tie.Need-returns-2
 returns-2 c =
     let s = c .before .before .before .before .before .before .before in
-    let p = range-in _ (c .before .before .before .before .read-number .ensures) (s .args .most-key) (s .pre .1) (c .before .before .before .if1 .left) in
-    (sign-not-2 (s .pre .0) (s .args .most-key) (p .0) (range-out _ (c .before .read-number2 .ensures) 65535 (omega arith) (c .if2 .taken)), tt)
+    (sign-not-2 (s .pre .0) (s .args .most-key) (range-out _ (c .before .read-number2 .ensures) 65535 (omega arith) (omega (arith, c .if2 .taken))), tt)
 
 add-c1 : tie.Need-add-c1
 add-c1 c = search needs
@@ -65,9 +64,7 @@ is-digits-requires c κs = search needs
 returns-3 : tie.Need-returns-3
 returns-3 c =
     let s = c .before .before .before .before .before .before .before .before .before .before in
-    let p = range-in _ (c .before .before .before .before .before .before .before .read-number .ensures) (s .args .most-key) (s .pre .1) (c .before .before .before .before .before .before .if1 .left) in
-    let q = range-in _ (c .before .before .before .before .read-number2 .ensures) 65535 (omega arith) (c .before .before .before .if2 .left) in
-    (sign-not-3 (s .pre .0) (s .args .most-key) (p .0) (q .0) (sym (c .before .is-digits .ensures) ∙ not-true (c .before .is-digits .result) (c .if3 .taken)), tt)
+    (sign-not-3 (s .pre .0) (s .args .most-key) (sym (c .before .is-digits .ensures) ∙ not-true (c .before .is-digits .result) (c .if3 .taken)), tt)
 
 add-d1 : tie.Need-add-d1
 add-d1 c = search needs
@@ -87,10 +84,7 @@ is-digits-requires-2 c κs = search needs
 returns-4 : tie.Need-returns-4
 returns-4 c =
     let s = c .before .before .before .before .before .before .before .before .before .before .before .before .before in
-    let p = range-in _ (c .before .before .before .before .before .before .before .before .before .before .read-number .ensures) (s .args .most-key) (s .pre .1) (c .before .before .before .before .before .before .before .before .before .if1 .left) in
-    let q = range-in _ (c .before .before .before .before .before .before .before .read-number2 .ensures) 65535 (omega arith) (c .before .before .before .before .before .before .if2 .left) in
-    let r = sym (c .before .before .before .before .is-digits .ensures) ∙ not-false (c .before .before .before .before .is-digits .result) (c .before .before .before .if3 .left) in
-    (sign-not-4 (s .pre .0) (s .args .most-key) (p .0) (q .0) r (sym (c .before .is-digits2 .ensures) ∙ not-true (c .before .is-digits2 .result) (c .if4 .taken)), tt)
+    (sign-not-4 (s .pre .0) (s .args .most-key) (sym (c .before .is-digits2 .ensures) ∙ not-true (c .before .is-digits2 .result) (c .if4 .taken)), tt)
 
 returns-5 : tie.Need-returns-5
 returns-5 c =

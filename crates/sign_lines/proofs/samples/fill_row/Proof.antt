@@ -1,0 +1,63 @@
+-- The part that is lent has the bytes of m trits.
+-- Assumes nothing.
+use mathlib.Core.Path.{refl, ap, _∙_}
+use Prim.Native.Nat.{ℕ, _+_, _/_, _≤_}
+use native.Mathlib.Omega.{arith}
+use borrow.Author.Needs.{needs}
+use denote.Ref.{now}
+use Rattle.packing.specs.Calls.{unpackRefusal, unpackOnes, unpackTwos}
+use Rattle.sign_lines.specs.{numberAfter, packedAfter}
+use Rattle.sign_lines.proofs.Made.{part-length}
+use Rattle.sign_lines.proofs.samples.fill_row.Statement.{statement}
+use Rattle.sign_lines.proofs.samples.fill_row.Tie as tie
+
+add-b : tie.Need-add-b
+add-b c = search needs
+
+sub-unpack-row : tie.Need-sub-unpack-row
+sub-unpack-row c = search needs
+
+part-bytes-start : tie.Need-part-bytes-start
+part-bytes-start c = search needs
+
+part-bytes-end : tie.Need-part-bytes-end
+part-bytes-end c = search needs
+
+unpack-row-requires : tie.Need-unpack-row-requires
+unpack-row-requires c κs = search needs
+
+same-length : tie.Need-same-length
+same-length c = search needs
+
+same-length-2 : tie.Need-same-length-2
+same-length-2 c = search needs
+
+returns : tie.Need-returns
+returns c =
+    let a = c .before .before .before .before .before .before .before .before .before .before .before .args in
+    let h : (a .m + 4) / 5 ≤ 3277 = omega (arith, c .before .before .before .before .before .before .before .before .before .before .before .pre) in
+    let u = c .before .before .before .before .before .unpack-row .ensures in
+    let o = now (a .ones) in
+    let t = now (a .twos) in (
+      u .0 ∙ ap (λ (n : ℕ). unpackRefusal (a .m) (packedAfter n (a .x)) o t) (part-length _ _ 3277 refl h),
+      (
+        u .1 .0 ∙ ap (λ (n : ℕ). numberAfter n (a .x)) (part-length _ _ 3277 refl h),
+        (
+          u .1 .1 .0 ∙ ap (λ (n : ℕ). unpackOnes (a .m) (packedAfter n (a .x)) o t) (part-length _ _ 3277 refl h),
+          u .1 .1 .1 ∙ ap (λ (n : ℕ). unpackTwos (a .m) (packedAfter n (a .x)) o t) (part-length _ _ 3277 refl h),
+        ),
+      ),
+    )
+
+pub fill-row-spec : {M : Type 1} → statement M
+fill-row-spec =
+    tie.close
+    (tie.spec
+    add-b
+    sub-unpack-row
+    part-bytes-start
+    part-bytes-end
+    unpack-row-requires
+    same-length
+    same-length-2
+    returns)

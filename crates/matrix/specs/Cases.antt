@@ -2,7 +2,7 @@
 use mathlib.Core.Path.{_≡_}
 use mathlib.Core.List.{[], _∷_}
 use Prim.Native.Nat.{ℕ}
-use Rattle.trits.specs.Digits.{vector, digits, matrix, digitRows}
+use Rattle.trits.specs.InDigits.{vector, digits, matrix, digitRows}
 use Rattle.matrix.specs.Linear.{Matrix, zeros, solve, orZeros, pivots, rank}
 use Rattle.matrix.specs.Eliminate.{eliminated}
 

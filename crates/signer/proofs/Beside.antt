@@ -7,7 +7,7 @@ use Rattle.trits.specs.Trit.{dotV, anyTo, sumTo}
 use Rattle.trits.specs.Planes.{tabulate}
 use Rattle.matrix.specs.Linear.{agree, find, solve, inSpan, keep, pivots, rank, without, fill, range}
 use Rattle.matrix.specs.Orders.{isOrder}
-use Rattle.trits.specs.Digits.{vector, digits, matrix, digitRows}
+use Rattle.trits.specs.InDigits.{vector, digits, matrix, digitRows}
 use Rattle.signer.specs.Sizes.{Sizes, sizesFit}
 use Rattle.signer.specs.Secret.{Secret, noZero, secretMatrix}
 use Rattle.signer.specs.Build.{arrange, arranged, rowOfR, buildFits, buildRefusal, keyOrder, keyRow}

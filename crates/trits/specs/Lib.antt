@@ -3,4 +3,4 @@ pub mod Trit
 pub mod Planes
 pub mod Rows
 pub mod Refusal
-pub mod Digits
+pub mod InDigits

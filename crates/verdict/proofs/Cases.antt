@@ -5,7 +5,7 @@ use Prim.Native.Nat.{ℕ}
 use native.Mathlib.Omega.{arith}
 use Rattle.trits.specs.Trit.{Trit, t0, t1, t2, addT, number, dotV, sumTo}
 use Rattle.trits.specs.Planes.{tabulate}
-use Rattle.trits.specs.Digits.{vector}
+use Rattle.trits.specs.InDigits.{vector}
 use Rattle.verdict.specs.Verdict.{timesKey, fullWord, fullWeight, saysYes, syndrome, Found}
 use Rattle.verdict.specs.Cases.{key4, y4, Cases}
 

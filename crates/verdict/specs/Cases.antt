@@ -4,7 +4,7 @@ use mathlib.Core.Bool.{true, false}
 use mathlib.Core.List.{[], _∷_}
 use Prim.Native.Nat.{ℕ}
 use Rattle.trits.specs.Trit.{Trit}
-use Rattle.trits.specs.Digits.{vector, digits, matrix}
+use Rattle.trits.specs.InDigits.{vector, digits, matrix}
 use Rattle.verdict.specs.Verdict.{Key, fullWord, fullWeight, saysYes, Found}
 
 -- the key of the example of lines: rows 02 and 22; and its y, 12

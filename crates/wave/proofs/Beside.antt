@@ -15,7 +15,7 @@ use Rattle.packing.specs.Packed.{byteOf, digitOf, packedAt, packedRow, packedBy
 use Rattle.packing.specs.Calls.{packRefusal, packExit}
 use Rattle.matrix.specs.Linear.{Vector, elem, agree, find, solve, inSpan, keep, pivots, rank, without, fill, range}
 use Rattle.matrix.specs.Orders.{isOrder}
-use Rattle.trits.specs.Digits.{vector, digitRows}
+use Rattle.trits.specs.InDigits.{vector, digitRows}
 use Rattle.matrix.proofs.Places.{elem-at}
 use Rattle.verdict.specs.Verdict.{timesKey, fullWord, fullWeight, syndrome}
 use Rattle.heldkey.specs.Held.{numbersFit, sound, heldRow, heldKey}

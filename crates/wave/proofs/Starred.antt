@@ -14,7 +14,7 @@ use Rattle.packing.specs.Packed.{byteOf, digitOf, packedAt, packedRow, packedBy
 use Rattle.packing.specs.Calls.{packRefusal, packExit, unpackRefusal, unpackOnes, unpackTwos}
 use Rattle.matrix.specs.Linear.{Vector, agree, find, solve, inSpan, keep, pivots, rank, without, fill, range}
 use Rattle.matrix.specs.Orders.{isOrder}
-use Rattle.trits.specs.Digits.{digitRows}
+use Rattle.trits.specs.InDigits.{digitRows}
 use Rattle.matrix.proofs.Field.{set-not}
 use Rattle.matrix.proofs.Places.{elem-at}
 use Rattle.verdict.specs.Verdict.{timesKey, fullWord, fullWeight, saysYes}

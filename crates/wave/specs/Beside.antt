@@ -4,7 +4,7 @@ use mathlib.Core.Bool.{true}
 use mathlib.Core.List.{List, [], _∷_}
 use Prim.Native.Nat.{ℕ}
 use Rattle.matrix.specs.Linear.{Vector}
-use Rattle.trits.specs.Digits.{vector, digits, matrix, digitRows}
+use Rattle.trits.specs.InDigits.{vector, digits, matrix, digitRows}
 use Rattle.verdict.specs.Verdict.{Key}
 use Rattle.signer.specs.Secret.{Secret}
 use Rattle.signer.specs.Draw.{choicesFit, drawn}

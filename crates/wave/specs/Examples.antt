@@ -4,7 +4,7 @@ use mathlib.Core.List.{List, [], _∷_}
 use Prim.Native.Nat.{ℕ}
 use native.Mathlib.Omega.{arith}
 use Rattle.matrix.specs.Linear.{Vector}
-use Rattle.trits.specs.Digits.{vector, digits, matrix}
+use Rattle.trits.specs.InDigits.{vector, digits, matrix}
 use Rattle.verdict.specs.Verdict.{Key}
 use Rattle.signer.specs.declared.sizes.Sizes.{Sizes}
 use Rattle.signer.specs.Secret.{Secret}

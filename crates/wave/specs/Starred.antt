@@ -5,7 +5,7 @@ use mathlib.Core.List.{List, [], _∷_}
 use Prim.Native.Nat.{ℕ}
 use Rattle.packing.specs.Packed.{packedRow, packedBytes}
 use Rattle.packing.specs.Calls.{packRefusal, packExit, unpackRefusal, unpackOnes, unpackTwos}
-use Rattle.trits.specs.Digits.{vector, digits, matrix, digitRows}
+use Rattle.trits.specs.InDigits.{vector, digits, matrix, digitRows}
 use Rattle.verdict.specs.Verdict.{fullWord, saysYes}
 use Rattle.signer.specs.Build.{arranged, keyOrder, keyRow}
 use Rattle.calls.specs.BuildCall.{buildAnswer, orderExit, keyOnesExit, keyTwosExit, workOnesExit as buildWorkOnes, workTwosExit as buildWorkTwos}

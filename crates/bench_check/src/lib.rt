@@ -134,8 +134,8 @@ pub extern "C" fn bench_weigh(
         work_twos,
         times,
     );
-    trits::words::zero_words(work_ones);
-    trits::words::zero_words(work_twos); // both planes are left 0
+    trits::words::zero_words(work_ones); // both planes are left 0
+    trits::words::zero_words(work_twos);
     checking::tell(checking::judge(tested, weight, held.w))
 }
 

@@ -85,8 +85,8 @@ pub fn check_packed(
         return checking::judge(tested, 0, held.w);
     }
     let weight = weighing::weigh_packed(held, ones, twos, y, s, work_ones, work_twos);
-    trits::words::zero_words(work_ones);
-    trits::words::zero_words(work_twos); // nothing of y and s stays
+    trits::words::zero_words(work_ones); // nothing of y and s stays
+    trits::words::zero_words(work_twos);
     checking::judge(tested, weight, held.w)
 }
 

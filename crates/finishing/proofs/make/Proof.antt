@@ -1,11 +1,13 @@
 -- A refusal leaves the word and s as they were; else the rows of the halves are written as the word (`word-written`).
 -- Assumes nothing.
 use Prim.Native.Nat.{ℕ, _+_, _*_}
-use mathlib.Core.Path.{sym, ap, _∙_}
+use mathlib.Core.Path.{_≡_, sym, ap, _∙_}
+use mathlib.Core.List.{List}
 use native.Mathlib.Omega.{arith}
 use denote.Ref.{now}
 use Rattle.trits.specs.Trit.{upTo}
 use Rattle.trits.specs.Planes.{wordsFor, onesOf, twosOf}
+use Rattle.trits.specs.Refusal.{atExit}
 use Rattle.trits.proofs.Refusals.{exit-kept, exit-new}
 use Rattle.matrix.specs.Linear.{Vector}
 use Rattle.signer.specs.Sizes.{places, dim}
@@ -44,9 +46,13 @@ same-length c = search needs
 same-length-2 : tie.Need-same-length-2
 same-length-2 c = search needs
 
+-- a buffer that is as it was, where a number that is not 0 is the refusal
+kept : (new old : List ℕ) {k x r : ℕ} → x ≡ r → k ≡ x → (k ≡ 0 → ⊥) → old ≡ atExit r new old
+kept new old e d h = exit-kept new old (d ∙ e) (positive _ h)
+
 returns : tie.Need-returns
 returns c =
-    let s = c .before .before .before .before .before .before .before .before .before .before .before .before .before .before .before .before .before .before .before .before .before .before .before .before .before .before .before .before .before .before .before .before .before in let a = s .args in let b = bounds (a .z) (s .pre .0) in let r = s .pre .1 .0 in let m = s .pre .1 .1 in let i = (given (planes (now (a .hu-ones)) (now (a .hu-twos)) (now (a .hv-ones)) (now (a .hv-twos)) (now (a .b-ones)) (now (a .b-twos)) (now (a .c-ones)) (now (a .c-twos))) (now (a .p)) (now (a .y-ones)) (now (a .y-twos)) (now (a .v-order)) (now (a .v-ones)) (now (a .v-twos)) (now (a .u-order)) (now (a .u-ones)) (now (a .u-twos))) in let e = c .before .before .before .before .before .before .make-word .ensures .0 in let f = c .before .code .ensures ∙ e in let h = positive _ (c .if1 .taken) in (e, exit-kept _ _ f h, exit-kept _ _ f h, exit-kept _ _ f h, exit-kept _ _ f h)
+    (search needs, search (needs, kept), search (needs, kept), search (needs, kept), search (needs, kept))
 
 release-word-requires : tie.Need-release-word-requires
 release-word-requires c κs =

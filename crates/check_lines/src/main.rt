@@ -1,5 +1,4 @@
-// Reads lines of text from standard input, byte by byte, and prints the answers to standard output. A read or a write that fails ends the program, with a
-// line on standard error; an exit status cannot be had.
+// Reads lines of text and prints the answers. A read or a write that fails ends the program and is told on standard error; no exit status can be had.
 ghost use mathlib.Core.Path.{_≡_};
 ghost use mathlib.Core.Bool.{true};
 ghost use lib.ListN.{length, take};

@@ -32,7 +32,10 @@ returns c =
     let l = positive (λ z. c .before .if1 .taken (c .before .before .code .ensures ∙ z)) in
     let e = c .before .before .before .test-check .ensures in (
       c .judge .ensures ∙ answer-kept 0 _ _ (e ∙ check-spaces _ _ _ _ _ _ _ _ _ _ _ _ (omega arith) (omega arith)) l,
-      (space-kept _ (e ∙ check-spaces _ _ _ _ _ _ _ _ _ _ _ _ (omega arith) (omega arith)) l, space-kept _ (e ∙ check-spaces _ _ _ _ _ _ _ _ _ _ _ _ (omega arith) (omega arith)) l),
+      (
+        space-kept _ (e ∙ check-spaces _ _ _ _ _ _ _ _ _ _ _ _ (omega arith) (omega arith)) l,
+        space-kept _ (e ∙ check-spaces _ _ _ _ _ _ _ _ _ _ _ _ (omega arith) (omega arith)) l,
+      ),
     )
 
 weigh-requires : tie.Need-weigh-requires

@@ -104,7 +104,8 @@ write-part-requires : tie.Need-write-part-requires
 write-part-requires c κs =
     let s = c .before .before .before .before .before .before .before .before .before .before .before .before in
     let w = c .before .before .before .row-words in
-    let z = sym (c .before .before .before .before .before .before .test-packed-row .ensures) ∙ sym (c .before .before .before .before .before .code .ensures) ∙ c .before .before .before .before .if1 .left in
+    let d = c .before .before .before .before in
+    let z = sym (d .before .before .test-packed-row .ensures) ∙ sym (d .before .code .ensures) ∙ d .if1 .left in
     let r = stored-packed-passed (s .args .held) (now (s .args .ones)) (now (s .args .twos)) (now (s .args .row)) z in
     let e : s .args .held .rows * w .result ≡ s .args .held .rows * rowWords (s .args .held) = ap (λ (x : ℕ). s .args .held .rows * x) (w .ensures) in
     let m = c .before .before .row-trits .ensures in (

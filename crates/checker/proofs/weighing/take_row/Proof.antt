@@ -46,11 +46,13 @@ returns-2 : tie.Need-returns-2
 unfolding heldKey
 returns-2 c =
     let a = c .before .before .before .before .before .before .before .before .before .before .before .before .before .before .before .args in
-    let ea = c .before .before .before .before .before .before .before .before .before .held-row .ensures in
-    let eb = c .before .before .before .before .before .before .before .before .held-row2 .ensures in
     let u = tritAt (now (a .work-ones)) (now (a .work-twos)) in
-    let z = c .before .before .before .before .before .before .before .if2 .taken in
-    (ap (λ (x : ℕ). nonZero (tritOf x)) (sym z), reads-to (c .before .before .before .before .sub-row .ensures) (ap₂ (λ (x y : List ℕ). zipV subT u (tritAt x y)) ea eb ∙ take-known u (heldKey (a .held) (now (a .ones)) (now (a .twos)) (a .i)) (a .t) z))
+    let d = c .before .before .before .before .before .before .before .before in
+    let e = ap₂ (λ (x y : List ℕ). zipV subT u (tritAt x y)) (d .before .held-row .ensures) (d .held-row2 .ensures) in
+    let z = c .before .before .before .before .before .before .before .if2 .taken in (
+      ap (λ (x : ℕ). nonZero (tritOf x)) (sym z),
+      reads-to (c .before .before .before .before .sub-row .ensures) (e ∙ take-known u (heldKey (a .held) (now (a .ones)) (now (a .twos)) (a .i)) (a .t) z),
+    )
 
 add-row-requires : tie.Need-add-row-requires
 add-row-requires c κs =

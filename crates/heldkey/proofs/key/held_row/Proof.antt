@@ -36,7 +36,9 @@ returns-2 : tie.Need-returns-2
 returns-2 c =
     let a = c .before .before .before .before .before .before .args in
     let s = sym (c .before .before .before .before .is-sound .ensures) ∙ c .before .before .before .if1 .taken in
-    c .row-part .ensures ∙ ap (λ (w : ℕ). rowPart (now (a .plane)) (a .held .k) w (a .i)) (c .before .row-words .ensures) ∙ row-stored (a .held) (now (a .plane)) (a .i) s (omega arith)
+    c .row-part .ensures
+    ∙ ap (λ (w : ℕ). rowPart (now (a .plane)) (a .held .k) w (a .i)) (c .before .row-words .ensures)
+    ∙ row-stored (a .held) (now (a .plane)) (a .i) s (omega arith)
 
 slice-aggregate-result-2 : tie.Need-slice-aggregate-result-2
 slice-aggregate-result-2 c = search needs

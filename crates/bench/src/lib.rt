@@ -14,7 +14,7 @@ fn add_times(ones: &mut [u64], twos: &mut [u64], so: &[u64], st: &[u64], times: 
 {
     let mut i = 0;
     while i < times {
-        trits::rows::add_row(ones, twos, so, st);
+        rows::add_row(ones, twos, so, st);
         i += 1;
     }
 }
@@ -32,10 +32,10 @@ fn sum_refusal(ones: &[u64], twos: &[u64], so: &[u64], st: &[u64]) -> u64
     if st.len() != ones.len() {
         return 2;
     }
-    if trits::faults::both_set(ones, twos) {
+    if planes::faults::both_set(ones, twos) {
         return 3;
     }
-    if trits::faults::both_set(so, st) {
+    if planes::faults::both_set(so, st) {
         return 3; // the source
     }
     0
@@ -73,7 +73,7 @@ pub extern "C" fn bench_weight(ones: &[u64], twos: &[u64]) -> u64
     if ones.len() > 65536 {
         return 0;
     }
-    trits::rows::weight(ones, twos)
+    rows::weight(ones, twos)
 }
 
 // 1 for yes.
@@ -91,7 +91,7 @@ pub extern "C" fn bench_both_set(ones: &[u64], twos: &[u64]) -> u64
     if twos.len() != ones.len() {
         return 2;
     }
-    told(trits::faults::both_set(ones, twos))
+    told(planes::faults::both_set(ones, twos))
 }
 
 // Whether a bit is set past the length in one of the rows, each of m trits.
@@ -112,5 +112,5 @@ pub extern "C" fn bench_past_end(ones: &[u64], twos: &[u64], rows: usize, m: usi
     if twos.len() != size {
         return 2;
     }
-    told(trits::faults::rows_past_end(ones, twos, rows, m))
+    told(planes::faults::rows_past_end(ones, twos, rows, m))
 }

@@ -2,13 +2,13 @@
 ghost use mathlib.Core.Path.{_≡_};
 ghost use lib.ListN.{length};
 ghost use Rattle.trits.specs.Planes.{tritAt};
-ghost use Rattle.packing.specs.Packed.{packedRow};
-ghost use Rattle.heldkey.specs.Held.{rowTrits, rowWords};
-ghost use Rattle.checking.specs.Check.{planesLengths, planesContents, packedLengths, packedContents, checkRefusal, checkPackedRefusal, heldWeight, checkAnswer, answered, spaceAtExit};
-ghost use Rattle.heldkey.specs.Steps.{Whole};
+ghost use Rattle.packed.specs.Packed.{packedRow};
+ghost use Rattle.held_key.specs.Held.{rowTrits, rowWords};
+ghost use Rattle.check_tests.specs.Check.{planesLengths, planesContents, packedLengths, packedContents, checkRefusal, checkPackedRefusal, heldWeight, checkAnswer, answered, spaceAtExit};
+ghost use Rattle.held_key.specs.Steps.{Whole};
 ghost use Rattle.bench_check.specs.{after};
-use checking::Checked;
-use heldkey::state::Held;
+use check_tests::Checked;
+use held_key::state::Held;
 
 // The check of y and s in planes, in numbers.
 #[no_mangle]
@@ -43,7 +43,7 @@ pub extern "C" fn bench_check(
         work_ones,
         work_twos,
     );
-    checking::tell(verdict)
+    check_tests::tell(verdict)
 }
 
 // The weight of y and s in planes is worked out so many times.
@@ -107,7 +107,7 @@ pub extern "C" fn bench_weigh(
     ensures { λ _. ⌜ now («work_twos» .exit) ≡ spaceAtExit (checkRefusal held number (now (ones .entry)) (now (twos .entry)) (now («y_ones» .entry)) (now («y_twos» .entry))
         (now («s_ones» .entry)) (now («s_twos» .entry)) (now («work_ones» .entry)) (now («work_twos» .entry))) (now («work_twos» .entry)) ⌝ }
 {
-    let tested = checking::test_check(
+    let tested = check_tests::test_check(
         held,
         number,
         ones,
@@ -120,7 +120,7 @@ pub extern "C" fn bench_weigh(
         work_twos,
     );
     if trits::refusal::code(tested) != 0 {
-        return checking::tell(checking::judge(tested, 0, held.w));
+        return check_tests::tell(check_tests::judge(tested, 0, held.w));
     }
     let weight = weigh_times(
         held,
@@ -134,9 +134,9 @@ pub extern "C" fn bench_weigh(
         work_twos,
         times,
     );
-    trits::words::zero_words(work_ones); // both planes are left 0
-    trits::words::zero_words(work_twos);
-    checking::tell(checking::judge(tested, weight, held.w))
+    planes::words::zero_words(work_ones); // both planes are left 0
+    planes::words::zero_words(work_twos);
+    check_tests::tell(check_tests::judge(tested, weight, held.w))
 }
 
 // The weight of packed y and s is worked out so many times.
@@ -185,12 +185,21 @@ pub extern "C" fn bench_weigh_packed(
     ensures { λ _. ⌜ now («work_twos» .exit) ≡ spaceAtExit (checkPackedRefusal held number (now (ones .entry)) (now (twos .entry)) (now (y .entry)) (now (s .entry))
         (now («work_ones» .entry)) (now («work_twos» .entry))) (now («work_twos» .entry)) ⌝ }
 {
-    let tested = checking::test_packed_check(held, number, ones, twos, y, s, work_ones, work_twos);
+    let tested = check_tests::test_packed_check(
+        held,
+        number,
+        ones,
+        twos,
+        y,
+        s,
+        work_ones,
+        work_twos,
+    );
     if trits::refusal::code(tested) != 0 {
-        return checking::tell(checking::judge(tested, 0, held.w));
+        return check_tests::tell(check_tests::judge(tested, 0, held.w));
     }
     let weight = weigh_packed_times(held, ones, twos, y, s, work_ones, work_twos, times);
-    trits::words::zero_words(work_ones);
-    trits::words::zero_words(work_twos);
-    checking::tell(checking::judge(tested, weight, held.w))
+    planes::words::zero_words(work_ones);
+    planes::words::zero_words(work_twos);
+    check_tests::tell(check_tests::judge(tested, weight, held.w))
 }

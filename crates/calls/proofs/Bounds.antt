@@ -6,9 +6,9 @@ use native.Mathlib.Nat.{mul-le-mul}
 use native.Mathlib.Omega.{arith}
 use borrow.Author.Tests.{leb-true}
 use lib.Dec.{leb}
-use Rattle.signer.specs.declared.sizes.Sizes.{Sizes}
-use Rattle.signer.specs.Sizes.{half, places, ru, rv, gapV, gapU, sizesFit}
-use Rattle.signer.proofs.Ranges.{sizes-fit}
+use Rattle.scheme.specs.declared.sizes.Sizes.{Sizes}
+use Rattle.scheme.specs.Sizes.{half, places, ru, rv, gapV, gapU, sizesFit}
+use Rattle.scheme.proofs.Ranges.{sizes-fit}
 use Rattle.calls.specs.Lent.{halfWords}
 
 pub record Bounds (z : Sizes) : Type 0 where

@@ -16,8 +16,8 @@ use Rattle.trits.proofs.Tests.{both-apart, any-cong}
 use Rattle.trits.proofs.Refusals.{first-stops, first-goes, passed-first, planes-passed}
 use Rattle.matrix.specs.Linear.{Vector}
 use Rattle.matrix.proofs.Field.{not-false}
-use Rattle.signer.specs.declared.sizes.Sizes.{Sizes}
-use Rattle.signer.specs.Sizes.{half, ru, rv}
+use Rattle.scheme.specs.declared.sizes.Sizes.{Sizes}
+use Rattle.scheme.specs.Sizes.{half, ru, rv}
 use Rattle.calls.specs.Lent.{Planes, halfWords, pairDiffers, secretDiffers, hasZero, secretRefusal, Readable}
 use Rattle.calls.proofs.Marks.{isZero}
 use Rattle.calls.proofs.Exits.{first-le, planes-le}

@@ -8,10 +8,10 @@ use Rattle.trits.specs.Planes.{wordsFor, onesOf, twosOf}
 use Rattle.trits.specs.Rows.{rowsOf}
 use Rattle.trits.specs.Refusal.{refuse, demand, first, atExit}
 use Rattle.matrix.specs.Orders.{isOrder}
-use Rattle.signer.specs.declared.sizes.Sizes.{Sizes}
-use Rattle.signer.specs.Sizes.{places, dim, codim, sizesFit}
-use Rattle.signer.specs.Secret.{Secret}
-use Rattle.signer.specs.Build.{buildRefusal, keyOrder, keyRow}
+use Rattle.scheme.specs.declared.sizes.Sizes.{Sizes}
+use Rattle.scheme.specs.Sizes.{places, dim, codim, sizesFit}
+use Rattle.scheme.specs.Secret.{Secret}
+use Rattle.scheme.specs.Build.{buildRefusal, keyOrder, keyRow}
 use Rattle.calls.specs.Lent.{Planes, halfWords, secretOf, pairDiffers, secretDiffers, secretRefusal, workExit}
 
 -- ---- what is lent
@@ -43,8 +43,8 @@ unfoldable pub keyDiffers : Sizes → ℕ → ℕ → ℕ → ℕ → ℕ → �
 keyDiffers z s p k1 k2 w1 w2 = pairDiffers (places z) s p || (pairDiffers (dim z * keyRowWords z) k1 k2 || pairDiffers (buildWorkWords z) w1 w2)
 
 -- every length
-unfoldable pub lengthsDiffer : Sizes → BuildCall → Bool
-lengthsDiffer z i =
+unfoldable pub buildLengthsDiffer : Sizes → BuildCall → Bool
+buildLengthsDiffer z i =
     let k = i .secret in
     secretDiffers z (length (k .huOnes)) (length (k .huTwos)) (length (k .hvOnes)) (length (k .hvTwos)) (length (k .bOnes)) (length (k .bTwos)) (length (k .cOnes)) (length (k .cTwos))
     || keyDiffers z (length (i .start)) (length (i .p)) (length (i .keyOnes)) (length (i .keyTwos)) (length (i .workOnes)) (length (i .workTwos))
@@ -53,7 +53,7 @@ lengthsDiffer z i =
 unfoldable pub buildAnswer : Sizes → BuildCall → ℕ
 buildAnswer z i =
     demand (sizesFit z) 1
-    (refuse (lengthsDiffer z i) 2
+    (refuse (buildLengthsDiffer z i) 2
     (first (secretRefusal z (i .secret))
     (demand (isOrder (places z) (i .start)) 7
     (buildRefusal z (secretOf z (i .secret))))))
@@ -78,8 +78,8 @@ unfoldable pub keyTwosExit : Sizes → BuildCall → List ℕ
 keyTwosExit z i = atExit (buildAnswer z i) (keyTwosOf z (secretOf z (i .secret)) (i .start)) (i .keyTwos)
 
 -- the working space
-unfoldable pub workOnesExit : Sizes → BuildCall → List ℕ
-workOnesExit z i = workExit (buildAnswer z i) (i .workOnes)
+unfoldable pub buildWorkOnesExit : Sizes → BuildCall → List ℕ
+buildWorkOnesExit z i = workExit (buildAnswer z i) (i .workOnes)
 
-unfoldable pub workTwosExit : Sizes → BuildCall → List ℕ
-workTwosExit z i = workExit (buildAnswer z i) (i .workTwos)
+unfoldable pub buildWorkTwosExit : Sizes → BuildCall → List ℕ
+buildWorkTwosExit z i = workExit (buildAnswer z i) (i .workTwos)

@@ -9,9 +9,9 @@ use Rattle.trits.specs.Planes.{tritAt, wordsFor, onesOf, twosOf}
 use Rattle.trits.specs.Refusal.{refuse, demand, first, atExit, planesRefusal}
 use Rattle.matrix.specs.Linear.{Vector}
 use Rattle.matrix.specs.Orders.{isOrder}
-use Rattle.signer.specs.declared.sizes.Sizes.{Sizes}
-use Rattle.signer.specs.Sizes.{half, places, dim, ru, rv, codim, gapU, sizesFit}
-use Rattle.signer.specs.Draw.{Choices, drawn, drawRefusal, signature}
+use Rattle.scheme.specs.declared.sizes.Sizes.{Sizes}
+use Rattle.scheme.specs.Sizes.{half, places, dim, ru, rv, codim, gapU, sizesFit}
+use Rattle.scheme.specs.Draw.{Choices, drawn, drawRefusal, signature}
 use Rattle.calls.specs.Lent.{Planes, halfWords, secretOf, pairDiffers, secretDiffers, hasZero, secretRefusal, workExit}
 
 -- ---- what is lent
@@ -85,8 +85,8 @@ choicesDiffer z p y1 y2 ov v1 v2 ou u1 u2 e1 e2 s1 s2 w1 w2 =
     || pairDiffers (drawWorkWords z) w1 w2))))))
 
 -- every length
-unfoldable pub lengthsDiffer : Sizes → DrawCall → Bool
-lengthsDiffer z i =
+unfoldable pub drawLengthsDiffer : Sizes → DrawCall → Bool
+drawLengthsDiffer z i =
     let k = i .secret in
     secretDiffers z (length (k .huOnes)) (length (k .huTwos)) (length (k .hvOnes)) (length (k .hvTwos)) (length (k .bOnes)) (length (k .bTwos)) (length (k .cOnes)) (length (k .cTwos))
     || choicesDiffer z (length (i .p)) (length (i .yOnes)) (length (i .yTwos)) (length (i .orderV)) (length (i .vOnes)) (length (i .vTwos)) (length (i .orderU)) (length (i .uOnes)) (length (i .uTwos))
@@ -110,7 +110,7 @@ choicesRefusal z i =
 unfoldable pub drawAnswer : Sizes → DrawCall → ℕ
 drawAnswer z i =
     demand (sizesFit z) 1
-    (refuse (lengthsDiffer z i) 2
+    (refuse (drawLengthsDiffer z i) 2
     (first (secretRefusal z (i .secret))
     (first (choicesRefusal z i)
     (drawRefusal z (secretOf z (i .secret)) (i .p) (syndromeOf i) (choicesOf i)))))
@@ -136,8 +136,8 @@ unfoldable pub sTwosExit : Sizes → DrawCall → List ℕ
 sTwosExit z i = atExit (drawAnswer z i) (twosOf (upTo (dim z) (signature z (wordOf z i))) (wordsFor (dim z))) (i .sTwos)
 
 -- the working space
-unfoldable pub workOnesExit : Sizes → DrawCall → List ℕ
-workOnesExit z i = workExit (drawAnswer z i) (i .workOnes)
+unfoldable pub drawWorkOnesExit : Sizes → DrawCall → List ℕ
+drawWorkOnesExit z i = workExit (drawAnswer z i) (i .workOnes)
 
-unfoldable pub workTwosExit : Sizes → DrawCall → List ℕ
-workTwosExit z i = workExit (drawAnswer z i) (i .workTwos)
+unfoldable pub drawWorkTwosExit : Sizes → DrawCall → List ℕ
+drawWorkTwosExit z i = workExit (drawAnswer z i) (i .workTwos)

@@ -10,10 +10,10 @@ use Rattle.trits.specs.Planes.{Row, tritAt, wordsFor, zeroWords}
 use Rattle.trits.specs.Rows.{matrixAt}
 use Rattle.trits.specs.Refusal.{refuse, first, planesRefusal}
 use Rattle.matrix.specs.Linear.{Vector, elem}
-use Rattle.elimination.specs.Grid.{Rows}
-use Rattle.signer.specs.declared.sizes.Sizes.{Sizes}
-use Rattle.signer.specs.Sizes.{half, ru, rv}
-use Rattle.signer.specs.Secret.{Secret}
+use Rattle.grid.specs.Grid.{Rows}
+use Rattle.scheme.specs.declared.sizes.Sizes.{Sizes}
+use Rattle.scheme.specs.Sizes.{half, ru, rv}
+use Rattle.scheme.specs.Secret.{Secret}
 
 -- ---- the secret
 

@@ -5,9 +5,9 @@ ghost use Prim.Native.Nat.{_+_, _*_, _≤_};
 ghost use lib.ListN.{length};
 ghost use Rattle.trits.specs.Planes.{tritAt};
 ghost use Rattle.trits.specs.Refusal.{codeOf};
-ghost use Rattle.signer.specs.Sizes.{sizesFit, ru, rv};
+ghost use Rattle.scheme.specs.Sizes.{sizesFit, ru, rv};
 ghost use Rattle.calls.specs.Lent.{planes, halfWords, pairDiffers, secretDiffers, hasZero, secretRefusal};
-use signer::sizes::Sizes;
+use scheme::sizes::Sizes;
 use trits::refusal::Outcome;
 use trits::refusal::Refusal;
 
@@ -57,7 +57,7 @@ pub fn has_zero(ones: &[u64], twos: &[u64], from: usize, m: usize) -> bool
 {
     let mut i = 0;
     while i < m {
-        if trits::places::trit_at(ones, twos, from + i) == 0 {
+        if planes::places::trit_at(ones, twos, from + i) == 0 {
             return true;
         }
         i += 1;
@@ -84,19 +84,19 @@ pub fn test_secret(
         (now («b_ones» .entry)) (now («b_twos» .entry)) (now («c_ones» .entry)) (now («c_twos» .entry))) ⌝ }
 {
     let half = z.n as usize / 2;
-    let hu = trits::faults::test_planes(hu_ones, hu_twos, half - z.ku as usize, half);
+    let hu = planes::faults::test_planes(hu_ones, hu_twos, half - z.ku as usize, half);
     if trits::refusal::code(hu) != 0 {
         return hu;
     }
-    let hv = trits::faults::test_planes(hv_ones, hv_twos, half - z.kv as usize, half);
+    let hv = planes::faults::test_planes(hv_ones, hv_twos, half - z.kv as usize, half);
     if trits::refusal::code(hv) != 0 {
         return hv;
     }
-    let b = trits::faults::test_planes(b_ones, b_twos, 1, half);
+    let b = planes::faults::test_planes(b_ones, b_twos, 1, half);
     if trits::refusal::code(b) != 0 {
         return b;
     }
-    let c = trits::faults::test_planes(c_ones, c_twos, 1, half);
+    let c = planes::faults::test_planes(c_ones, c_twos, 1, half);
     if trits::refusal::code(c) != 0 {
         return c;
     }

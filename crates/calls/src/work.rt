@@ -7,6 +7,6 @@ ghost use Rattle.trits.specs.Planes.{zeroWords};
 pub fn clear(work_ones: &mut [u64], work_twos: &mut [u64])
     ensures { λ _. ⌜ (now («work_ones» .exit) ≡ zeroWords (length (now («work_ones» .entry)))) × (now («work_twos» .exit) ≡ zeroWords (length (now («work_twos» .entry)))) ⌝ }
 {
-    trits::words::zero_words(work_ones);
-    trits::words::zero_words(work_twos);
+    planes::words::zero_words(work_ones);
+    planes::words::zero_words(work_twos);
 }

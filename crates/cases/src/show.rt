@@ -1,6 +1,6 @@
 // A call, and a line that says what it answered and what its outputs are then.
 ghost use mathlib.Core.Path.{_≡_};
-ghost use Rattle.packing.specs.Calls.{packExit, unpackOnes, unpackTwos, streamOnes, streamTwos};
+ghost use Rattle.packed.specs.Calls.{packExit, unpackOnes, unpackTwos, streamOnes, streamTwos};
 use libc::STDOUT_FILENO;
 use trits::refusal::Outcome;
 

@@ -5,7 +5,7 @@ use Prim.Native.Nat.{ℕ, _+_, _<_}
 use native.Mathlib.Numerals.{add-one}
 use lib.ListN.{length, getD, take}
 use lib.Seq.{take-suc}
-use Rattle.lines.specs.Machine.{Machine, machine, stepped}
+use Rattle.text_lines.specs.Machine.{Machine, machine, stepped}
 use Rattle.check_lines.specs.{after, Reached}
 use Rattle.check_lines.specs.declared.Read.{Read}
 use Rattle.check_lines.specs.declared.Read.the-variants.{More, End, Unread, Unwritten}

@@ -2,7 +2,7 @@
 use mathlib.Core.Path.{_≡_}
 use mathlib.Core.List.{List, [], _∷_}
 use Prim.Native.Nat.{ℕ}
-use Rattle.lines.specs.Machine.{Machine, machine, stepped}
+use Rattle.text_lines.specs.Machine.{Machine, machine, stepped}
 use Rattle.check_lines.specs.declared.Read.{Read}
 use Rattle.check_lines.specs.declared.Read.the-variants.{More, End, Unread, Unwritten}
 

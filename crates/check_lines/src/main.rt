@@ -2,12 +2,12 @@
 ghost use mathlib.Core.Path.{_≡_};
 ghost use mathlib.Core.Bool.{true};
 ghost use lib.ListN.{length, take};
-ghost use Rattle.lines.specs.Machine.{machine};
+ghost use Rattle.text_lines.specs.Machine.{machine};
 ghost use Rattle.check_lines.specs.{after, Reached};
 use libc::STDERR_FILENO;
 use libc::STDIN_FILENO;
 use libc::STDOUT_FILENO;
-use lines::State;
+use text_lines::State;
 
 // The first bytes of a buffer are printed; whether all of them were. A write that a signal interrupts counts as one that failed.
 fn print_front(out: &[u8], count: usize) -> bool {
@@ -45,7 +45,7 @@ fn chunk(
     let mut state = start;
     let mut i = 0;
     while i < bytes.len() {
-        let next = lines::step(state, bytes[i], line, ones, twos, out);
+        let next = text_lines::step(state, bytes[i], line, ones, twos, out);
         state = next.state;
         i += 1;
         if !print(out, next.count) {
@@ -144,7 +144,7 @@ fn finish(
 ) {
     match read {
         Read::End(state) => {
-            let last = lines::end(state, line, ones, twos, out);
+            let last = text_lines::end(state, line, ones, twos, out);
             if !print(out, last.count) {
                 tell_unwritten();
             }
@@ -161,7 +161,7 @@ fn main() {
     let mut ones = [0u64; 382];
     let mut twos = [0u64; 382];
     let mut out = [0u8; 96];
-    let begun = lines::begin(&mut out);
+    let begun = text_lines::begin(&mut out);
     if !print(&out, begun.count) {
         tell_unwritten();
         return;

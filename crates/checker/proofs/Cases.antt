@@ -8,13 +8,13 @@ use Rattle.trits.specs.Trit.{sumTo, dotV, anyTo, upTo}
 use Rattle.trits.specs.Planes.{bit, bitAt, tritAt, fromBits, tabulate, onesOf, twosOf, bothSet, pastEnd, zeroWords}
 use Rattle.trits.specs.Rows.{rowPart, putWords, rowsPastEnd}
 use Rattle.trits.specs.Refusal.{first, planesRefusal}
-use Rattle.packing.specs.Packed.{digitOf, packedAt, packedRow, badByte, packedRefusal}
-use Rattle.heldkey.specs.declared.state.Held.{Held}
+use Rattle.packed.specs.Packed.{digitOf, packedAt, packedRow, badByte, packedRefusal}
+use Rattle.held_key.specs.declared.state.Held.{Held}
 use Rattle.verdict.specs.Verdict.{timesKey, fullWord, fullWeight}
-use Rattle.heldkey.specs.Held.{numbersFit, sound, heldRow, heldKey}
-use Rattle.heldkey.specs.Store.{beginRefusal, begunHeld, beginHeld, rowRefusal, storePackedRefusal, nextHeld, storedHeld, storedPlane}
-use Rattle.heldkey.specs.Load.{offer, offerAll}
-use Rattle.checking.specs.Check.{callRefusal, planesLengths, planesContents, packedLengths, packedContents, checkRefusal, checkPackedRefusal, heldWeight, answered, checkAnswer, checkPackedAnswer, spaceAtExit}
+use Rattle.held_key.specs.Held.{numbersFit, sound, heldRow, heldKey}
+use Rattle.held_key.specs.Store.{beginRefusal, begunHeld, beginHeld, rowRefusal, storePackedRefusal, nextHeld, storedHeld, storedPlane}
+use Rattle.held_key.specs.Load.{offer, offerAll}
+use Rattle.check_tests.specs.Check.{callRefusal, planesLengths, planesContents, packedLengths, packedContents, checkRefusal, checkPackedRefusal, heldWeight, answered, checkAnswer, checkPackedAnswer, spaceAtExit}
 
 -- P 7 4 2 4, over a state of any numbers
 abbrev held : ℕ → Held

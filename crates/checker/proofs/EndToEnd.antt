@@ -12,21 +12,21 @@ use Rattle.trits.specs.Trit.{Trit}
 use Rattle.trits.specs.Planes.{onesOf, twosOf, wordsFor}
 use Rattle.trits.proofs.Refusals.{first-goes}
 use Rattle.trits.proofs.Reading.{length-ones, length-twos}
-use Rattle.packing.specs.Packed.{bytesFor, packedRow, badByte}
-use Rattle.packing.proofs.Turned.{bytes-good}
-use Rattle.heldkey.specs.declared.state.Held.{Held}
+use Rattle.packed.specs.Packed.{bytesFor, packedRow, badByte}
+use Rattle.packed.proofs.Turned.{bytes-good}
+use Rattle.held_key.specs.declared.state.Held.{Held}
 use Rattle.verdict.specs.Verdict.{Key, fullWeight}
-use Rattle.heldkey.specs.Held.{numbersFit, sound, heldKey}
-use Rattle.heldkey.specs.Store.{beginRefusal, begunHeld, beginHeld, rowRefusal, storePackedRefusal, nextHeld, storedHeld, storedPlane}
-use Rattle.heldkey.specs.Load.{Holding, offer, offerAll}
-use Rattle.checking.specs.Check.{callRefusal, packedLengths, packedContents, checkPackedRefusal, heldWeight, answered, checkPackedAnswer}
-use Rattle.heldkey.specs.Steps.{Whole}
+use Rattle.held_key.specs.Held.{numbersFit, sound, heldKey}
+use Rattle.held_key.specs.Store.{beginRefusal, begunHeld, beginHeld, rowRefusal, storePackedRefusal, nextHeld, storedHeld, storedPlane}
+use Rattle.held_key.specs.Load.{Holding, offer, offerAll}
+use Rattle.check_tests.specs.Check.{callRefusal, packedLengths, packedContents, checkPackedRefusal, heldWeight, answered, checkPackedAnswer}
+use Rattle.held_key.specs.Steps.{Whole}
 use Rattle.verdict.proofs.FullWord.{weight-cong}
-use Rattle.heldkey.proofs.Room.{stored-packed-passed}
-use Rattle.heldkey.proofs.Answers.{held-new}
-use Rattle.heldkey.proofs.Storing.{plane-put}
-use Rattle.heldkey.proofs.Loader.{put-size}
-use Rattle.heldkey.proofs.Filled.{Filled, filled-none, filled-packed, filled-row, filled-passes}
+use Rattle.held_key.proofs.Room.{stored-packed-passed}
+use Rattle.held_key.proofs.Answers.{held-new}
+use Rattle.held_key.proofs.Storing.{plane-put}
+use Rattle.held_key.proofs.Loader.{put-size}
+use Rattle.held_key.proofs.Filled.{Filled, filled-none, filled-packed, filled-row, filled-passes}
 
 module _ (number n k w : ℕ) (z : numbersFit number n k w ≡ true) (rows : ℕ → List ℕ)
     (size : (i : ℕ) → i < k → length (rows i) ≡ bytesFor (n - k)) (good : (i : ℕ) → i < k → badByte (rows i) ≡ false) where

@@ -4,8 +4,8 @@ use mathlib.Core.List.{List}
 use Prim.Native.Nat.{ℕ}
 use lib.ListN.{length}
 use Rattle.trits.specs.Refusal.{first}
-use Rattle.heldkey.specs.declared.state.Held.{Held}
-use Rattle.checking.specs.Check.{callRefusal, planesLengths, planesContents, packedLengths, packedContents, checkRefusal, checkPackedRefusal}
+use Rattle.held_key.specs.declared.state.Held.{Held}
+use Rattle.check_tests.specs.Check.{callRefusal, planesLengths, planesContents, packedLengths, packedContents, checkRefusal, checkPackedRefusal}
 
 module _ (h : Held) (number : ℕ) (ones twos : List ℕ) where
   pub check-spaces : (yOnes yTwos sOnes sTwos a b c d : List ℕ) → length a ≡ length c → length b ≡ length d

@@ -14,16 +14,16 @@ use Rattle.trits.specs.Planes.{tritAt}
 use Rattle.trits.specs.Refusal.{planesRefusal}
 use Rattle.trits.proofs.Refusals.{first-goes, passed-first}
 use Rattle.trits.proofs.Ends.{upto-ended}
-use Rattle.packing.specs.Packed.{bytesFor, packedRow, packedBytes}
-use Rattle.packing.proofs.RoundTrip.{packed-length, packed-back, packed-good}
-use Rattle.packing.proofs.Turned.{bytes-good}
-use Rattle.heldkey.specs.declared.state.Held.{Held}
+use Rattle.packed.specs.Packed.{bytesFor, packedRow, packedBytes}
+use Rattle.packed.proofs.RoundTrip.{packed-length, packed-back, packed-good}
+use Rattle.packed.proofs.Turned.{bytes-good}
+use Rattle.held_key.specs.declared.state.Held.{Held}
 use Rattle.verdict.specs.Verdict.{fullWeight, Extending, Found}
-use Rattle.heldkey.specs.Held.{sound, rowTrits, heldKey}
-use Rattle.checking.specs.Check.{callRefusal, planesLengths, planesContents, packedLengths, packedContents, checkRefusal, checkPackedRefusal, heldWeight, answered, checkAnswer, checkPackedAnswer}
-use Rattle.heldkey.proofs.Sizes.{sizes}
+use Rattle.held_key.specs.Held.{sound, rowTrits, heldKey}
+use Rattle.check_tests.specs.Check.{callRefusal, planesLengths, planesContents, packedLengths, packedContents, checkRefusal, checkPackedRefusal, heldWeight, answered, checkAnswer, checkPackedAnswer}
+use Rattle.held_key.proofs.Sizes.{sizes}
 use Rattle.verdict.proofs.FullWord.{verifier, extends-once, yes-weight}
-use Rattle.checking.proofs.Passed.{Called, Fitted, fitted, contents, check-passed, check-packed-passed}
+use Rattle.check_tests.proofs.Passed.{Called, Fitted, fitted, contents, check-passed, check-packed-passed}
 use Rattle.checker.proofs.Weighed.{row-ended}
 
 -- ---- yes

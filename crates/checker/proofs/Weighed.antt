@@ -13,12 +13,12 @@ use Rattle.trits.proofs.Refusals.{planes-passed}
 use Rattle.trits.proofs.Matrix.{one-row-past}
 use Rattle.trits.proofs.Tests.{both-apart, past-zero}
 use Rattle.trits.proofs.Counts.{weight-le}
-use Rattle.heldkey.specs.declared.state.Held.{Held}
+use Rattle.held_key.specs.declared.state.Held.{Held}
 use Rattle.verdict.specs.Verdict.{timesKey}
-use Rattle.heldkey.specs.Held.{rowTrits, rowWords, heldKey}
-use Rattle.checking.specs.Check.{heldWeight}
-use Rattle.heldkey.specs.Steps.{Whole}
-use Rattle.heldkey.proofs.Stretch.{row-past}
+use Rattle.held_key.specs.Held.{rowTrits, rowWords, heldKey}
+use Rattle.check_tests.specs.Check.{heldWeight}
+use Rattle.held_key.specs.Steps.{Whole}
+use Rattle.held_key.proofs.Stretch.{row-past}
 use Rattle.checker.proofs.Product.{full-weight}
 
 -- planes that were not refused can be read

@@ -4,12 +4,12 @@ ghost use Prim.Native.Nat.{ℕ, _*_, _<_, _≤_};
 ghost use lib.ListN.{length};
 ghost use Rattle.trits.specs.Trit.{subT, mulT, nonZero, zipV, weightV, tritOf};
 ghost use Rattle.trits.specs.Planes.{tritAt, Row, Reads};
-ghost use Rattle.packing.specs.Packed.{bytesFor, byteTable, packedRow, packedRefusal};
+ghost use Rattle.packed.specs.Packed.{bytesFor, byteTable, packedRow, packedRefusal};
 ghost use Rattle.verdict.specs.Verdict.{timesKey};
-ghost use Rattle.heldkey.specs.Held.{rowTrits, rowWords, heldKey};
-ghost use Rattle.heldkey.specs.Steps.{Whole, Work};
-ghost use Rattle.checking.specs.Check.{planesLengths, planesContents, packedLengths, packedContents, heldWeight};
-use heldkey::state::Held;
+ghost use Rattle.held_key.specs.Held.{rowTrits, rowWords, heldKey};
+ghost use Rattle.held_key.specs.Steps.{Whole, Work};
+ghost use Rattle.check_tests.specs.Check.{planesLengths, planesContents, packedLengths, packedContents, heldWeight};
+use held_key::state::Held;
 
 // Row i of the key, times a trit, is taken from the word; whether a row was taken, as 1 or 0.
 fn take_row(
@@ -32,13 +32,13 @@ fn take_row(
     if t == 0 {
         return 0;
     }
-    let row_ones = heldkey::key::held_row(held, ones, i);
-    let row_twos = heldkey::key::held_row(held, twos, i);
+    let row_ones = held_key::key::held_row(held, ones, i);
+    let row_twos = held_key::key::held_row(held, twos, i);
     if t == 1 {
-        trits::rows::sub_row(work_ones, work_twos, row_ones, row_twos);
+        rows::sub_row(work_ones, work_twos, row_ones, row_twos);
         return 1;
     }
-    trits::rows::add_row(work_ones, work_twos, row_ones, row_twos);
+    rows::add_row(work_ones, work_twos, row_ones, row_twos);
     1
 }
 
@@ -64,7 +64,7 @@ fn take_rows(
     let mut taken: u64 = 0;
     let mut i = 0;
     while i < k {
-        let t = trits::places::trit_at(s_ones, s_twos, i);
+        let t = planes::places::trit_at(s_ones, s_twos, i);
         taken += take_row(held, ones, twos, i, t, work_ones, work_twos);
         i += 1;
     }
@@ -139,10 +139,10 @@ pub fn weigh(
     requires { ⌜ (length (now «work_ones») ≡ rowWords held) × (length (now «work_twos») ≡ rowWords held) ⌝ }
     ensures { λ r. ⌜ r ≡ heldWeight held (now (ones .entry)) (now (twos .entry)) (tritAt (now («y_ones» .entry)) (now («y_twos» .entry))) (tritAt (now («s_ones» .entry)) (now («s_twos» .entry))) ⌝ }
 {
-    trits::words::copy_words(work_ones, y_ones);
-    trits::words::copy_words(work_twos, y_twos);
+    planes::words::copy_words(work_ones, y_ones);
+    planes::words::copy_words(work_twos, y_twos);
     let taken = take_rows(held, ones, twos, s_ones, s_twos, work_ones, work_twos);
-    let first = trits::rows::weight(work_ones, work_twos);
+    let first = rows::weight(work_ones, work_twos);
     first + taken // as many rows as trits of s that are not 0
 }
 
@@ -162,8 +162,8 @@ pub fn weigh_packed(
     requires { ⌜ (length (now «work_ones») ≡ rowWords held) × (length (now «work_twos») ≡ rowWords held) ⌝ }
     ensures { λ r. ⌜ r ≡ heldWeight held (now (ones .entry)) (now (twos .entry)) (packedRow (rowTrits held) (now (y .entry))) (packedRow (held .k) (now (s .entry))) ⌝ }
 {
-    packing::write::write_packed(heldkey::state::row_trits(held), y, work_ones, work_twos);
+    packing::write::write_packed(held_key::state::row_trits(held), y, work_ones, work_twos);
     let taken = take_packed_rows(held, ones, twos, s, work_ones, work_twos);
-    let first = trits::rows::weight(work_ones, work_twos);
+    let first = rows::weight(work_ones, work_twos);
     first + taken // as many rows as trits of the packed s that are not 0
 }

@@ -15,8 +15,8 @@ use Rattle.matrix.specs.Linear.{Matrix}
 use Rattle.matrix.specs.Eliminate.{swapRows, clearRows, scaleRow, takeOut, pivotRow, hasPivot, stepOf}
 use Rattle.matrix.proofs.Field.{neg-neg}
 use Rattle.matrix.proofs.Steps.{first-found, take-scaled, a-pivot}
-use Rattle.elimination.specs.Grid.{Rows, Grid, joinRow, clearRow, takenOut}
-use Rattle.elimination.proofs.Cells.{cell-none, grid-to}
+use Rattle.grid.specs.Grid.{Rows, Grid, joinRow, clearRow, takenOut}
+use Rattle.grid.proofs.Cells.{cell-none, grid-to}
 
 -- ---- the pivot's row
 

@@ -12,7 +12,7 @@ use Rattle.matrix.specs.Eliminate.{hasPivot, stepOf, Stage, tried, eliminate, e
 use Rattle.matrix.proofs.Places.{Below}
 use Rattle.matrix.proofs.Steps.{count-room}
 use Rattle.matrix.proofs.Kept.{tried-cells, tried-count, eliminate-more, eliminate-rank}
-use Rattle.elimination.specs.Grid.{Rows, Grid}
+use Rattle.grid.specs.Grid.{Rows, Grid}
 
 -- a count that one column raised, or left
 pub yes-count : {b : Bool} (n : ℕ) → b ≡ true → n + 1 ≡ cond b (suc n) n

@@ -6,7 +6,7 @@ ghost use lib.ListN.{length};
 ghost use Rattle.trits.specs.Rows.{matrixAt};
 ghost use Rattle.matrix.specs.Linear.{rank, range};
 ghost use Rattle.matrix.specs.Eliminate.{hasPivot, stepOf, eliminated};
-ghost use Rattle.elimination.specs.Grid.{Rows, Grid};
+ghost use Rattle.grid.specs.Grid.{Rows, Grid};
 use super::step;
 
 // The column c is tried, and counted where it has a pivot.

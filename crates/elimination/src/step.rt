@@ -7,8 +7,8 @@ ghost use lib.ListN.{length};
 ghost use Rattle.trits.specs.Trit.{isSet};
 ghost use Rattle.trits.specs.Rows.{matrixAt};
 ghost use Rattle.matrix.specs.Eliminate.{pivotRow, hasPivot, stepOf, scaleRow, takeOut};
-ghost use Rattle.elimination.specs.Grid.{Rows, Grid, clearRow, takenOut};
-use super::rows;
+ghost use Rattle.grid.specs.Grid.{Rows, Grid, clearRow, takenOut};
+use grid::two_rows;
 
 // The first row from `at` on whose trit at column c is not 0; `rows` where there is none.
 pub fn find_pivot(ones: &[u64], twos: &[u64], rows: usize, w: usize, c: usize, at: usize) -> usize
@@ -18,7 +18,7 @@ pub fn find_pivot(ones: &[u64], twos: &[u64], rows: usize, w: usize, c: usize, a
 {
     let mut i = at;
     while i < rows {
-        if trits::places::trit_at(ones, twos, 64 * (i * w) + c) != 0 {
+        if planes::places::trit_at(ones, twos, 64 * (i * w) + c) != 0 {
             return i;
         }
         i += 1;
@@ -34,8 +34,8 @@ pub fn scale_row(ones: &mut [u64], twos: &mut [u64], rows: usize, w: usize, c: u
     ensures { λ _. ⌜ Grid (now (ones .exit)) (now (twos .exit)) rows w
         (scaleRow at (matrixAt w (now (ones .entry)) (now (twos .entry)) at c) (matrixAt w (now (ones .entry)) (now (twos .entry)))) ⌝ }
 {
-    if trits::places::trit_at(ones, twos, 64 * (at * w) + c) == 2 {
-        rows::negate(ones, twos, rows, w, at);
+    if planes::places::trit_at(ones, twos, 64 * (at * w) + c) == 2 {
+        two_rows::negate(ones, twos, rows, w, at);
     }
 }
 
@@ -53,11 +53,11 @@ pub fn clear_row(
     requires { ⌜ (length (now ones) ≤ 4294967296) × (c < 64 * w) × (at < rows) × (i < rows) × (i ≢ at) ⌝ }
     ensures { λ _. ⌜ Grid (now (ones .exit)) (now (twos .exit)) rows w (clearRow i at c (matrixAt w (now (ones .entry)) (now (twos .entry)))) ⌝ }
 {
-    let t = trits::places::trit_at(ones, twos, 64 * (i * w) + c);
+    let t = planes::places::trit_at(ones, twos, 64 * (i * w) + c);
     if t == 1 {
-        rows::sub_rows(ones, twos, rows, w, i, at);
+        two_rows::sub_rows(ones, twos, rows, w, i, at);
     } else if t == 2 {
-        rows::add_rows(ones, twos, rows, w, i, at);
+        two_rows::add_rows(ones, twos, rows, w, i, at);
     }
 }
 
@@ -105,7 +105,7 @@ pub fn step(ones: &mut [u64], twos: &mut [u64], rows: usize, w: usize, c: usize,
     if p == rows {
         return false;
     }
-    rows::swap_rows(ones, twos, rows, w, at, p);
+    two_rows::swap_rows(ones, twos, rows, w, at, p);
     scale_row(ones, twos, rows, w, c, at);
     clear_column(ones, twos, rows, w, c, at);
     true

@@ -5,7 +5,7 @@ pub mod read; // bytes made from a row
 
 ghost use mathlib.Core.Path.{_≡_};
 ghost use Rattle.trits.specs.Refusal.{codeOf};
-ghost use Rattle.packing.specs.Calls.{packRefusal, packExit, unpackRefusal, unpackOnes, unpackTwos, streamRefusal, streamOnes, streamTwos};
+ghost use Rattle.packed.specs.Calls.{packRefusal, packExit, unpackRefusal, unpackOnes, unpackTwos, streamRefusal, streamOnes, streamTwos};
 use trits::refusal::Outcome;
 use trits::refusal::Refusal;
 
@@ -27,7 +27,7 @@ pub fn pack(m: usize, ones: &[u64], twos: &[u64], bytes: &mut [u8]) -> Outcome
     if bytes.len() != (m + 4) / 5 {
         return Outcome::Refused(Refusal::Length);
     }
-    let tested = trits::faults::test_planes(ones, twos, 1, m);
+    let tested = planes::faults::test_planes(ones, twos, 1, m);
     if trits::refusal::code(tested) != 0 {
         return tested;
     }

@@ -4,7 +4,7 @@ ghost use Prim.Native.Nat.{_*_, _≤_, _<_};
 ghost use lib.ListN.{length};
 ghost use Rattle.trits.specs.Trit.{number, upTo};
 ghost use Rattle.trits.specs.Planes.{tritAt};
-ghost use Rattle.packing.specs.Packed.{bytesFor, byteOf, packedBytes};
+ghost use Rattle.packed.specs.Packed.{bytesFor, byteOf, packedBytes};
 
 // The trit at a place of a row of m trits, 0 past them.
 fn trit_below(m: usize, ones: &[u64], twos: &[u64], p: usize) -> u8
@@ -12,7 +12,7 @@ fn trit_below(m: usize, ones: &[u64], twos: &[u64], p: usize) -> u8
     ensures { λ r. ⌜ r ≡ number (upTo m (tritAt (now (ones .entry)) (now (twos .entry))) p) ⌝ }
 {
     if p < m {
-        return trits::places::trit_at(ones, twos, p);
+        return planes::places::trit_at(ones, twos, p);
     }
     0
 }

@@ -1,7 +1,7 @@
 // The byte table: the five trits of each byte from 0 to 242.
 ghost use mathlib.Core.Path.{_≡_};
 ghost use Prim.Native.Nat.{_<_};
-ghost use Rattle.packing.specs.Packed.{digitOf, byteTable};
+ghost use Rattle.packed.specs.Packed.{digitOf, byteTable};
 
 // The table, made once by who reads many trits, and lent to `trit`.
 pub fn byte_table() -> [u8; 1215]

@@ -4,9 +4,9 @@ ghost use Prim.Native.Nat.{_+_, _*_, _≤_, _<_};
 ghost use lib.ListN.{length};
 ghost use Rattle.trits.specs.Planes.{tritAt, Row, Reads};
 ghost use Rattle.trits.specs.Refusal.{codeOf};
-ghost use Rattle.packing.specs.Packed.{badByte, byteTable, packedRefusal, packedRow};
-ghost use Rattle.packing.specs.Stream.{kept, streamRow, tooShort};
-ghost use Rattle.packing.specs.Steps.{gives, missing, withByte};
+ghost use Rattle.packed.specs.Packed.{badByte, byteTable, packedRefusal, packedRow};
+ghost use Rattle.packed.specs.Stream.{kept, streamRow, tooShort};
+ghost use Rattle.packed.specs.Steps.{gives, missing, withByte};
 use super::table::byte_table;
 use super::table::trit;
 use trits::refusal::Outcome;
@@ -74,7 +74,7 @@ fn put_byte(table: &[u8; 1215], b: u8, ones: &mut [u64], twos: &mut [u64], at: u
 {
     let mut k = 0;
     while k < count {
-        trits::places::put_trit(ones, twos, at + k, trit(table, b, k));
+        planes::places::put_trit(ones, twos, at + k, trit(table, b, k));
         k += 1;
     }
 }
@@ -126,8 +126,8 @@ pub fn write_stream(m: usize, bytes: &[u8], ones: &mut [u64], twos: &mut [u64])
     requires { ⌜ (length (now twos) ≡ length (now ones)) × (m ≤ 5 * length (kept (now bytes))) × (m ≤ 64 * length (now ones)) × (length (now ones) ≤ 65536) ⌝ }
     ensures { λ _. ⌜ Reads (now (ones .exit)) (now (twos .exit)) (length (now (ones .entry))) (streamRow m (now (bytes .entry))) ⌝ }
 {
-    trits::words::zero_words(ones);
-    trits::words::zero_words(twos);
+    planes::words::zero_words(ones);
+    planes::words::zero_words(twos);
     let table = byte_table();
     put_stream(&table, m, bytes, ones, twos);
 }

@@ -6,7 +6,7 @@ ghost use mathlib.Core.Path.{_≡_};
 ghost use Prim.Native.Nat.{_*_, _≤_};
 ghost use lib.ListN.{length};
 use libc::STDOUT_FILENO;
-use signer::sizes::Sizes;
+use scheme::sizes::Sizes;
 
 // The sizes of the secret, with a gap and a weight.
 fn sizes() -> Sizes {
@@ -21,7 +21,7 @@ fn sizes() -> Sizes {
 
 // The key is built; the answer is 0, or the number of the refusal.
 fn build(p: &mut [u16], key_ones: &mut [u64], key_twos: &mut [u64]) -> u64 {
-    let outcome = builder::build(
+    let outcome = build::build(
         sizes(),
         &secret::HU_ONES,
         &secret::HU_TWOS,
@@ -53,7 +53,7 @@ fn draw_with(
     s_ones: &mut [u64],
     s_twos: &mut [u64],
 ) -> u64 {
-    let outcome = drawing::draw(
+    let outcome = draw::draw(
         sizes(),
         &secret::HU_ONES,
         &secret::HU_TWOS,
@@ -138,7 +138,7 @@ fn digits(ones: &[u64], twos: &[u64], m: usize)
 {
     let mut i = 0;
     while i < m {
-        io::print_decimal(STDOUT_FILENO, wide(trits::places::trit_at(ones, twos, i)));
+        io::print_decimal(STDOUT_FILENO, wide(planes::places::trit_at(ones, twos, i)));
         i += 1;
     }
 }

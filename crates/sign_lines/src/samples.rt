@@ -2,7 +2,7 @@
 ghost use mathlib.Core.Path.{_≡_};
 ghost use Prim.Native.Nat.{_+_, _*_, _/_, _%_, _<_, _≤_};
 ghost use lib.ListN.{length};
-ghost use Rattle.packing.specs.Calls.{unpackRefusal, unpackOnes, unpackTwos};
+ghost use Rattle.packed.specs.Calls.{unpackRefusal, unpackOnes, unpackTwos};
 ghost use Rattle.sign_lines.specs.{following, numberAfter, packedAfter, turned, ringOrder};
 
 // The number that follows x in a sequence of numbers below 65,537.

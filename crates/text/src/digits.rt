@@ -14,7 +14,7 @@ pub fn put_digits(field: &[u8], ones: &mut [u64], twos: &mut [u64])
 {
     let mut i = 0;
     while i < field.len() {
-        trits::places::put_trit(ones, twos, i, field[i] - 48);
+        planes::places::put_trit(ones, twos, i, field[i] - 48);
         i += 1;
     }
 }

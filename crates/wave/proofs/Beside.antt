@@ -11,24 +11,24 @@ use Rattle.trits.specs.Trit.{Trit, number, isSet, dotV, anyTo, sumTo, upTo}
 use Rattle.trits.specs.Planes.{bit, fromBits, bitAt, tritAt, tabulate, onesOf, twosOf, zeroWords, bothSet, pastEnd}
 use Rattle.trits.specs.Rows.{rowsOf, rowPart, matrixAt, putWords, rowsPastEnd}
 use Rattle.trits.specs.Refusal.{first, planesRefusal}
-use Rattle.packing.specs.Packed.{byteOf, digitOf, packedAt, packedRow, packedBytes, badByte, packedRefusal}
-use Rattle.packing.specs.Calls.{packRefusal, packExit}
+use Rattle.packed.specs.Packed.{byteOf, digitOf, packedAt, packedRow, packedBytes, badByte, packedRefusal}
+use Rattle.packed.specs.Calls.{packRefusal, packExit}
 use Rattle.matrix.specs.Linear.{Vector, elem, agree, find, solve, inSpan, keep, pivots, rank, without, fill, range}
 use Rattle.matrix.specs.Orders.{isOrder}
 use Rattle.trits.specs.InDigits.{vector, digitRows}
 use Rattle.matrix.proofs.Places.{elem-at}
 use Rattle.verdict.specs.Verdict.{timesKey, fullWord, fullWeight, syndrome}
-use Rattle.heldkey.specs.Held.{numbersFit, sound, heldRow, heldKey}
-use Rattle.heldkey.specs.Store.{beginRefusal, begunHeld, beginHeld, rowRefusal, storePackedRefusal, nextHeld, storedHeld, storedPlane}
-use Rattle.heldkey.specs.Load.{offer, offerAll}
-use Rattle.checking.specs.Check.{callRefusal, packedLengths, packedContents, checkPackedRefusal, heldWeight, answered, checkPackedAnswer}
-use Rattle.signer.specs.Sizes.{sizesFit}
-use Rattle.signer.specs.Secret.{noZero, secretMatrix}
-use Rattle.signer.specs.Build.{arrange, arranged, rowOfR, buildRefusal}
-use Rattle.signer.specs.Draw.{choicesFit, placed, pivotsV, suppliedV, drawV, pivotsU, suppliedU, drawU, drawn, drawRefusal, signature}
+use Rattle.held_key.specs.Held.{numbersFit, sound, heldRow, heldKey}
+use Rattle.held_key.specs.Store.{beginRefusal, begunHeld, beginHeld, rowRefusal, storePackedRefusal, nextHeld, storedHeld, storedPlane}
+use Rattle.held_key.specs.Load.{offer, offerAll}
+use Rattle.check_tests.specs.Check.{callRefusal, packedLengths, packedContents, checkPackedRefusal, heldWeight, answered, checkPackedAnswer}
+use Rattle.scheme.specs.Sizes.{sizesFit}
+use Rattle.scheme.specs.Secret.{noZero, secretMatrix}
+use Rattle.scheme.specs.Build.{arrange, arranged, rowOfR, buildRefusal}
+use Rattle.scheme.specs.Draw.{choicesFit, placed, pivotsV, suppliedV, drawV, pivotsU, suppliedU, drawU, drawn, drawRefusal, signature}
 use Rattle.calls.specs.Lent.{secretDiffers, hasZero, secretRefusal, workExit}
-use Rattle.calls.specs.BuildCall.{keyDiffers, lengthsDiffer as buildLengths, buildAnswer, orderExit, keyOnesOf, keyTwosOf, keyOnesExit, keyTwosExit, workOnesExit as buildWork}
-use Rattle.calls.specs.DrawCall.{choicesDiffer, lengthsDiffer as drawLengths, choicesRefusal, drawAnswer, wordOf, wordOnesExit, wordTwosExit, sOnesExit, sTwosExit, workOnesExit as drawWork}
+use Rattle.calls.specs.BuildCall.{keyDiffers, buildLengthsDiffer, buildAnswer, orderExit, keyOnesOf, keyTwosOf, keyOnesExit, keyTwosExit, buildWorkOnesExit}
+use Rattle.calls.specs.DrawCall.{choicesDiffer, drawLengthsDiffer, choicesRefusal, drawAnswer, wordOf, wordOnesExit, wordTwosExit, sOnesExit, sTwosExit, drawWorkOnesExit}
 use Rattle.wave.specs.Terms.{Terms, builtKey, LentSyndrome, Under, HandsOut}
 use Rattle.wave.specs.Examples.{sizes4, secret4, start1, key1, start2, p2, key2, y4, build4, draw4}
 use Rattle.wave.specs.Beside.{Beside, secretR, keyR}
@@ -146,15 +146,15 @@ unfolding anyTo bit bitAt bothSet pastEnd rowPart rowsPastEnd planesRefusal
 refused-both t = let three : _≡_ {A = ℕ} 3 0 = t .contents in absurd (omega arith)
 
 not-2221 : HandsOut (sizes4 0 4) (draw4 start1 0 1 1 0) (vector (2 ∷ 2 ∷ 2 ∷ 1 ∷ [])) → ⊥
-unfolding dotV anyTo sumTo upTo bit fromBits bitAt tritAt tabulate onesOf twosOf bothSet pastEnd rowPart matrixAt rowsPastEnd first planesRefusal agree find solve inSpan keep pivots rank without fill range isOrder sizesFit pivotsV suppliedV drawV pivotsU suppliedU drawU drawn drawRefusal secretDiffers hasZero secretRefusal choicesDiffer drawLengths choicesRefusal drawAnswer wordOf wordOnesExit wordTwosExit
+unfolding dotV anyTo sumTo upTo bit fromBits bitAt tritAt tabulate onesOf twosOf bothSet pastEnd rowPart matrixAt rowsPastEnd first planesRefusal agree find solve inSpan keep pivots rank without fill range isOrder sizesFit pivotsV suppliedV drawV pivotsU suppliedU drawU drawn drawRefusal secretDiffers hasZero secretRefusal choicesDiffer drawLengthsDiffer choicesRefusal drawAnswer wordOf wordOnesExit wordTwosExit
 not-2221 h = let other : _≡_ {A = ℕ} 1 2 = ap number (h .word 1 (omega arith)) in absurd (omega arith)
 
 none-0212 : (e : Vector) → HandsOut (sizes4 0 4) (draw4 start1 1 0 1 0) e → ⊥
-unfolding dotV anyTo sumTo upTo bit fromBits bitAt tritAt tabulate bothSet pastEnd rowPart matrixAt rowsPastEnd first planesRefusal agree find solve inSpan keep pivots rank without fill range isOrder sizesFit pivotsV suppliedV drawV pivotsU suppliedU drawU drawn drawRefusal secretDiffers hasZero secretRefusal choicesDiffer drawLengths choicesRefusal drawAnswer
+unfolding dotV anyTo sumTo upTo bit fromBits bitAt tritAt tabulate bothSet pastEnd rowPart matrixAt rowsPastEnd first planesRefusal agree find solve inSpan keep pivots rank without fill range isOrder sizesFit pivotsV suppliedV drawV pivotsU suppliedU drawU drawn drawRefusal secretDiffers hasZero secretRefusal choicesDiffer drawLengthsDiffer choicesRefusal drawAnswer
 none-0212 e h = let fourteen : _≡_ {A = ℕ} 14 0 = h .passed in absurd (omega arith)
 
 hands-2111 : HandsOut (sizes4 0 4) (draw4 start1 0 1 1 0) (vector (2 ∷ 1 ∷ 1 ∷ 1 ∷ []))
-unfolding dotV anyTo sumTo upTo bit fromBits bitAt tritAt tabulate onesOf twosOf bothSet pastEnd rowPart matrixAt rowsPastEnd first planesRefusal agree find solve inSpan keep pivots rank without fill range isOrder sizesFit pivotsV suppliedV drawV pivotsU suppliedU drawU drawn drawRefusal secretDiffers hasZero secretRefusal choicesDiffer drawLengths choicesRefusal drawAnswer wordOf wordOnesExit wordTwosExit
+unfolding dotV anyTo sumTo upTo bit fromBits bitAt tritAt tabulate onesOf twosOf bothSet pastEnd rowPart matrixAt rowsPastEnd first planesRefusal agree find solve inSpan keep pivots rank without fill range isOrder sizesFit pivotsV suppliedV drawV pivotsU suppliedU drawU drawn drawRefusal secretDiffers hasZero secretRefusal choicesDiffer drawLengthsDiffer choicesRefusal drawAnswer wordOf wordOnesExit wordTwosExit
 hands-2111 = record { passed = refl; word = λ q h. by q (places-below q h) }
   where
     by : (q : ℕ) → (q ≡ 0) ⊎ (q ≡ 1) ⊎ (q ≡ 2) ⊎ (q ≡ 3) → tritAt (wordOnesExit (sizes4 0 4) (draw4 start1 0 1 1 0)) (wordTwosExit (sizes4 0 4) (draw4 start1 0 1 1 0)) q ≡ vector (2 ∷ 1 ∷ 1 ∷ 1 ∷ []) q
@@ -173,7 +173,7 @@ hands-2111 = record { passed = refl; word = λ q h. by q (places-below q h) }
 -- ---- all of them
 
 pub beside : Beside
-unfolding dotV anyTo sumTo upTo bit fromBits bitAt tritAt tabulate onesOf twosOf zeroWords bothSet pastEnd rowsOf rowPart matrixAt putWords rowsPastEnd first planesRefusal byteOf digitOf packedAt packedRow packedBytes badByte packedRefusal packRefusal packExit agree find solve inSpan keep pivots rank without fill range isOrder digitRows timesKey fullWord fullWeight numbersFit sound heldRow heldKey beginRefusal begunHeld beginHeld rowRefusal storePackedRefusal nextHeld storedHeld storedPlane offer offerAll callRefusal packedLengths packedContents checkPackedRefusal heldWeight answered checkPackedAnswer sizesFit noZero secretMatrix arrange arranged rowOfR buildRefusal choicesFit pivotsV suppliedV drawV pivotsU suppliedU drawU drawn drawRefusal secretDiffers hasZero secretRefusal workExit keyDiffers buildLengths buildAnswer orderExit keyOnesOf keyTwosOf keyOnesExit keyTwosExit buildWork choicesDiffer drawLengths choicesRefusal drawAnswer wordOf wordOnesExit wordTwosExit sOnesExit sTwosExit drawWork builtKey
+unfolding dotV anyTo sumTo upTo bit fromBits bitAt tritAt tabulate onesOf twosOf zeroWords bothSet pastEnd rowsOf rowPart matrixAt putWords rowsPastEnd first planesRefusal byteOf digitOf packedAt packedRow packedBytes badByte packedRefusal packRefusal packExit agree find solve inSpan keep pivots rank without fill range isOrder digitRows timesKey fullWord fullWeight numbersFit sound heldRow heldKey beginRefusal begunHeld beginHeld rowRefusal storePackedRefusal nextHeld storedHeld storedPlane offer offerAll callRefusal packedLengths packedContents checkPackedRefusal heldWeight answered checkPackedAnswer sizesFit noZero secretMatrix arrange arranged rowOfR buildRefusal choicesFit pivotsV suppliedV drawV pivotsU suppliedU drawU drawn drawRefusal secretDiffers hasZero secretRefusal workExit keyDiffers buildLengthsDiffer buildAnswer orderExit keyOnesOf keyTwosOf keyOnesExit keyTwosExit buildWorkOnesExit choicesDiffer drawLengthsDiffer choicesRefusal drawAnswer wordOf wordOnesExit wordTwosExit sOnesExit sTwosExit drawWorkOnesExit builtKey
 beside = record {
   word-1200 = refl;
   released-1200 = refl;

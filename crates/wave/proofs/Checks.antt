@@ -5,11 +5,11 @@ use Prim.Native.Nat.{ℕ, _<_}
 use native.Mathlib.Decide.{ℕ-discrete}
 use borrow.Author.Tests.{ne-eqb}
 use Rattle.trits.specs.Planes.{tritAt}
-use Rattle.packing.specs.Packed.{packedRow}
+use Rattle.packed.specs.Packed.{packedRow}
 use Rattle.matrix.specs.Linear.{Vector}
-use Rattle.heldkey.specs.Held.{rowTrits}
-use Rattle.checking.specs.Check.{checkRefusal, checkPackedRefusal, answered, checkAnswer, checkPackedAnswer}
-use Rattle.checking.proofs.Passed.{check-passed, check-packed-passed}
+use Rattle.held_key.specs.Held.{rowTrits}
+use Rattle.check_tests.specs.Check.{checkRefusal, checkPackedRefusal, answered, checkAnswer, checkPackedAnswer}
+use Rattle.check_tests.proofs.Passed.{check-passed, check-packed-passed}
 use Rattle.checker.proofs.Verdicts.{check-verdict, check-packed-verdict, found-once}
 use Rattle.wave.specs.Verifier.{Check, verdict, PackedCheck, packedVerdict, HeldExtending, HeldFound}
 

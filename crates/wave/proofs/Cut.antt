@@ -12,12 +12,12 @@ use Rattle.matrix.specs.Linear.{Vector, zeros, times, solve, orZeros, without, 
 use Rattle.matrix.proofs.Greedy.{pivots-elem}
 use Rattle.matrix.proofs.Orders.{order-good}
 use Rattle.matrix.proofs.Counts.{without-length}
-use Rattle.signer.specs.declared.sizes.Sizes.{Sizes}
-use Rattle.signer.specs.Sizes.{half, places, ru, rv, codim, gapV, gapU}
-use Rattle.signer.specs.Secret.{Secret, join, uOf, vOf, whole}
-use Rattle.signer.specs.Draw.{Choices, placed, firstV, pivotsV, suppliedV, drawV, firstU, pivotsU, lastU, forced, suppliedU, drawU, drawn, drawRefusal}
-use Rattle.signer.proofs.Ranges.{Ranges}
-use Rattle.signer.proofs.Draws.{Valid, choices-valid, Passes, passes-released, released-passes, parts, first-in, keptV, keptU}
+use Rattle.scheme.specs.declared.sizes.Sizes.{Sizes}
+use Rattle.scheme.specs.Sizes.{half, places, ru, rv, codim, gapV, gapU}
+use Rattle.scheme.specs.Secret.{Secret, join, uOf, vOf, whole}
+use Rattle.scheme.specs.Draw.{Choices, placed, firstV, pivotsV, suppliedV, drawV, firstU, pivotsU, lastU, forced, suppliedU, drawU, drawn, drawRefusal}
+use Rattle.scheme.proofs.Ranges.{Ranges}
+use Rattle.scheme.proofs.Draws.{Valid, choices-valid, Passes, passes-released, released-passes, parts, first-in, keptV, keptU}
 use Rattle.wave.specs.Vectors.{Releases}
 
 -- as many trits are taken as there are places

@@ -17,31 +17,31 @@ use Rattle.trits.proofs.Reading.{length-ones, length-twos}
 use Rattle.trits.proofs.Ends.{upto-in, upto-out, upto-ended}
 use Rattle.trits.proofs.Matrix.{one-row-past}
 use Rattle.trits.proofs.Tests.{past-zero}
-use Rattle.packing.specs.Packed.{bytesFor, packedRow, packedBytes, badByte}
-use Rattle.packing.specs.Calls.{packRefusal, packExit}
-use Rattle.packing.proofs.RoundTrip.{packed-length, packed-back, packed-good}
+use Rattle.packed.specs.Packed.{bytesFor, packedRow, packedBytes, badByte}
+use Rattle.packed.specs.Calls.{packRefusal, packExit}
+use Rattle.packed.proofs.RoundTrip.{packed-length, packed-back, packed-good}
 use Rattle.matrix.specs.Linear.{Vector}
 use Rattle.matrix.proofs.Field.{not-false}
 use Rattle.matrix.proofs.Places.{or-false-left, or-false-right}
 use Rattle.verdict.specs.Verdict.{Key, fullWeight}
 use Rattle.verdict.proofs.FullWord.{weight-cong, weight-of}
-use Rattle.heldkey.specs.Held.{numbersFit}
-use Rattle.heldkey.specs.declared.state.Held.{Held}
-use Rattle.checking.specs.declared.Checked.{Checked}
-use Rattle.heldkey.specs.Held.{rowTrits}
-use Rattle.heldkey.specs.Load.{Holding, offerAll}
-use Rattle.checking.specs.Check.{callRefusal, planesLengths, planesContents, checkRefusal, checkPackedRefusal, answered, checkPackedAnswer}
-use Rattle.checking.proofs.Passed.{check-packed-passed, packed-contents}
+use Rattle.held_key.specs.Held.{numbersFit}
+use Rattle.held_key.specs.declared.state.Held.{Held}
+use Rattle.check_tests.specs.declared.Checked.{Checked}
+use Rattle.held_key.specs.Held.{rowTrits}
+use Rattle.held_key.specs.Load.{Holding, offerAll}
+use Rattle.check_tests.specs.Check.{callRefusal, planesLengths, planesContents, checkRefusal, checkPackedRefusal, answered, checkPackedAnswer}
+use Rattle.check_tests.proofs.Passed.{check-packed-passed, packed-contents}
 use Rattle.checker.proofs.EndToEnd.{begun, offered, loaded}
 use Rattle.checker.proofs.Verdicts.{packed-agrees}
-use Rattle.signer.specs.declared.sizes.Sizes.{Sizes}
-use Rattle.signer.specs.Sizes.{half, places, dim, codim, gapV, gapU, sizesFit}
-use Rattle.signer.specs.Build.{keyRow}
-use Rattle.signer.specs.Draw.{signature}
-use Rattle.signer.proofs.Ranges.{sizes-fit, codim-dim}
+use Rattle.scheme.specs.declared.sizes.Sizes.{Sizes}
+use Rattle.scheme.specs.Sizes.{half, places, dim, codim, gapV, gapU, sizesFit}
+use Rattle.scheme.specs.Build.{keyRow}
+use Rattle.scheme.specs.Draw.{signature}
+use Rattle.scheme.proofs.Ranges.{sizes-fit, codim-dim}
 use Rattle.calls.specs.Lent.{secretOf, pairDiffers}
 use Rattle.calls.specs.BuildCall.{BuildCall, keyRowWords, keyOnesExit, keyTwosExit}
-use Rattle.calls.specs.DrawCall.{DrawCall, choicesDiffer, lengthsDiffer, drawAnswer, wordOf, sOnesExit, sTwosExit}
+use Rattle.calls.specs.DrawCall.{DrawCall, choicesDiffer, drawLengthsDiffer, drawAnswer, wordOf, sOnesExit, sTwosExit}
 use Rattle.wave.specs.Terms.{Built, builtKey, sized, Under, KeyTerms}
 use Rattle.wave.specs.Verifier.{verdict, packedVerdict, Host, packedKeyRow, carried, carriedCheck, carriedPlanes, yes}
 use Rattle.wave.proofs.Written.{written-passes}
@@ -92,8 +92,8 @@ both-lengths : (m a b : ℕ) → pairDiffers m a b ≡ false → (a ≡ m) × (b
 both-lengths m a b e =
     (eqb-true a m (not-false (eqb a m) (or-false-left (not (eqb a m)) (not (eqb b m)) e)), eqb-true b m (not-false (eqb b m) (or-false-right (not (eqb a m)) (not (eqb b m)) e)))
 
-y-lengths : (z : Sizes) (l : DrawCall) → lengthsDiffer z l ≡ false → (length (l .yOnes) ≡ wordsFor (codim z)) × (length (l .yTwos) ≡ wordsFor (codim z))
-unfolding lengthsDiffer choicesDiffer
+y-lengths : (z : Sizes) (l : DrawCall) → drawLengthsDiffer z l ≡ false → (length (l .yOnes) ≡ wordsFor (codim z)) × (length (l .yTwos) ≡ wordsFor (codim z))
+unfolding drawLengthsDiffer choicesDiffer
 y-lengths z l e =
     let a = or-false-right (differs z (l .secret)) _ e in
     let b = or-false-right (not (eqb (length (l .p)) (places z))) _ a in

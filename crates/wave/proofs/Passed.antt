@@ -12,14 +12,14 @@ use Rattle.trits.proofs.Refusals.{passed-refuse, passed-demand, passed-first}
 use Rattle.matrix.specs.Linear.{Vector}
 use Rattle.matrix.specs.Orders.{isOrder}
 use Rattle.matrix.proofs.Places.{or-false-left}
-use Rattle.signer.specs.declared.sizes.Sizes.{Sizes}
-use Rattle.signer.specs.Sizes.{half, places, dim, ru, rv, codim, gapU, sizesFit}
-use Rattle.signer.specs.Secret.{noZero}
-use Rattle.signer.specs.Build.{buildFits, buildRefusal}
-use Rattle.signer.specs.Draw.{choicesFit, drawRefusal}
+use Rattle.scheme.specs.declared.sizes.Sizes.{Sizes}
+use Rattle.scheme.specs.Sizes.{half, places, dim, ru, rv, codim, gapU, sizesFit}
+use Rattle.scheme.specs.Secret.{noZero}
+use Rattle.scheme.specs.Build.{buildFits, buildRefusal}
+use Rattle.scheme.specs.Draw.{choicesFit, drawRefusal}
 use Rattle.calls.specs.Lent.{Planes, secretOf, pairDiffers, secretDiffers, hasZero, secretRefusal}
-use Rattle.calls.specs.BuildCall.{BuildCall, lengthsDiffer as buildLengths, buildAnswer}
-use Rattle.calls.specs.DrawCall.{DrawCall, syndromeOf, choicesOf, drawWorkWords, choicesDiffer, lengthsDiffer as drawLengths, choicesRefusal, drawAnswer}
+use Rattle.calls.specs.BuildCall.{BuildCall, buildLengthsDiffer, buildAnswer}
+use Rattle.calls.specs.DrawCall.{DrawCall, syndromeOf, choicesOf, drawWorkWords, choicesDiffer, drawLengthsDiffer, choicesRefusal, drawAnswer}
 
 -- a trit that is 0 is there, or none is
 pub zero-none : (m : ℕ) (v : Vector) → hasZero m v ≡ false → noZero m v ≡ true
@@ -61,10 +61,10 @@ pub record BuildPassed (z : Sizes) (i : BuildCall) : Type 0 where
   pub ranks : buildRefusal z (secretOf z (i .secret)) ≡ 0
 
 pub build-call : (z : Sizes) (i : BuildCall) → buildAnswer z i ≡ 0 → BuildPassed z i
-unfolding buildAnswer buildLengths
+unfolding buildAnswer buildLengthsDiffer
 build-call z i e =
     let a = passed-demand (sizesFit z) 1 _ (lit< tt) e in
-    let b = passed-refuse (buildLengths z i) 2 _ (lit< tt) (a .1) in
+    let b = passed-refuse (buildLengthsDiffer z i) 2 _ (lit< tt) (a .1) in
     let c = passed-first (secretRefusal z (i .secret)) _ (b .1) in
     let d = passed-demand (isOrder (places z) (i .start)) 7 _ (lit< tt) (c .1) in
     record { sizes = a .0; lengths = or-false-left (differs z (i .secret)) _ (b .0); contents = c .0; start = d .0; ranks = d .1 }
@@ -78,7 +78,7 @@ build-fits z i p = rw (p .sizes, secret-unit z (i .secret) (p .contents), p .sta
 
 pub record DrawPassed (z : Sizes) (l : DrawCall) : Type 0 where
   pub sizes : sizesFit z ≡ true
-  pub lengths : drawLengths z l ≡ false
+  pub lengths : drawLengthsDiffer z l ≡ false
   pub contents : secretRefusal z (l .secret) ≡ 0
   pub order : isOrder (places z) (l .p) ≡ true
   pub syndrome : planesRefusal (l .yOnes) (l .yTwos) 1 (codim z) ≡ 0
@@ -93,7 +93,7 @@ pub draw-call : (z : Sizes) (l : DrawCall) → drawAnswer z l ≡ 0 → DrawPass
 unfolding drawAnswer choicesRefusal
 draw-call z l e =
     let a = passed-demand (sizesFit z) 1 _ (lit< tt) e in
-    let b = passed-refuse (drawLengths z l) 2 _ (lit< tt) (a .1) in
+    let b = passed-refuse (drawLengthsDiffer z l) 2 _ (lit< tt) (a .1) in
     let c = passed-first (secretRefusal z (l .secret)) _ (b .1) in
     let d = passed-first (choicesRefusal z l) (drawRefusal z (secretOf z (l .secret)) (l .p) (syndromeOf l) (choicesOf l)) (c .1) in
     let f = passed-demand (isOrder (places z) (l .p)) 7 _ (lit< tt) (d .0) in
@@ -155,6 +155,6 @@ choices-same z {p} {y1} {y2} {ov} {v1} {v2} {ou} {u1} {u2} {e1} {e2} {s1} {s2} {
 pub lengths-same : (z : Sizes) (l : DrawCall) → differs z (l .secret) ≡ false
     → choicesDiffer z (length (l .p)) (length (l .yOnes)) (length (l .yTwos)) (length (l .orderV)) (length (l .vOnes)) (length (l .vTwos)) (length (l .orderU)) (length (l .uOnes)) (length (l .uTwos))
     (length (l .wordOnes)) (length (l .wordTwos)) (length (l .sOnes)) (length (l .sTwos)) (length (l .workOnes)) (length (l .workTwos)) ≡ false
-    → drawLengths z l ≡ false
-unfolding drawLengths
+    → drawLengthsDiffer z l ≡ false
+unfolding drawLengthsDiffer
 lengths-same z l a b = rw (a, b)

@@ -20,17 +20,17 @@ use Rattle.matrix.specs.Linear.{Vector}
 use Rattle.matrix.specs.Orders.{Order}
 use Rattle.matrix.proofs.Places.{elem-at}
 use Rattle.matrix.proofs.Orders.{order-good, test-order}
-use Rattle.signer.specs.declared.sizes.Sizes.{Sizes}
-use Rattle.signer.specs.Sizes.{half, places, dim, codim, gapU, sizesFit}
-use Rattle.signer.specs.Secret.{Secret, noZero}
-use Rattle.signer.specs.Build.{keyOrder, keyRow}
-use Rattle.signer.specs.Draw.{Choices, drawn, drawRefusal, signature}
-use Rattle.signer.proofs.Pairs.{zero-no}
-use Rattle.signer.proofs.Ranges.{sizes-fit}
-use Rattle.signer.proofs.Draws.{Valid}
+use Rattle.scheme.specs.declared.sizes.Sizes.{Sizes}
+use Rattle.scheme.specs.Sizes.{half, places, dim, codim, gapU, sizesFit}
+use Rattle.scheme.specs.Secret.{Secret, noZero}
+use Rattle.scheme.specs.Build.{keyOrder, keyRow}
+use Rattle.scheme.specs.Draw.{Choices, drawn, drawRefusal, signature}
+use Rattle.scheme.proofs.Pairs.{zero-no}
+use Rattle.scheme.proofs.Ranges.{sizes-fit}
+use Rattle.scheme.proofs.Draws.{Valid}
 use Rattle.calls.specs.Lent.{secretOf, secretDiffers, secretRefusal}
 use Rattle.calls.specs.BuildCall.{BuildCall, keyRowWords, orderExit, keyOnesOf, keyTwosOf, keyOnesExit, keyTwosExit}
-use Rattle.calls.specs.DrawCall.{DrawCall, choicesOf, drawWorkWords, lengthsDiffer, drawAnswer, wordOf, wordOnesExit, wordTwosExit, sOnesExit, sTwosExit}
+use Rattle.calls.specs.DrawCall.{DrawCall, choicesOf, drawWorkWords, drawLengthsDiffer, drawAnswer, wordOf, wordOnesExit, wordTwosExit, sOnesExit, sTwosExit}
 use Rattle.wave.specs.Terms.{Built, builtKey, sized, LentSyndrome, LentAs, Under, HandsOut, Bits, SomeDraw, KeyTerms}
 use Rattle.wave.specs.Vectors.{Released, Releases}
 use Rattle.wave.proofs.Written.{written-back, written-passes, ones-words, twos-words, zero-words, rows-part}
@@ -175,7 +175,7 @@ module _ (z : Sizes) (i : BuildCall) (b : Built z i) (g w : ℕ) (fit : sizesFit
       ap₂ (λ (v u : Vector). record { orderV = ch .orderV; tritsV = v; orderU = ch .orderU; valuesU = u })
       (written-back (z .kv) (re .choices .tritsV)) (written-back (z .ku) (re .choices .valuesU))
 
-  made-lengths : lengthsDiffer Z made ≡ false
+  made-lengths : drawLengthsDiffer Z made ≡ false
   unfolding secretDiffers
   made-lengths =
       lengths-same Z made (build-call z i b .lengths)

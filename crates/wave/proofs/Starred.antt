@@ -10,23 +10,23 @@ use Rattle.trits.specs.Planes.{bit, fromBits, bitAt, tritAt, tabulate, onesOf, 
 use Rattle.trits.specs.Rows.{rowsOf, rowPart, matrixAt, rowsPastEnd}
 use Rattle.trits.specs.Refusal.{first, planesRefusal}
 use Rattle.trits.proofs.Ends.{upto-in}
-use Rattle.packing.specs.Packed.{byteOf, digitOf, packedAt, packedRow, packedBytes, badByte, packedRefusal}
-use Rattle.packing.specs.Calls.{packRefusal, packExit, unpackRefusal, unpackOnes, unpackTwos}
+use Rattle.packed.specs.Packed.{byteOf, digitOf, packedAt, packedRow, packedBytes, badByte, packedRefusal}
+use Rattle.packed.specs.Calls.{packRefusal, packExit, unpackRefusal, unpackOnes, unpackTwos}
 use Rattle.matrix.specs.Linear.{Vector, agree, find, solve, inSpan, keep, pivots, rank, without, fill, range}
 use Rattle.matrix.specs.Orders.{isOrder}
 use Rattle.trits.specs.InDigits.{digitRows}
 use Rattle.matrix.proofs.Field.{set-not}
 use Rattle.matrix.proofs.Places.{elem-at}
 use Rattle.verdict.specs.Verdict.{timesKey, fullWord, fullWeight, saysYes}
-use Rattle.heldkey.specs.Held.{numbersFit, sound, heldRow, heldKey}
-use Rattle.checking.specs.Check.{callRefusal, packedLengths, packedContents, checkPackedRefusal, heldWeight, answered, checkPackedAnswer}
-use Rattle.signer.specs.Sizes.{sizesFit}
-use Rattle.signer.specs.Secret.{secretMatrix}
-use Rattle.signer.specs.Build.{arrange, arranged, rowOfR, buildRefusal}
-use Rattle.signer.specs.Draw.{placed, signature, pivotsV, suppliedV, drawV, pivotsU, suppliedU, drawU, drawn, drawRefusal}
+use Rattle.held_key.specs.Held.{numbersFit, sound, heldRow, heldKey}
+use Rattle.check_tests.specs.Check.{callRefusal, packedLengths, packedContents, checkPackedRefusal, heldWeight, answered, checkPackedAnswer}
+use Rattle.scheme.specs.Sizes.{sizesFit}
+use Rattle.scheme.specs.Secret.{secretMatrix}
+use Rattle.scheme.specs.Build.{arrange, arranged, rowOfR, buildRefusal}
+use Rattle.scheme.specs.Draw.{placed, signature, pivotsV, suppliedV, drawV, pivotsU, suppliedU, drawU, drawn, drawRefusal}
 use Rattle.calls.specs.Lent.{secretDiffers, hasZero, secretRefusal, workExit}
-use Rattle.calls.specs.BuildCall.{keyDiffers, lengthsDiffer as buildLengths, buildAnswer, orderExit, keyOnesOf, keyTwosOf, keyOnesExit, keyTwosExit, workOnesExit as buildWorkOnes, workTwosExit as buildWorkTwos}
-use Rattle.calls.specs.DrawCall.{DrawCall, choicesDiffer, lengthsDiffer as drawLengths, choicesRefusal, drawAnswer, wordOf, wordOnesExit, wordTwosExit, sOnesExit, sTwosExit, workOnesExit as drawWorkOnes, workTwosExit as drawWorkTwos}
+use Rattle.calls.specs.BuildCall.{keyDiffers, buildLengthsDiffer, buildAnswer, orderExit, keyOnesOf, keyTwosOf, keyOnesExit, keyTwosExit, buildWorkOnesExit, buildWorkTwosExit}
+use Rattle.calls.specs.DrawCall.{DrawCall, choicesDiffer, drawLengthsDiffer, choicesRefusal, drawAnswer, wordOf, wordOnesExit, wordTwosExit, sOnesExit, sTwosExit, drawWorkOnesExit, drawWorkTwosExit}
 use Rattle.wave.specs.Terms.{Under}
 use Rattle.wave.specs.Examples.{sizes4, start1, build4}
 use Rattle.wave.specs.Starred.{NoDrawMakes1200, gap4, Starred}
@@ -35,11 +35,11 @@ use Rattle.wave.proofs.ReachCalls.{handed-signature, drawn-terms}
 -- ---- the first key as a call, by computation
 
 first-built : buildAnswer (sizes4 0 4) (build4 start1) ≡ 0
-unfolding dotV anyTo bit bitAt tritAt bothSet pastEnd rowPart matrixAt rowsPastEnd first planesRefusal agree find solve inSpan keep pivots rank range isOrder sizesFit buildRefusal secretDiffers hasZero secretRefusal keyDiffers buildLengths buildAnswer
+unfolding dotV anyTo bit bitAt tritAt bothSet pastEnd rowPart matrixAt rowsPastEnd first planesRefusal agree find solve inSpan keep pivots rank range isOrder sizesFit buildRefusal secretDiffers hasZero secretRefusal keyDiffers buildLengthsDiffer buildAnswer
 first-built = refl
 
 first-order : orderExit (sizes4 0 4) (build4 start1) ≡ start1
-unfolding dotV anyTo bit bitAt tritAt bothSet pastEnd rowPart matrixAt rowsPastEnd first planesRefusal agree find solve inSpan keep pivots rank range isOrder sizesFit secretMatrix arrange arranged buildRefusal secretDiffers hasZero secretRefusal keyDiffers buildLengths buildAnswer orderExit
+unfolding dotV anyTo bit bitAt tritAt bothSet pastEnd rowPart matrixAt rowsPastEnd first planesRefusal agree find solve inSpan keep pivots rank range isOrder sizesFit secretMatrix arrange arranged buildRefusal secretDiffers hasZero secretRefusal keyDiffers buildLengthsDiffer buildAnswer orderExit
 first-order = refl
 
 -- ---- the star over every call
@@ -74,7 +74,7 @@ never g one l u d s1 s2 =
 -- ---- the table
 
 pub starred : Starred
-unfolding dotV anyTo sumTo upTo bit fromBits bitAt tritAt tabulate onesOf twosOf zeroWords bothSet pastEnd rowsOf rowPart matrixAt rowsPastEnd first planesRefusal byteOf digitOf packedAt packedRow packedBytes badByte packedRefusal packRefusal packExit unpackRefusal unpackOnes unpackTwos agree find solve inSpan keep pivots rank without fill range isOrder digitRows timesKey fullWord fullWeight saysYes numbersFit sound heldRow heldKey callRefusal packedLengths packedContents checkPackedRefusal heldWeight answered checkPackedAnswer sizesFit secretMatrix arrange arranged rowOfR buildRefusal pivotsV suppliedV drawV pivotsU suppliedU drawU drawn drawRefusal secretDiffers hasZero secretRefusal workExit keyDiffers buildLengths buildAnswer orderExit keyOnesOf keyTwosOf keyOnesExit keyTwosExit buildWorkOnes buildWorkTwos choicesDiffer drawLengths choicesRefusal drawAnswer wordOf wordOnesExit wordTwosExit sOnesExit sTwosExit drawWorkOnes drawWorkTwos
+unfolding dotV anyTo sumTo upTo bit fromBits bitAt tritAt tabulate onesOf twosOf zeroWords bothSet pastEnd rowsOf rowPart matrixAt rowsPastEnd first planesRefusal byteOf digitOf packedAt packedRow packedBytes badByte packedRefusal packRefusal packExit unpackRefusal unpackOnes unpackTwos agree find solve inSpan keep pivots rank without fill range isOrder digitRows timesKey fullWord fullWeight saysYes numbersFit sound heldRow heldKey callRefusal packedLengths packedContents checkPackedRefusal heldWeight answered checkPackedAnswer sizesFit secretMatrix arrange arranged rowOfR buildRefusal pivotsV suppliedV drawV pivotsU suppliedU drawU drawn drawRefusal secretDiffers hasZero secretRefusal workExit keyDiffers buildLengthsDiffer buildAnswer orderExit keyOnesOf keyTwosOf keyOnesExit keyTwosExit buildWorkOnesExit buildWorkTwosExit choicesDiffer drawLengthsDiffer choicesRefusal drawAnswer wordOf wordOnesExit wordTwosExit sOnesExit sTwosExit drawWorkOnesExit drawWorkTwosExit
 starred = record {
   packs-88 = refl;
   packed-88 = refl;

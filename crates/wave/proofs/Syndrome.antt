@@ -16,11 +16,11 @@ use Rattle.matrix.proofs.Places.{picked, fill-at}
 use Rattle.matrix.proofs.Greedy.{kept-injective}
 use Rattle.matrix.proofs.Orders.{order-good, dot-order}
 use Rattle.verdict.specs.Verdict.{Key, timesKey, syndrome, HasSyndrome}
-use Rattle.signer.specs.Secret.{join}
-use Rattle.signer.specs.Build.{Arrangement, rowOfR}
-use Rattle.signer.specs.Draw.{placed}
-use Rattle.signer.proofs.Pairs.{join-low, join-high}
-use Rattle.signer.proofs.Build.{Arranged, row-column}
+use Rattle.scheme.specs.Secret.{join}
+use Rattle.scheme.specs.Build.{Arrangement, rowOfR}
+use Rattle.scheme.specs.Draw.{placed}
+use Rattle.scheme.proofs.Pairs.{join-low, join-high}
+use Rattle.scheme.proofs.Build.{Arranged, row-column}
 
 module _ (m k n : ℕ) (H : Matrix) (a : Arrangement) (size : m + k ≡ n) (g : Arranged m n H a) where
   abbrev p : List ℕ

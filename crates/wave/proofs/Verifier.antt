@@ -10,12 +10,12 @@ use Rattle.matrix.specs.Orders.{Order}
 use Rattle.matrix.proofs.Greedy.{Kept}
 use Rattle.verdict.specs.Verdict.{Key, fullWeight, saysYes}
 use Rattle.verdict.proofs.FullWord.{weight-of, yes-weight}
-use Rattle.signer.specs.declared.sizes.Sizes.{Sizes}
-use Rattle.signer.specs.Sizes.{places, dim, codim, sizesFit}
-use Rattle.signer.specs.Secret.{Secret, secretMatrix}
-use Rattle.signer.specs.Build.{arranged}
-use Rattle.signer.specs.Draw.{signature}
-use Rattle.signer.proofs.Ranges.{codim-dim, build-passed, build-ends}
+use Rattle.scheme.specs.declared.sizes.Sizes.{Sizes}
+use Rattle.scheme.specs.Sizes.{places, dim, codim, sizesFit}
+use Rattle.scheme.specs.Secret.{Secret, secretMatrix}
+use Rattle.scheme.specs.Build.{arranged}
+use Rattle.scheme.specs.Draw.{signature}
+use Rattle.scheme.proofs.Ranges.{codim-dim, build-passed, build-ends}
 use Rattle.wave.specs.Terms.{sized}
 use Rattle.wave.specs.Vectors.{Released, Releases}
 use Rattle.wave.proofs.Reach.{reach}

@@ -6,10 +6,10 @@ use Prim.Native.Nat.{ℕ}
 use Rattle.matrix.specs.Linear.{Vector}
 use Rattle.trits.specs.InDigits.{vector, digits, matrix, digitRows}
 use Rattle.verdict.specs.Verdict.{Key}
-use Rattle.signer.specs.Secret.{Secret}
-use Rattle.signer.specs.Draw.{choicesFit, drawn}
-use Rattle.calls.specs.BuildCall.{buildAnswer, orderExit, keyOnesExit, keyTwosExit, workOnesExit as buildWorkOnes}
-use Rattle.calls.specs.DrawCall.{drawAnswer, wordOnesExit, wordTwosExit, workOnesExit as drawWorkOnes}
+use Rattle.scheme.specs.Secret.{Secret}
+use Rattle.scheme.specs.Draw.{choicesFit, drawn}
+use Rattle.calls.specs.BuildCall.{buildAnswer, orderExit, keyOnesExit, keyTwosExit, buildWorkOnesExit}
+use Rattle.calls.specs.DrawCall.{drawAnswer, wordOnesExit, wordTwosExit, drawWorkOnesExit}
 use Rattle.wave.specs.Terms.{Terms, builtKey, LentSyndrome, Under, HandsOut}
 use Rattle.wave.specs.Verifier.{packedVerdict, carriedCheck, yes}
 use Rattle.wave.specs.Examples.{sizes4, secret4, start1, key1, start2, p2, key2, y4, choose, word4, refusal4, build4, draw4, host4}
@@ -38,11 +38,11 @@ pub record Beside : Type 0 where
   pub p-0023 : orderExit (sizes4 0 4) (build4 (0 ∷ 0 ∷ 2 ∷ 3 ∷ [])) ≡ 9 ∷ 9 ∷ 9 ∷ 9 ∷ []
   pub key-ones-0023 : keyOnesExit (sizes4 0 4) (build4 (0 ∷ 0 ∷ 2 ∷ 3 ∷ [])) ≡ 5 ∷ 6 ∷ []
   pub key-twos-0023 : keyTwosExit (sizes4 0 4) (build4 (0 ∷ 0 ∷ 2 ∷ 3 ∷ [])) ≡ 7 ∷ 8 ∷ []
-  pub work-0023 : buildWorkOnes (sizes4 0 4) (build4 (0 ∷ 0 ∷ 2 ∷ 3 ∷ [])) ≡ 1 ∷ 2 ∷ 3 ∷ 4 ∷ []
+  pub work-0023 : buildWorkOnesExit (sizes4 0 4) (build4 (0 ∷ 0 ∷ 2 ∷ 3 ∷ [])) ≡ 1 ∷ 2 ∷ 3 ∷ 4 ∷ []
   -- a U value of 0 is refused 8 though e_V is not 0 there: the word and the working space stay
   pub refused-zero : drawAnswer (sizes4 0 4) (draw4 start1 0 1 0 0) ≡ 8
   pub ones-zero : wordOnesExit (sizes4 0 4) (draw4 start1 0 1 0 0) ≡ 5 ∷ []
-  pub work-zero : drawWorkOnes (sizes4 0 4) (draw4 start1 0 1 0 0) ≡ 1 ∷ 2 ∷ 3 ∷ 4 ∷ 5 ∷ 6 ∷ []
+  pub work-zero : drawWorkOnesExit (sizes4 0 4) (draw4 start1 0 1 0 0) ≡ 1 ∷ 2 ∷ 3 ∷ 4 ∷ 5 ∷ 6 ∷ []
   -- ---- the five terms: each word below the first three meets all of them but one
 
   -- 2111 meets them under the first key at w = 4

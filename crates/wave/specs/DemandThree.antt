@@ -5,11 +5,11 @@ use mathlib.Core.Logic.{_↔_}
 use mathlib.Core.List.{List}
 use Prim.Native.Nat.{ℕ, _<_}
 use Rattle.trits.specs.Planes.{tritAt}
-use Rattle.packing.specs.Packed.{packedRow}
+use Rattle.packed.specs.Packed.{packedRow}
 use Rattle.matrix.specs.Linear.{Vector}
-use Rattle.heldkey.specs.Held.{rowTrits}
-use Rattle.signer.specs.declared.sizes.Sizes.{Sizes}
-use Rattle.signer.specs.Sizes.{sizesFit}
+use Rattle.held_key.specs.Held.{rowTrits}
+use Rattle.scheme.specs.declared.sizes.Sizes.{Sizes}
+use Rattle.scheme.specs.Sizes.{sizesFit}
 use Rattle.calls.specs.BuildCall.{BuildCall}
 use Rattle.calls.specs.DrawCall.{DrawCall, drawAnswer}
 use Rattle.wave.specs.Terms.{Built, sized, LentSyndrome, LentAs, Under, SomeDraw, KeyTerms}

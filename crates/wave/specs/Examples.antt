@@ -6,9 +6,9 @@ use native.Mathlib.Omega.{arith}
 use Rattle.matrix.specs.Linear.{Vector}
 use Rattle.trits.specs.InDigits.{vector, digits, matrix}
 use Rattle.verdict.specs.Verdict.{Key}
-use Rattle.signer.specs.declared.sizes.Sizes.{Sizes}
-use Rattle.signer.specs.Secret.{Secret}
-use Rattle.signer.specs.Draw.{Choices, drawn, drawRefusal}
+use Rattle.scheme.specs.declared.sizes.Sizes.{Sizes}
+use Rattle.scheme.specs.Secret.{Secret}
+use Rattle.scheme.specs.Draw.{Choices, drawn, drawRefusal}
 use Rattle.calls.specs.Lent.{Planes}
 use Rattle.calls.specs.BuildCall.{BuildCall}
 use Rattle.calls.specs.DrawCall.{DrawCall}

@@ -3,14 +3,14 @@ use mathlib.Core.Path.{_≡_}
 use mathlib.Core.Bool.{true}
 use mathlib.Core.List.{List, [], _∷_}
 use Prim.Native.Nat.{ℕ}
-use Rattle.packing.specs.Packed.{packedRow, packedBytes}
-use Rattle.packing.specs.Calls.{packRefusal, packExit, unpackRefusal, unpackOnes, unpackTwos}
+use Rattle.packed.specs.Packed.{packedRow, packedBytes}
+use Rattle.packed.specs.Calls.{packRefusal, packExit, unpackRefusal, unpackOnes, unpackTwos}
 use Rattle.trits.specs.InDigits.{vector, digits, matrix, digitRows}
 use Rattle.verdict.specs.Verdict.{fullWord, saysYes}
-use Rattle.signer.specs.Build.{arranged, keyOrder, keyRow}
-use Rattle.calls.specs.BuildCall.{buildAnswer, orderExit, keyOnesExit, keyTwosExit, workOnesExit as buildWorkOnes, workTwosExit as buildWorkTwos}
-use Rattle.calls.specs.DrawCall.{DrawCall, drawAnswer, wordOnesExit, wordTwosExit, sOnesExit, sTwosExit, workOnesExit as drawWorkOnes, workTwosExit as drawWorkTwos}
-use Rattle.checking.specs.Check.{checkPackedAnswer}
+use Rattle.scheme.specs.Build.{arranged, keyOrder, keyRow}
+use Rattle.calls.specs.BuildCall.{buildAnswer, orderExit, keyOnesExit, keyTwosExit, buildWorkOnesExit, buildWorkTwosExit}
+use Rattle.calls.specs.DrawCall.{DrawCall, drawAnswer, wordOnesExit, wordTwosExit, sOnesExit, sTwosExit, drawWorkOnesExit, drawWorkTwosExit}
+use Rattle.check_tests.specs.Check.{checkPackedAnswer}
 use Rattle.wave.specs.Terms.{Under}
 use Rattle.wave.specs.Verifier.{yes}
 use Rattle.wave.specs.Examples.{sizes4, secret4, start1, key1, start2, y4, word4, refusal4, build4, draw4}
@@ -42,8 +42,8 @@ pub record Starred : Type 0 where
   pub p-0123 : orderExit (sizes4 0 4) (build4 start1) ≡ 0 ∷ 1 ∷ 2 ∷ 3 ∷ []
   pub key-ones-0123 : keyOnesExit (sizes4 0 4) (build4 start1) ≡ 0 ∷ 0 ∷ []
   pub key-twos-0123 : keyTwosExit (sizes4 0 4) (build4 start1) ≡ 2 ∷ 3 ∷ []
-  pub work-ones-0123 : buildWorkOnes (sizes4 0 4) (build4 start1) ≡ 0 ∷ 0 ∷ 0 ∷ 0 ∷ []
-  pub work-twos-0123 : buildWorkTwos (sizes4 0 4) (build4 start1) ≡ 0 ∷ 0 ∷ 0 ∷ 0 ∷ []
+  pub work-ones-0123 : buildWorkOnesExit (sizes4 0 4) (build4 start1) ≡ 0 ∷ 0 ∷ 0 ∷ 0 ∷ []
+  pub work-twos-0123 : buildWorkTwosExit (sizes4 0 4) (build4 start1) ≡ 0 ∷ 0 ∷ 0 ∷ 0 ∷ []
   -- start (1,2,0,3): p = (1,3,0,2), R rows 22 and 20
   pub order-1203 : keyOrder (sizes4 0 4) secret4 start2 ≡ 1 ∷ 3 ∷ 0 ∷ 2 ∷ []
   pub rows-1203 : digitRows 2 2 (keyRow (sizes4 0 4) secret4 start2) ≡ (2 ∷ 2 ∷ []) ∷ (2 ∷ 0 ∷ []) ∷ []
@@ -78,8 +78,8 @@ pub record Starred : Type 0 where
   pub twos-0212 : wordTwosExit (sizes4 0 4) (draw4 start1 1 0 1 0) ≡ 6 ∷ []
   pub s-ones-0212 : sOnesExit (sizes4 0 4) (draw4 start1 1 0 1 0) ≡ 7 ∷ []
   pub s-twos-0212 : sTwosExit (sizes4 0 4) (draw4 start1 1 0 1 0) ≡ 8 ∷ []
-  pub work-ones-0212 : drawWorkOnes (sizes4 0 4) (draw4 start1 1 0 1 0) ≡ 0 ∷ 0 ∷ 0 ∷ 0 ∷ 0 ∷ 0 ∷ []
-  pub work-twos-0212 : drawWorkTwos (sizes4 0 4) (draw4 start1 1 0 1 0) ≡ 0 ∷ 0 ∷ 0 ∷ 0 ∷ 0 ∷ 0 ∷ []
+  pub work-ones-0212 : drawWorkOnesExit (sizes4 0 4) (draw4 start1 1 0 1 0) ≡ 0 ∷ 0 ∷ 0 ∷ 0 ∷ 0 ∷ 0 ∷ []
+  pub work-twos-0212 : drawWorkTwosExit (sizes4 0 4) (draw4 start1 1 0 1 0) ≡ 0 ∷ 0 ∷ 0 ∷ 0 ∷ 0 ∷ 0 ∷ []
   -- at w = 2, V trit 0 and U value 1 release 0102
   pub word-0102 : word4 0 2 0 1 ≡ 0 ∷ 1 ∷ 0 ∷ 2 ∷ []
   pub released-0102 : refusal4 0 2 0 1 ≡ 0

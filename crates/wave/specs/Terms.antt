@@ -11,10 +11,10 @@ use Rattle.trits.specs.Refusal.{planesRefusal}
 use Rattle.matrix.specs.Linear.{Vector, elem, without, range, rank}
 use Rattle.matrix.specs.Orders.{Distinct}
 use Rattle.verdict.specs.Verdict.{Key, HasSyndrome}
-use Rattle.signer.specs.declared.sizes.Sizes.{Sizes}
-use Rattle.signer.specs.Sizes.{half, places, dim, ru, codim, gapU}
-use Rattle.signer.specs.Secret.{Secret}
-use Rattle.signer.specs.Draw.{placed}
+use Rattle.scheme.specs.declared.sizes.Sizes.{Sizes}
+use Rattle.scheme.specs.Sizes.{half, places, dim, ru, codim, gapU}
+use Rattle.scheme.specs.Secret.{Secret}
+use Rattle.scheme.specs.Draw.{placed}
 use Rattle.calls.specs.Lent.{secretOf}
 use Rattle.calls.specs.BuildCall.{BuildCall, keyRowWords, buildAnswer, orderExit, keyOnesExit, keyTwosExit}
 use Rattle.calls.specs.DrawCall.{DrawCall, drawAnswer, wordOnesExit, wordTwosExit}

@@ -5,11 +5,11 @@ use mathlib.Core.List.{List}
 use Prim.Native.Nat.{ℕ, _<_}
 use Rattle.matrix.specs.Linear.{Vector}
 use Rattle.verdict.specs.Verdict.{Key}
-use Rattle.signer.specs.declared.sizes.Sizes.{Sizes}
-use Rattle.signer.specs.Sizes.{places, dim, codim}
-use Rattle.signer.specs.Secret.{Secret}
-use Rattle.signer.specs.Build.{buildFits, buildRefusal, keyOrder, keyRow}
-use Rattle.signer.specs.Draw.{Choices, choicesFit, drawn, drawRefusal}
+use Rattle.scheme.specs.declared.sizes.Sizes.{Sizes}
+use Rattle.scheme.specs.Sizes.{places, dim, codim}
+use Rattle.scheme.specs.Secret.{Secret}
+use Rattle.scheme.specs.Build.{buildFits, buildRefusal, keyOrder, keyRow}
+use Rattle.scheme.specs.Draw.{Choices, choicesFit, drawn, drawRefusal}
 
 -- p and R are what a build released: what it was given is in order, nothing was refused, and they are its order and its k rows of n-k trits
 pub record Released (z : Sizes) (s : Secret) (start p : List ℕ) (R : Key) : Type 0 where

@@ -5,18 +5,18 @@ use Prim.Native.Nat.{ℕ, _*_, _≤_, _<_}
 use lib.ListN.{length}
 use Rattle.trits.specs.Planes.{wordsFor}
 use Rattle.trits.specs.Rows.{rowPart}
-use Rattle.packing.specs.Packed.{bytesFor}
-use Rattle.packing.specs.Calls.{packExit}
+use Rattle.packed.specs.Packed.{bytesFor}
+use Rattle.packed.specs.Calls.{packExit}
 use Rattle.matrix.specs.Linear.{Vector}
 use Rattle.verdict.specs.Verdict.{Extending, Found}
-use Rattle.heldkey.specs.declared.state.Held.{Held}
-use Rattle.checking.specs.declared.Checked.{Checked}
-use Rattle.heldkey.specs.Held.{mostKeyNumber, rowTrits, heldKey}
-use Rattle.heldkey.specs.Store.{beginHeld}
-use Rattle.heldkey.specs.Load.{Holding, offerAll}
-use Rattle.checking.specs.Check.{checkAnswer, checkPackedAnswer}
-use Rattle.signer.specs.declared.sizes.Sizes.{Sizes}
-use Rattle.signer.specs.Sizes.{dim, codim}
+use Rattle.held_key.specs.declared.state.Held.{Held}
+use Rattle.check_tests.specs.declared.Checked.{Checked}
+use Rattle.held_key.specs.Held.{mostKeyNumber, rowTrits, heldKey}
+use Rattle.held_key.specs.Store.{beginHeld}
+use Rattle.held_key.specs.Load.{Holding, offerAll}
+use Rattle.check_tests.specs.Check.{checkAnswer, checkPackedAnswer}
+use Rattle.scheme.specs.declared.sizes.Sizes.{Sizes}
+use Rattle.scheme.specs.Sizes.{dim, codim}
 use Rattle.calls.specs.BuildCall.{BuildCall, keyRowWords, keyOnesExit, keyTwosExit}
 use Rattle.calls.specs.DrawCall.{DrawCall, sOnesExit, sTwosExit}
 use Rattle.wave.specs.Terms.{sized}

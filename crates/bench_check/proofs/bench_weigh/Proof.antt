@@ -3,9 +3,9 @@
 use mathlib.Core.Path.{sym, _∙_}
 use native.Mathlib.Omega.{arith}
 use borrow.Author.Needs.{needs}
-use Rattle.checking.proofs.Passed.{whole, check-passed}
-use Rattle.heldkey.proofs.Answers.{positive}
-use Rattle.checking.proofs.Answers.{space-kept, space-zero, answer-kept, answer-new}
+use Rattle.check_tests.proofs.Passed.{whole, check-passed}
+use Rattle.held_key.proofs.Answers.{positive}
+use Rattle.check_tests.proofs.Answers.{space-kept, space-zero, answer-kept, answer-new}
 use Rattle.bench_check.proofs.bench_weigh.Statement.{statement}
 use Rattle.bench_check.proofs.bench_weigh.Tie as tie
 

@@ -4,9 +4,9 @@ use Prim.Native.Nat.{_-_, _≤_}
 use mathlib.Core.Path.{_≡_, refl, _∙_}
 use native.Mathlib.Omega.{arith}
 use lib.ListN.{length}
-use Rattle.packing.specs.Packed.{packedRow}
-use Rattle.heldkey.specs.Held.{rowTrits}
-use Rattle.checking.specs.Check.{heldWeight}
+use Rattle.packed.specs.Packed.{packedRow}
+use Rattle.held_key.specs.Held.{rowTrits}
+use Rattle.check_tests.specs.Check.{heldWeight}
 use Rattle.bench_check.specs.{after}
 use Rattle.bench_check.proofs.Laws.{after-turn}
 use Rattle.bench_check.proofs.weigh_packed_times.Statement.{statement}

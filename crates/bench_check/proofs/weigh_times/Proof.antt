@@ -5,7 +5,7 @@ use mathlib.Core.Path.{_≡_, refl, _∙_}
 use native.Mathlib.Omega.{arith}
 use lib.ListN.{length}
 use Rattle.trits.specs.Planes.{tritAt}
-use Rattle.checking.specs.Check.{heldWeight}
+use Rattle.check_tests.specs.Check.{heldWeight}
 use Rattle.bench_check.specs.{after}
 use Rattle.bench_check.proofs.Laws.{after-turn}
 use Rattle.bench_check.proofs.weigh_times.Statement.{statement}

@@ -7,7 +7,7 @@ use borrow.Author.Needs.{needs}
 use denote.Ref.{now}
 use lib.Dec.{T}
 use lib.ListN.{length, take}
-use Rattle.lines.specs.Machine.{machine, stepped}
+use Rattle.text_lines.specs.Machine.{machine, stepped}
 use Rattle.check_lines.specs.{after}
 use Rattle.check_lines.proofs.After.{after-none, after-more}
 use Rattle.check_lines.proofs.chunk.Statement.{statement}

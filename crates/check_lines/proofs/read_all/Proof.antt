@@ -6,7 +6,7 @@ use Prim.Native.Nat.{ℕ, _≤_}
 use native.Mathlib.Omega.{arith}
 use borrow.Author.Needs.{needs}
 use denote.Ref.{now}
-use Rattle.lines.specs.Machine.{machine}
+use Rattle.text_lines.specs.Machine.{machine}
 use Rattle.check_lines.specs.{after, Reached}
 use Rattle.check_lines.proofs.After.{after-none, reached-from}
 use Rattle.check_lines.proofs.read_all.Statement.{statement}

@@ -7,8 +7,8 @@ use denote.Ref.{now}
 use lib.Dec.{lit<}
 use Rattle.trits.proofs.Refusals.{exit-kept, exit-new}
 use Rattle.trits.proofs.Reading.{reads-words}
-use Rattle.packing.specs.Calls.{streamOnes, streamTwos}
-use Rattle.packing.proofs.Turned.{stream-size, stream-ones, stream-twos, stream-passed, stream-decides, stream-long}
+use Rattle.packed.specs.Calls.{streamOnes, streamTwos}
+use Rattle.packed.proofs.Turned.{stream-size, stream-ones, stream-twos, stream-passed, stream-decides, stream-long}
 use Rattle.packing.proofs.from_stream.Statement.{statement}
 use Rattle.packing.proofs.from_stream.Tie as tie
 

@@ -5,8 +5,8 @@ use native.Mathlib.Omega.{arith}
 use borrow.Author.Needs.{needs}
 use lib.Dec.{lit<}
 use Rattle.trits.proofs.Refusals.{exit-kept, exit-new}
-use Rattle.packing.specs.Calls.{packExit}
-use Rattle.packing.proofs.Turned.{pack-size, pack-ones, pack-twos, pack-bytes, pack-passed}
+use Rattle.packed.specs.Calls.{packExit}
+use Rattle.packed.proofs.Turned.{pack-size, pack-ones, pack-twos, pack-bytes, pack-passed}
 use Rattle.packing.proofs.pack.Statement.{statement}
 use Rattle.packing.proofs.pack.Tie as tie
 

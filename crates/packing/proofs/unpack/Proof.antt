@@ -6,8 +6,8 @@ use borrow.Author.Needs.{needs}
 use lib.Dec.{lit<}
 use Rattle.trits.proofs.Refusals.{exit-kept, exit-new}
 use Rattle.trits.proofs.Reading.{reads-words}
-use Rattle.packing.specs.Calls.{unpackOnes, unpackTwos}
-use Rattle.packing.proofs.Turned.{unpack-size, unpack-bytes, unpack-ones, unpack-twos, unpack-passed}
+use Rattle.packed.specs.Calls.{unpackOnes, unpackTwos}
+use Rattle.packed.proofs.Turned.{unpack-size, unpack-bytes, unpack-ones, unpack-twos, unpack-passed}
 use Rattle.packing.proofs.unpack.Statement.{statement}
 use Rattle.packing.proofs.unpack.Tie as tie
 

@@ -4,7 +4,7 @@ use mathlib.Core.Path.{sym, _∙_}
 use native.Mathlib.Omega.{arith}
 use denote.Ref.{now}
 use Rattle.trits.specs.Planes.{tritAt}
-use Rattle.signer.specs.Sizes.{half}
+use Rattle.scheme.specs.Sizes.{half}
 use Rattle.calls.proofs.Bounds.{bounds}
 use Rattle.calls.proofs.Secrets.{zero-from, secret-hu, secret-hv, secret-b, secret-c, secret-zero, secret-good}
 use borrow.Author.Needs.{needs}

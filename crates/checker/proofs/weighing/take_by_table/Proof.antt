@@ -9,15 +9,15 @@ use Rattle.trits.specs.Trit.{subT, zipV, tritOf, weightV, sumTo}
 use Rattle.trits.specs.Planes.{tritAt, Reads}
 use Rattle.trits.proofs.Reading.{reads-to}
 use Rattle.trits.proofs.Counts.{weight-le}
-use Rattle.packing.specs.Packed.{packedRow}
-use Rattle.packing.proofs.Digits.{digit-lt}
-use Rattle.packing.proofs.Keeping.{bytes-small}
-use Rattle.packing.proofs.Turned.{bytes-passed}
+use Rattle.packed.specs.Packed.{packedRow}
+use Rattle.packed.proofs.Digits.{digit-lt}
+use Rattle.packed.proofs.Keeping.{bytes-small}
+use Rattle.packed.proofs.Turned.{bytes-passed}
 use Rattle.verdict.specs.Verdict.{timesKey}
-use Rattle.heldkey.specs.Held.{heldKey}
-use Rattle.heldkey.proofs.Sizes.{sizes}
+use Rattle.held_key.specs.Held.{heldKey}
+use Rattle.held_key.proofs.Sizes.{sizes}
 use Rattle.checker.proofs.Product.{taken-none, turn-reads, turn-weight}
-use Rattle.packing.proofs.Digits.{packed-trit}
+use Rattle.packed.proofs.Digits.{packed-trit}
 use Rattle.checker.proofs.weighing.take_by_table.Statement.{statement}
 use Rattle.checker.proofs.weighing.take_by_table.Tie as tie
 

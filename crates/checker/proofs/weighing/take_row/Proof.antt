@@ -10,8 +10,8 @@ use denote.Ref.{now}
 use Rattle.trits.specs.Trit.{subT, addT, zipV, tritOf, nonZero}
 use Rattle.trits.specs.Planes.{tritAt, Row}
 use Rattle.trits.proofs.Reading.{reads-to}
-use Rattle.heldkey.specs.Held.{heldKey}
-use Rattle.heldkey.proofs.Stretch.{ones-length, row-row}
+use Rattle.held_key.specs.Held.{heldKey}
+use Rattle.held_key.proofs.Stretch.{ones-length, row-row}
 use Rattle.checker.proofs.Product.{take-known, take-two, take-none}
 use Rattle.checker.proofs.weighing.take_row.Statement.{statement}
 use Rattle.checker.proofs.weighing.take_row.Tie as tie

@@ -11,8 +11,8 @@ use Rattle.trits.proofs.Reading.{reads-to}
 use Rattle.trits.proofs.Counts.{weight-le}
 use Rattle.trits.proofs.Arithmetic.{number-lt, trit-number}
 use Rattle.verdict.specs.Verdict.{timesKey}
-use Rattle.heldkey.specs.Held.{heldKey}
-use Rattle.heldkey.proofs.Sizes.{sizes}
+use Rattle.held_key.specs.Held.{heldKey}
+use Rattle.held_key.proofs.Sizes.{sizes}
 use Rattle.checker.proofs.Product.{taken-none, turn-reads, turn-weight}
 use Rattle.checker.proofs.weighing.take_rows.Statement.{statement}
 use Rattle.checker.proofs.weighing.take_rows.Tie as tie

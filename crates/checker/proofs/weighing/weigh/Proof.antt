@@ -7,9 +7,9 @@ use lib.ListN.{length}
 use denote.Ref.{now}
 use Rattle.trits.specs.Planes.{tritAt, Row}
 use Rattle.trits.proofs.Counts.{weight-le}
-use Rattle.heldkey.specs.Held.{rowTrits}
-use Rattle.heldkey.proofs.Sizes.{sizes}
-use Rattle.checking.proofs.Passed.{fitted, contents}
+use Rattle.held_key.specs.Held.{rowTrits}
+use Rattle.held_key.proofs.Sizes.{sizes}
+use Rattle.check_tests.proofs.Passed.{fitted, contents}
 use Rattle.checker.proofs.Weighed.{readable, row-ended, weighed, at-most}
 use Rattle.checker.proofs.weighing.weigh.Statement.{statement}
 use Rattle.checker.proofs.weighing.weigh.Tie as tie

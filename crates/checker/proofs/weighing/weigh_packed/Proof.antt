@@ -8,11 +8,11 @@ use lib.ListN.{length}
 use denote.Ref.{now}
 use Rattle.trits.proofs.Reading.{reads-to}
 use Rattle.trits.proofs.Counts.{weight-le}
-use Rattle.packing.specs.Packed.{packedRow}
-use Rattle.heldkey.specs.Held.{rowTrits}
-use Rattle.heldkey.proofs.Sizes.{sizes}
-use Rattle.packing.proofs.Digits.{packed-out}
-use Rattle.checking.proofs.Passed.{packed-fitted, packed-contents}
+use Rattle.packed.specs.Packed.{packedRow}
+use Rattle.held_key.specs.Held.{rowTrits}
+use Rattle.held_key.proofs.Sizes.{sizes}
+use Rattle.packed.proofs.Digits.{packed-out}
+use Rattle.check_tests.proofs.Passed.{packed-fitted, packed-contents}
 use Rattle.checker.proofs.Weighed.{readable, weighed, at-most}
 use Rattle.checker.proofs.weighing.weigh_packed.Statement.{statement}
 use Rattle.checker.proofs.weighing.weigh_packed.Tie as tie

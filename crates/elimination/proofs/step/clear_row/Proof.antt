@@ -5,15 +5,15 @@ use borrow.Author.Needs.{needs}
 use denote.Ref.{now}
 use Rattle.trits.proofs.Matrix.{row-le}
 use Rattle.trits.specs.Rows.{matrixAt}
-use Rattle.elimination.proofs.Cells.{read-one, read-two, read-none, grid-to, grid-of}
+use Rattle.grid.proofs.Cells.{read-one, read-two, read-none, grid-to, grid-of}
 use Rattle.elimination.proofs.Clears.{clear-one, clear-two, clear-none}
 use Rattle.elimination.proofs.step.clear_row.Statement.{statement}
 use Rattle.elimination.proofs.step.clear_row.Tie as tie
 use Rattle.elimination.proofs.step.clear_row.Reads as reads
 use Rattle.elimination.proofs.step.clear_row.Lts as lts
-use Rattle.elimination.proofs.rows.add_rows.Reads as add-rows-reads
-use Rattle.elimination.proofs.rows.sub_rows.Reads as sub-rows-reads
-use Rattle.trits.proofs.places.trit_at.Reads as trit-at-reads
+use Rattle.grid.proofs.two_rows.add_rows.Reads as add-rows-reads
+use Rattle.grid.proofs.two_rows.sub_rows.Reads as sub-rows-reads
+use Rattle.planes.proofs.places.trit_at.Reads as trit-at-reads
 
 mul-trit-at : tie.Need-mul-trit-at
 mul-trit-at c =

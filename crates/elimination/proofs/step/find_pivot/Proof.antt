@@ -7,7 +7,7 @@ use denote.Ref.{now}
 use Rattle.trits.proofs.Matrix.{row-le}
 use Rattle.matrix.specs.Eliminate.{firstRow, pivotRow}
 use Rattle.trits.specs.Rows.{matrixAt}
-use Rattle.elimination.proofs.Cells.{read-set, read-unset}
+use Rattle.grid.proofs.Cells.{read-set, read-unset}
 use Rattle.matrix.proofs.Steps.{first-here, first-next, first-end}
 use Rattle.elimination.proofs.step.find_pivot.Statement.{statement}
 use Rattle.elimination.proofs.step.find_pivot.Tie as tie

@@ -5,14 +5,14 @@ use borrow.Author.Needs.{needs}
 use denote.Ref.{now}
 use Rattle.trits.proofs.Matrix.{row-le}
 use Rattle.trits.specs.Rows.{matrixAt}
-use Rattle.elimination.proofs.Cells.{read-two, read-unit, grid-to, grid-of}
+use Rattle.grid.proofs.Cells.{read-two, read-unit, grid-to, grid-of}
 use Rattle.elimination.proofs.Clears.{scaled-one, scaled-two}
 use Rattle.elimination.proofs.step.scale_row.Statement.{statement}
 use Rattle.elimination.proofs.step.scale_row.Tie as tie
 use Rattle.elimination.proofs.step.scale_row.Reads as reads
 use Rattle.elimination.proofs.step.scale_row.Lts as lts
-use Rattle.elimination.proofs.rows.negate.Reads as negate-reads
-use Rattle.trits.proofs.places.trit_at.Reads as trit-at-reads
+use Rattle.grid.proofs.two_rows.negate.Reads as negate-reads
+use Rattle.planes.proofs.places.trit_at.Reads as trit-at-reads
 
 mul-trit-at : tie.Need-mul-trit-at
 mul-trit-at c =

@@ -2,7 +2,7 @@
 -- Assumes nothing.
 use borrow.Author.Needs.{needs}
 use Rattle.matrix.proofs.Steps.{no-pivot}
-use Rattle.elimination.proofs.Cells.{grid-of}
+use Rattle.grid.proofs.Cells.{grid-of}
 use Rattle.elimination.proofs.Clears.{chosen, moved-set, step-done}
 use Rattle.trits.specs.Rows.{matrixAt}
 use denote.Ref.{now}

@@ -6,7 +6,7 @@ use borrow.Author.Needs.{needs}
 use denote.Ref.{now}
 use Rattle.trits.specs.Trit.{upTo}
 use Rattle.trits.specs.Planes.{tritAt}
-use Rattle.packing.specs.Packed.{byteOf}
+use Rattle.packed.specs.Packed.{byteOf}
 use Rattle.trits.proofs.Arithmetic.{number-lt}
 use Rattle.packing.proofs.read.read_byte.Statement.{statement}
 use Rattle.packing.proofs.read.read_byte.Tie as tie

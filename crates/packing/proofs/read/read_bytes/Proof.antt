@@ -6,7 +6,7 @@ use lib.ListN.{length}
 use Rattle.trits.specs.Trit.{upTo}
 use Rattle.trits.specs.Planes.{tritAt}
 use Rattle.trits.proofs.Patches.{Patched, patch-none, patch-more, patched-all}
-use Rattle.packing.specs.Packed.{byteOf, packedBytes}
+use Rattle.packed.specs.Packed.{byteOf, packedBytes}
 use Rattle.packing.proofs.read.read_bytes.Statement.{statement}
 use Rattle.packing.proofs.read.read_bytes.Tie as tie
 

@@ -2,7 +2,7 @@
 -- Assumes nothing.
 use mathlib.Core.Path.{refl}
 use Rattle.trits.specs.Planes.{tabulate}
-use Rattle.packing.specs.Packed.{digitOf, byteTable}
+use Rattle.packed.specs.Packed.{digitOf, byteTable}
 use Rattle.packing.proofs.table.byte_table.Statement.{statement}
 use Rattle.packing.proofs.table.byte_table.Tie as tie
 

@@ -5,7 +5,7 @@ use mathlib.Core.Path.{ap, _∙_}
 use mathlib.Core.List.{List}
 use borrow.Author.Needs.{needs}
 use lib.ListN.{getD}
-use Rattle.packing.proofs.Digits.{table-rule}
+use Rattle.packed.proofs.Digits.{table-rule}
 use Rattle.packing.proofs.table.trit.Statement.{statement}
 use Rattle.packing.proofs.table.trit.Tie as tie
 

@@ -8,7 +8,7 @@ use lib.ListN.{length}
 use denote.Ref.{now}
 use mathlib.Core.Bool.{false}
 use Rattle.trits.specs.Trit.{anyTo}
-use Rattle.packing.proofs.Keeping.{big, big-found, big-passed, big-all}
+use Rattle.packed.proofs.Keeping.{big, big-found, big-passed, big-all}
 use Rattle.packing.proofs.write.bad_byte.Statement.{statement}
 use Rattle.packing.proofs.write.bad_byte.Tie as tie
 

@@ -3,7 +3,7 @@
 use Prim.Native.Nat.{_-_}
 use mathlib.Core.Path.{_≡_, _∙_}
 use native.Mathlib.Omega.{arith}
-use Rattle.packing.proofs.Keeping.{missing-skipped, missing-five}
+use Rattle.packed.proofs.Keeping.{missing-skipped, missing-five}
 use Rattle.packing.proofs.write.count_byte.Statement.{statement}
 use Rattle.packing.proofs.write.count_byte.Tie as tie
 

@@ -5,9 +5,9 @@ use mathlib.Core.Path.{_≡_, refl, sym, _∙_}
 use native.Mathlib.Omega.{arith}
 use lib.ListN.{length}
 use Rattle.trits.specs.Planes.{tritAt, Reads}
-use Rattle.packing.specs.Steps.{withByte}
-use Rattle.packing.proofs.Digits.{digit-lt}
-use Rattle.packing.proofs.Putting.{with-none, put-turn}
+use Rattle.packed.specs.Steps.{withByte}
+use Rattle.packed.proofs.Digits.{digit-lt}
+use Rattle.packed.proofs.Putting.{with-none, put-turn}
 use Rattle.packing.proofs.write.put_byte.Statement.{statement}
 use Rattle.packing.proofs.write.put_byte.Tie as tie
 

@@ -5,9 +5,9 @@ use native.Mathlib.Omega.{arith}
 use borrow.Author.Needs.{needs}
 use denote.Ref.{now}
 use Rattle.trits.specs.Planes.{tritAt}
-use Rattle.packing.specs.Steps.{withByte}
+use Rattle.packed.specs.Steps.{withByte}
 use Rattle.trits.proofs.Reading.{reads-to}
-use Rattle.packing.proofs.Putting.{with-none, gives-none, gives-few, gives-five}
+use Rattle.packed.proofs.Putting.{with-none, gives-none, gives-few, gives-five}
 use Rattle.packing.proofs.write.put_next.Statement.{statement}
 use Rattle.packing.proofs.write.put_next.Tie as tie
 

@@ -6,8 +6,8 @@ use native.Mathlib.Omega.{arith}
 use lib.ListN.{length}
 use denote.Ref.{now}
 use Rattle.trits.specs.Planes.{Reads}
-use Rattle.packing.specs.Stream.{streamRow}
-use Rattle.packing.proofs.Putting.{Stands, stands-none, stands-more, stands-next, reads-next, stands-all}
+use Rattle.packed.specs.Stream.{streamRow}
+use Rattle.packed.proofs.Putting.{Stands, stands-none, stands-more, stands-next, reads-next, stands-all}
 use Rattle.packing.proofs.write.put_stream.Statement.{statement}
 use Rattle.packing.proofs.write.put_stream.Tie as tie
 

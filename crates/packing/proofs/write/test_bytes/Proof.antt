@@ -2,7 +2,7 @@
 -- Assumes nothing.
 use mathlib.Core.Path.{sym, _∙_}
 use borrow.Author.Needs.{needs}
-use Rattle.packing.proofs.Turned.{bytes-bad, bytes-good}
+use Rattle.packed.proofs.Turned.{bytes-bad, bytes-good}
 use Rattle.packing.proofs.write.test_bytes.Statement.{statement}
 use Rattle.packing.proofs.write.test_bytes.Tie as tie
 

@@ -6,8 +6,8 @@ use native.Mathlib.Omega.{arith}
 use borrow.Author.Needs.{needs}
 use lib.ListN.{length}
 use denote.Ref.{now}
-use Rattle.packing.proofs.Keeping.{given, missing-turn, long-enough, counted-out}
-use Rattle.packing.specs.Stream.{kept}
+use Rattle.packed.proofs.Keeping.{given, missing-turn, long-enough, counted-out}
+use Rattle.packed.specs.Stream.{kept}
 use Rattle.packing.proofs.write.too_short.Statement.{statement}
 use Rattle.packing.proofs.write.too_short.Tie as tie
 

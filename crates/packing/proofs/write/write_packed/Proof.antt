@@ -3,8 +3,8 @@
 use borrow.Author.Needs.{needs}
 use denote.Ref.{now}
 use Rattle.trits.proofs.Reading.{reads-to}
-use Rattle.packing.proofs.Keeping.{kept-enough, kept-row}
-use Rattle.packing.proofs.Turned.{bytes-passed}
+use Rattle.packed.proofs.Keeping.{kept-enough, kept-row}
+use Rattle.packed.proofs.Turned.{bytes-passed}
 use Rattle.packing.proofs.write.write_packed.Statement.{statement}
 use Rattle.packing.proofs.write.write_packed.Tie as tie
 

@@ -7,8 +7,8 @@ use lib.ListN.{length}
 use denote.Ref.{now}
 use Rattle.trits.proofs.Ends.{zeros-hold}
 use Rattle.trits.proofs.Lists.{length-zeros}
-use Rattle.packing.specs.Stream.{streamRow, kept}
-use Rattle.packing.specs.Packed.{packedAt}
+use Rattle.packed.specs.Stream.{streamRow, kept}
+use Rattle.packed.specs.Packed.{packedAt}
 use Rattle.packing.proofs.write.write_stream.Statement.{statement}
 use Rattle.packing.proofs.write.write_stream.Tie as tie
 

@@ -5,7 +5,7 @@ use Prim.Native.Nat.{ℕ, _+_, _/_, _≤_}
 use native.Mathlib.Omega.{arith}
 use borrow.Author.Needs.{needs}
 use denote.Ref.{now}
-use Rattle.packing.specs.Calls.{unpackRefusal, unpackOnes, unpackTwos}
+use Rattle.packed.specs.Calls.{unpackRefusal, unpackOnes, unpackTwos}
 use Rattle.sign_lines.specs.{numberAfter, packedAfter}
 use Rattle.sign_lines.proofs.Made.{part-length}
 use Rattle.sign_lines.proofs.samples.fill_row.Statement.{statement}

@@ -5,7 +5,7 @@ use mathlib.Core.List.{List}
 use Prim.Native.Nat.{ℕ}
 use borrow.Author.Needs.{needs}
 use denote.Ref.{now}
-use Rattle.packing.specs.Calls.{unpackRefusal, unpackOnes, unpackTwos}
+use Rattle.packed.specs.Calls.{unpackRefusal, unpackOnes, unpackTwos}
 use Rattle.sign_lines.proofs.samples.unpack_row.Statement.{statement}
 use Rattle.sign_lines.proofs.samples.unpack_row.Tie as tie
 

@@ -1,0 +1,129 @@
+-- The call's answer by its tests, and what is known once they have passed. Assumes nothing.
+use mathlib.Core.Path.{_≡_, refl, _∙_}
+use mathlib.Core.Bool.{Bool, true, false, cond, _||_}
+use mathlib.Core.List.{List}
+use Prim.Native.Nat.{ℕ, _*_, _≤_}
+use native.Mathlib.Omega.{arith}
+use lib.Dec.{eqb, lit<}
+use lib.ListN.{length}
+use Rattle.trits.specs.Planes.{zeroWords}
+use Rattle.trits.specs.Refusal.{demand, first}
+use Rattle.trits.proofs.Refusals.{passed-first, passed-demand}
+use Rattle.matrix.specs.Linear.{rank, range}
+use Rattle.matrix.specs.Orders.{Order, isOrder}
+use Rattle.matrix.proofs.Orders.{order-test}
+use Rattle.scheme.specs.declared.sizes.Sizes.{Sizes}
+use Rattle.scheme.specs.Sizes.{half, places, dim, ru, rv, sizesFit}
+use Rattle.scheme.specs.Secret.{Secret}
+use Rattle.scheme.specs.Build.{buildRefusal}
+use Rattle.calls.specs.Lent.{secretOf, pairDiffers, secretDiffers, secretRefusal, workExit}
+use Rattle.calls.specs.BuildCall.{BuildCall, keyRowWords, buildWorkWords, keyDiffers, buildLengthsDiffer, buildAnswer}
+use Rattle.calls.proofs.Exits.{first-le, work-done, work-late}
+use Rattle.calls.proofs.Secrets.{or-none, pair-same, SecretLengths, secret-same, secret-le}
+
+-- ---- the answer
+
+-- the contents of the secret, and the starting order
+abbrev pub contents : Sizes → BuildCall → ℕ
+contents z i = first (secretRefusal z (i .secret)) (demand (isOrder (places z) (i .start)) 7 0)
+
+module _ (z : Sizes) (i : BuildCall) where
+  pub answer-size : sizesFit z ≡ false → 1 ≡ buildAnswer z i
+  unfolding buildAnswer
+  answer-size e = rw e
+
+  module _ (e : sizesFit z ≡ true) where
+    pub answer-length : buildLengthsDiffer z i ≡ true → 2 ≡ buildAnswer z i
+    unfolding buildAnswer
+    answer-length f = rw (e, f)
+
+    module _ (f : buildLengthsDiffer z i ≡ false) where
+      chain : first (secretRefusal z (i .secret)) (demand (isOrder (places z) (i .start)) 7 (buildRefusal z (secretOf z (i .secret)))) ≡ buildAnswer z i
+      unfolding buildAnswer
+      chain = rw (e, f)
+
+      pub answer-contents : {x : ℕ} → x ≡ contents z i → (x ≡ 0 → ⊥) → x ≡ buildAnswer z i
+      unfolding first
+      answer-contents {x} g h = g ∙ by (eqb (secretRefusal z (i .secret)) 0) (isOrder (places z) (i .start)) (λ y. h (g ∙ y)) ∙ chain
+        where
+          by : (a b : Bool) → (cond a (demand b 7 0) (secretRefusal z (i .secret)) ≡ 0 → ⊥)
+              → cond a (demand b 7 0) (secretRefusal z (i .secret)) ≡ cond a (demand b 7 (buildRefusal z (secretOf z (i .secret)))) (secretRefusal z (i .secret))
+          by true true k = absurd (k refl)
+          by true false k = refl
+          by false b k = refl
+
+      pub answer-ranks : contents z i ≡ 0 → buildRefusal z (secretOf z (i .secret)) ≡ buildAnswer z i
+      unfolding first
+      answer-ranks g =
+          let a = passed-first (secretRefusal z (i .secret)) _ g in
+          let b = passed-demand (isOrder (places z) (i .start)) 7 0 (lit< tt) (a .1) in
+          by (isOrder (places z) (i .start)) (b .0) (secretRefusal z (i .secret)) (a .0) ∙ chain
+        where
+          by : (t : Bool) → t ≡ true → (x : ℕ) → x ≡ 0 → buildRefusal z (secretOf z (i .secret)) ≡ first x (demand t 7 (buildRefusal z (secretOf z (i .secret))))
+          by t u x y = rw (u, y)
+
+pub contents-le : (z : Sizes) (i : BuildCall) → contents z i ≤ 8
+contents-le z i = first-le _ _ (secret-le z (i .secret)) (by (isOrder (places z) (i .start)))
+  where
+    by : (t : Bool) → demand t 7 0 ≤ 8
+    by true = omega arith
+    by false = omega arith
+
+-- ---- the working space
+
+pub work-ended : (z : Sizes) (s : Secret) (w : List ℕ) → zeroWords (length w) ≡ workExit (buildRefusal z s) w
+unfolding buildRefusal
+work-ended z s w = by (eqb (rank (ru z) (half z) (s .hu) (range (half z))) (ru z)) (eqb (rank (rv z) (half z) (s .hv) (range (half z))) (rv z))
+  where
+    by : (a b : Bool) → zeroWords (length w) ≡ workExit (demand a 9 (demand b 10 0)) w
+    by true true = work-done w refl
+    by true false = work-late w {k = 10} refl (omega arith)
+    by false b = work-late w {k = 9} refl (omega arith)
+
+-- ---- lengths that do not differ
+
+pub record KeyLengths (z : Sizes) (i j k l m n : ℕ) : Type 0 where
+  pub start : i ≡ places z
+  pub p : j ≡ places z
+  pub k1 : k ≡ dim z * keyRowWords z
+  pub k2 : l ≡ dim z * keyRowWords z
+  pub w1 : m ≡ buildWorkWords z
+  pub w2 : n ≡ buildWorkWords z
+
+key-same : (z : Sizes) (s p k1 k2 w1 w2 : ℕ) → keyDiffers z s p k1 k2 w1 w2 ≡ false → KeyLengths z s p k1 k2 w1 w2
+unfolding keyDiffers
+key-same z s p k1 k2 w1 w2 e =
+    let E = or-none (pairDiffers (places z) s p) _ e in
+    let F = or-none (pairDiffers (dim z * keyRowWords z) k1 k2) _ (E .1) in
+    let o = pair-same _ s p (E .0) in
+    let k = pair-same _ k1 k2 (F .0) in
+    let w = pair-same _ w1 w2 (F .1) in
+    record { start = o .0; p = o .1; k1 = k .0; k2 = k .1; w1 = w .0; w2 = w .1 }
+
+module _ (z : Sizes) (i : BuildCall) {t : Bool} where
+  -- the lengths one after another are those of the record
+  pub same-lengths : (secretDiffers z (length (i .secret .huOnes)) (length (i .secret .huTwos)) (length (i .secret .hvOnes)) (length (i .secret .hvTwos)) (length (i .secret .bOnes)) (length (i .secret .bTwos))
+      (length (i .secret .cOnes)) (length (i .secret .cTwos)) || keyDiffers z (length (i .start)) (length (i .p)) (length (i .keyOnes)) (length (i .keyTwos)) (length (i .workOnes)) (length (i .workTwos))) ≡ t
+      → buildLengthsDiffer z i ≡ t
+  unfolding buildLengthsDiffer
+  same-lengths e = e
+
+module _ (z : Sizes) (i : BuildCall) (e : buildLengthsDiffer z i ≡ false) where
+  pub lengths-secret : SecretLengths z (length (i .secret .huOnes)) (length (i .secret .huTwos)) (length (i .secret .hvOnes)) (length (i .secret .hvTwos)) (length (i .secret .bOnes)) (length (i .secret .bTwos))
+      (length (i .secret .cOnes)) (length (i .secret .cTwos))
+  unfolding buildLengthsDiffer
+  lengths-secret = secret-same z _ _ _ _ _ _ _ _ (or-none
+      (secretDiffers z (length (i .secret .huOnes)) (length (i .secret .huTwos)) (length (i .secret .hvOnes)) (length (i .secret .hvTwos)) (length (i .secret .bOnes)) (length (i .secret .bTwos)) (length (i .secret .cOnes)) (length (i .secret .cTwos))) _ e .0)
+
+  pub lengths-key : KeyLengths z (length (i .start)) (length (i .p)) (length (i .keyOnes)) (length (i .keyTwos)) (length (i .workOnes)) (length (i .workTwos))
+  unfolding buildLengthsDiffer
+  lengths-key = key-same z _ _ _ _ _ _ (or-none
+      (secretDiffers z (length (i .secret .huOnes)) (length (i .secret .huTwos)) (length (i .secret .hvOnes)) (length (i .secret .hvTwos)) (length (i .secret .bOnes)) (length (i .secret .bTwos)) (length (i .secret .cOnes)) (length (i .secret .cTwos))) _ e .1)
+
+-- ---- contents that are not refused
+
+pub contents-passed : (z : Sizes) (i : BuildCall) → contents z i ≡ 0 → (secretRefusal z (i .secret) ≡ 0) × Order (places z) (i .start)
+contents-passed z i g =
+    let a = passed-first (secretRefusal z (i .secret)) _ g in
+    let b = passed-demand (isOrder (places z) (i .start)) 7 0 (lit< tt) (a .1) in
+    (a .0, order-test (places z) (i .start) (b .0))

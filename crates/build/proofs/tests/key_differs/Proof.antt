@@ -1,0 +1,95 @@
+-- Each return is decided by its own test, the tests before it having passed.
+-- Assumes nothing.
+use mathlib.Core.Path.{sym, _∙_}
+use native.Mathlib.Omega.{arith}
+use Rattle.calls.specs.BuildCall.{keyDiffers}
+use Rattle.calls.proofs.Bounds.{bounds}
+use Rattle.build_ranks.proofs.Lengths.{products}
+use borrow.Author.Needs.{needs}
+use Rattle.build.proofs.tests.key_differs.Statement.{statement}
+use Rattle.build.proofs.tests.key_differs.Tie as tie
+
+add-hw : tie.Need-add-hw
+add-hw c =
+    let s = c in let b = bounds (s .args .z) (s .pre) in let p = products (s .args .z) b in omega (arith, b .low, b .high, b .ku, b .kv, p .key, p .work)
+
+add-k : tie.Need-add-k
+add-k c =
+    let s = c in let b = bounds (s .args .z) (s .pre) in let p = products (s .args .z) b in omega (arith, b .low, b .high, b .ku, b .kv, p .key, p .work)
+
+sub-rows : tie.Need-sub-rows
+sub-rows c =
+    let s = c in let b = bounds (s .args .z) (s .pre) in let p = products (s .args .z) b in omega (arith, b .low, b .high, b .ku, b .kv, p .key, p .work)
+
+sub-rows-2 : tie.Need-sub-rows-2
+sub-rows-2 c =
+    let s = c in let b = bounds (s .args .z) (s .pre) in let p = products (s .args .z) b in omega (arith, b .low, b .high, b .ku, b .kv, p .key, p .work)
+
+add-rows : tie.Need-add-rows
+add-rows c =
+    let s = c in let b = bounds (s .args .z) (s .pre) in let p = products (s .args .z) b in omega (arith, b .low, b .high, b .ku, b .kv, p .key, p .work)
+
+add-pair-differs : tie.Need-add-pair-differs
+add-pair-differs c =
+    let s = c in let b = bounds (s .args .z) (s .pre) in let p = products (s .args .z) b in omega (arith, b .low, b .high, b .ku, b .kv, p .key, p .work)
+
+pair-differs-requires : tie.Need-pair-differs-requires
+pair-differs-requires c κs = search needs
+
+returns : tie.Need-returns
+unfolding keyDiffers
+returns c =
+    rw (sym (c .before .pair-differs .ensures) ∙ c .if1 .taken)
+
+add-pair-differs-2 : tie.Need-add-pair-differs-2
+add-pair-differs-2 c =
+    let s = c .before .before in let b = bounds (s .args .z) (s .pre) in let p = products (s .args .z) b in omega (arith, b .low, b .high, b .ku, b .kv, p .key, p .work)
+
+mul-pair-differs : tie.Need-mul-pair-differs
+mul-pair-differs c =
+    let s = c .before .before in let b = bounds (s .args .z) (s .pre) in let p = products (s .args .z) b in omega (arith, b .low, b .high, b .ku, b .kv, p .key, p .work)
+
+pair-differs-requires-2 : tie.Need-pair-differs-requires-2
+pair-differs-requires-2 c κs = search needs
+
+returns-2 : tie.Need-returns-2
+unfolding keyDiffers
+returns-2 c =
+    rw (sym (c .before .before .before .pair-differs .ensures) ∙ c .before .before .if1 .left, sym (c .before .pair-differs2 .ensures) ∙ c .if2 .taken)
+
+add-pair-differs-3 : tie.Need-add-pair-differs-3
+add-pair-differs-3 c =
+    let s = c .before .before .before .before in let b = bounds (s .args .z) (s .pre) in let p = products (s .args .z) b in omega (arith, b .low, b .high, b .ku, b .kv, p .key, p .work)
+
+mul-pair-differs-2 : tie.Need-mul-pair-differs-2
+mul-pair-differs-2 c =
+    let s = c .before .before .before .before in let b = bounds (s .args .z) (s .pre) in let p = products (s .args .z) b in omega (arith, b .low, b .high, b .ku, b .kv, p .key, p .work)
+
+pair-differs-requires-3 : tie.Need-pair-differs-requires-3
+pair-differs-requires-3 c κs = search needs
+
+returns-3 : tie.Need-returns-3
+unfolding keyDiffers
+returns-3 c =
+    rw (sym (c .before .before .before .before .pair-differs .ensures) ∙ c .before .before .before .if1 .left, sym (c .before .before .pair-differs2 .ensures) ∙ c .before .if2 .left) (c .pair-differs3 .ensures)
+
+pub key-differs-spec : {M : Type 1} → statement M
+key-differs-spec =
+    tie.close
+    (tie.spec
+    add-hw
+    add-k
+    sub-rows
+    sub-rows-2
+    add-rows
+    add-pair-differs
+    pair-differs-requires
+    returns
+    add-pair-differs-2
+    mul-pair-differs
+    pair-differs-requires-2
+    returns-2
+    add-pair-differs-3
+    mul-pair-differs-2
+    pair-differs-requires-3
+    returns-3)

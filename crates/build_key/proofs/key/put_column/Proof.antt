@@ -1,0 +1,107 @@
+-- Each turn puts one trit of the column at the next place (`column-turn`).
+-- Assumes nothing.
+use Prim.Native.Nat.{_-_, _≤_}
+use mathlib.Core.Path.{_≡_}
+use native.Mathlib.Omega.{arith}
+use lib.ListN.{length}
+use denote.Ref.{now}
+use Rattle.trits.specs.Trit.{upTo}
+use Rattle.trits.specs.Planes.{Reads}
+use Rattle.trits.specs.Rows.{matrixAt}
+use Rattle.trits.proofs.Matrix.{row-le}
+use Rattle.matrix.specs.Linear.{column}
+use Rattle.grid.proofs.RowParts.{read-lt, read-column, column-turn}
+use Rattle.build_key.proofs.key.put_column.Statement.{statement}
+use Rattle.build_key.proofs.key.put_column.Tie as tie
+
+abbrev Inv-loop : tie.InvT-loop
+Inv-loop ones twos rows w c ko₀ kt₀ i₀ ko kt i =
+    (i ≤ rows) × Reads ko kt (length ko₀) (upTo i (column (matrixAt w ones twos) c))
+
+abbrev μ-loop : tie.MeasureT-loop
+μ-loop ones twos rows w c ko₀ kt₀ i₀ ko kt i = rows - i
+
+loop-holds : tie.Need-loop-holds Inv-loop μ-loop
+loop-holds c =
+    (omega arith, c .before .before .before .before .pre .1 .0)
+
+mul-trit-at : tie.Need-mul-trit-at Inv-loop μ-loop
+mul-trit-at c =
+    let s = c .before .before .before .before .before .before in
+    let a = s .args in
+    let h = row-le (a .w) {i = c .before .loop .i} {m = a .rows} (omega arith) in
+    omega (arith, h, s .pre .0 .size, s .pre .0 .row .same)
+
+mul-trit-at-2 : tie.Need-mul-trit-at-2 Inv-loop μ-loop
+mul-trit-at-2 c =
+    let s = c .before .before .before .before .before .before in
+    let a = s .args in
+    let h = row-le (a .w) {i = c .before .loop .i} {m = a .rows} (omega arith) in
+    omega (arith, h, s .pre .0 .size, s .pre .0 .row .same)
+
+add-trit-at : tie.Need-add-trit-at Inv-loop μ-loop
+add-trit-at c =
+    let s = c .before .before .before .before .before .before in
+    let a = s .args in
+    let h = row-le (a .w) {i = c .before .loop .i} {m = a .rows} (omega arith) in
+    omega (arith, h, s .pre .0 .size, s .pre .0 .row .same)
+
+trit-at-requires : tie.Need-trit-at-requires Inv-loop μ-loop
+trit-at-requires c κs =
+    let s = c .before .before .before .before .before .before in
+    let a = s .args in
+    let h = row-le (a .w) {i = c .before .loop .i} {m = a .rows} (omega arith) in
+    (s .pre .0 .row .same, omega (arith, h, s .pre .0 .size))
+
+put-trit-requires : tie.Need-put-trit-requires Inv-loop μ-loop
+put-trit-requires c κs =
+    let l = c .before .before .before .before .loop in
+    (l .inv .1 .row, (omega (arith, l .inv .1 .size), read-lt _ _ _ _ (c .before .before .trit-at .ensures)))
+
+add-i : tie.Need-add-i Inv-loop μ-loop
+add-i c = omega arith
+
+loop-less : tie.Need-loop-less Inv-loop μ-loop
+loop-less c = omega arith
+
+loop-again : tie.Need-loop-again Inv-loop μ-loop
+loop-again c =
+    let s = c .before .before .before .before .before .before .before .before .before .before .before .before .before .before in
+    let a = s .args in
+    let l = c .before .before .before .before .before .before .before .before .before .loop in (
+      omega arith,
+      column-turn (column (matrixAt (a .w) (now (a .ones)) (now (a .twos))) (a .c)) (l .i) (c .before .before .before .before .before .before .before .trit-at .result) (l .inv .1)
+          (read-column (a .w) (now (a .ones)) (now (a .twos)) (l .i) (a .c) _ (s .pre .1 .1 .1) (c .before .before .before .before .before .before .before .trit-at .ensures)) (c .before .before .before .before .put-trit .ensures),
+    )
+
+same-length : tie.Need-same-length Inv-loop μ-loop
+same-length c =
+    omega (arith, c .before .loop .inv .1 .size)
+
+same-length-2 : tie.Need-same-length-2 Inv-loop μ-loop
+same-length-2 c =
+    omega (arith, c .before .loop .inv .1 .size, c .before .loop .inv .1 .row .same, c .before .before .before .before .before .before .pre .1 .0 .row .same)
+
+returns : tie.Need-returns Inv-loop μ-loop
+returns c =
+    let e : c .before .loop .i ≡ c .before .before .before .before .before .before .args .rows = omega arith in
+    rw e at (c .before .loop .inv .1)
+
+pub put-column-spec : {M : Type 1} → statement M
+put-column-spec =
+    tie.close
+    (tie.spec
+    Inv-loop
+    μ-loop
+    loop-holds
+    mul-trit-at
+    mul-trit-at-2
+    add-trit-at
+    trit-at-requires
+    put-trit-requires
+    add-i
+    loop-less
+    loop-again
+    same-length
+    same-length-2
+    returns)

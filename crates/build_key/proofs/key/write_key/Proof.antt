@@ -1,0 +1,199 @@
+-- Each turn lends the part of row i to the row writer, and what comes back is one row more (`rows-more`).
+-- Assumes nothing.
+use Prim.Native.Nat.{ℕ, _+_, _-_, _*_, _≤_, _<_}
+use mathlib.Core.Path.{_≡_, sym, _∙_, subst}
+use mathlib.Core.List.{_++_}
+use native.Mathlib.Omega.{arith}
+use borrow.Author.Needs.{needs}
+use lib.ListN.{length, getD, drop}
+use denote.Ref.{now}
+use Rattle.trits.specs.Rows.{matrixAt, rowsOf}
+use Rattle.trits.proofs.Matrix.{row-le}
+use Rattle.trits.proofs.Parts.{length-mid}
+use Rattle.matrix.proofs.Places.{elem-at}
+use Rattle.matrix.proofs.Orders.{order-good}
+use Rattle.build_key.proofs.Arranging.{col-below}
+use Rattle.build_key.proofs.Written.{onesRow, twosRow, ones-size, twos-size, ones-down, twos-down, rows-none, rows-more, key-ones, key-twos}
+use Rattle.build_key.proofs.key.write_key.Statement.{statement}
+use Rattle.build_key.proofs.key.write_key.Tie as tie
+
+abbrev Inv-loop : tie.InvT-loop
+Inv-loop ones twos rows w half hw order k kw ko₀ kt₀ i₀ ko kt i =
+    ((i ≤ k) × (length ko ≡ k * kw) × (length kt ≡ k * kw))
+    × (ko ≡ rowsOf (onesRow rows half hw (matrixAt w ones twos) order kw) i ++ drop (i * kw) ko₀)
+    × (kt ≡ rowsOf (twosRow rows half hw (matrixAt w ones twos) order kw) i ++ drop (i * kw) kt₀)
+
+abbrev μ-loop : tie.MeasureT-loop
+μ-loop ones twos rows w half hw order k kw ko₀ kt₀ i₀ ko kt i = k - i
+
+loop-holds : tie.Need-loop-holds Inv-loop μ-loop
+loop-holds c =
+    let s = c .before .before .before .before .before in
+    let a = s .args in
+    ((omega arith, s .pre .1 .1 .1 .2, s .pre .1 .1 .1 .3), rows-none (onesRow (a .rows) (a .half) (a .hw) (matrixAt (a .w) (now (a .ones)) (now (a .twos))) (now (a .order)) (a .kw)) (a .kw) (ones-size (a .rows) (a .half) (a .hw) (matrixAt (a .w) (now (a .ones)) (now (a .twos))) (now (a .order)) (a .kw)) (now (a .ko)), rows-none (twosRow (a .rows) (a .half) (a .hw) (matrixAt (a .w) (now (a .ones)) (now (a .twos))) (now (a .order)) (a .kw)) (a .kw) (twos-size (a .rows) (a .half) (a .hw) (matrixAt (a .w) (now (a .ones)) (now (a .twos))) (now (a .order)) (a .kw)) (now (a .kt)))
+
+add-q : tie.Need-add-q Inv-loop μ-loop
+add-q c = omega arith
+
+mul-q : tie.Need-mul-q Inv-loop μ-loop
+mul-q c = omega arith
+
+shared-slice-read-q : tie.Need-shared-slice-read-q Inv-loop μ-loop
+shared-slice-read-q c = omega arith
+
+cast-q : tie.Need-cast-q Inv-loop μ-loop
+cast-q c =
+    omega (arith, c .shared-slice-known4 .given (c .before .before .before .before .before .before .before .before .args .rows + c .before .before .loop .i))
+
+column-requires : tie.Need-column-requires Inv-loop μ-loop
+column-requires c κs =
+    let s = c .before .before .before .before .before .before .before .before in
+    let a = s .args in
+    let l = c .before .before .loop in
+    let q = order-good (length (now (a .order))) (now (a .order)) (s .pre .1 .1 .0) .1 (getD (now (a .order)) (a .rows + l .i) 0) (elem-at (now (a .order)) (a .rows + l .i) (omega arith)) in
+    (s .pre .1 .0 .1, omega (arith, q, s .pre .1 .0 .3), s .pre .1 .0 .4)
+
+mul-a : tie.Need-mul-a Inv-loop μ-loop
+mul-a c =
+    let s = c .before .before .before .before .before .before .before .before .before in
+    let a = s .args in
+    let l = c .before .before .before .loop in
+    let h = row-le (a .kw) {i = l .i} {m = a .k} (omega arith) in
+    omega (arith, h, l .inv .0 .1, l .inv .0 .2)
+
+add-e : tie.Need-add-e Inv-loop μ-loop
+add-e c =
+    let s = c .before .before .before .before .before .before .before .before .before in
+    let a = s .args in
+    let l = c .before .before .before .loop in
+    let h = row-le (a .kw) {i = l .i} {m = a .k} (omega arith) in
+    omega (arith, h, l .inv .0 .1, l .inv .0 .2)
+
+mul-write-row : tie.Need-mul-write-row Inv-loop μ-loop
+mul-write-row c =
+    let s = c .before .before .before .before .before .before .before .before .before in
+    let a = s .args in
+    let l = c .before .before .before .loop in
+    let h = row-le (a .kw) {i = l .i} {m = a .k} (omega arith) in
+    omega (arith, h, l .inv .0 .1, l .inv .0 .2)
+
+sub-write-row : tie.Need-sub-write-row Inv-loop μ-loop
+sub-write-row c =
+    search needs
+
+part-write-row-start : tie.Need-part-write-row-start Inv-loop μ-loop
+part-write-row-start c =
+    search needs
+
+part-write-row-end : tie.Need-part-write-row-end Inv-loop μ-loop
+part-write-row-end c =
+    let s = c .before .before .before .before .before .before .before .before .before in
+    let a = s .args in
+    let l = c .before .before .before .loop in
+    let h = row-le (a .kw) {i = l .i} {m = a .k} (omega arith) in
+    omega (arith, h, l .inv .0 .1, l .inv .0 .2)
+
+mul-write-row-2 : tie.Need-mul-write-row-2 Inv-loop μ-loop
+mul-write-row-2 c =
+    let s = c .before .before .before .before .before .before .before .before .before .before in
+    let a = s .args in
+    let l = c .before .before .before .before .loop in
+    let h = row-le (a .kw) {i = l .i} {m = a .k} (omega arith) in
+    omega (arith, h, l .inv .0 .1, l .inv .0 .2)
+
+sub-write-row-2 : tie.Need-sub-write-row-2 Inv-loop μ-loop
+sub-write-row-2 c =
+    search needs
+
+part-write-row-start-2 : tie.Need-part-write-row-start-2 Inv-loop μ-loop
+part-write-row-start-2 c =
+    search needs
+
+part-write-row-end-2 : tie.Need-part-write-row-end-2 Inv-loop μ-loop
+part-write-row-end-2 c =
+    let s = c .before .before .before .before .before .before .before .before .before .before in
+    let a = s .args in
+    let l = c .before .before .before .before .loop in
+    let h = row-le (a .kw) {i = l .i} {m = a .k} (omega arith) in
+    omega (arith, h, l .inv .0 .1, l .inv .0 .2)
+
+write-row-requires : tie.Need-write-row-requires Inv-loop μ-loop
+write-row-requires c κs =
+    let s = c .before .before .before .before .before .before .before .before .before .before .before in
+    let a = s .args in
+    let l = c .before .before .before .before .before .loop in
+    let h = row-le (a .kw) {i = l .i} {m = a .k} (omega arith) in
+    let k = l .i * a .kw + a .kw - l .i * a .kw in
+    let lo = length-mid (l .i * a .kw) k (l .ko) (omega (arith, h, l .inv .0 .1)) in
+    let lt = length-mid (l .i * a .kw) k (l .kt) (omega (arith, h, l .inv .0 .2)) in
+    let q = order-good (length (now (a .order))) (now (a .order)) (s .pre .1 .1 .0) .1 (getD (now (a .order)) (a .rows + l .i) 0) (elem-at (now (a .order)) (a .rows + l .i) (omega arith)) in
+    let z : c .before .before .column .result < 64 * a .w =
+    subst (λ (z : ℕ). z < 64 * a .w) (sym (c .before .before .column .ensures)) (col-below (a .half) (a .hw) (a .w) (getD (now (a .order)) (a .rows + l .i) 0) (s .pre .1 .0 .1) (s .pre .1 .0 .2) (omega (arith, q, s .pre .1 .0 .3))) in
+    (s .pre .0, (s .pre .1 .0 .0, z, omega (arith, lo, s .pre .1 .1 .1 .1), omega (arith, lo, lt)))
+
+add-i : tie.Need-add-i Inv-loop μ-loop
+add-i c = omega arith
+
+loop-less : tie.Need-loop-less Inv-loop μ-loop
+loop-less c = omega arith
+
+loop-again : tie.Need-loop-again Inv-loop μ-loop
+loop-again c =
+    let s = c .before .before .before .before .before .before .before .before .before .before .before .before .before .before .before .before in
+    let a = s .args in
+    let l = c .before .before .before .before .before .before .before .before .before .before .loop in
+    let h = row-le (a .kw) {i = l .i} {m = a .k} (omega arith) in
+    let k = l .i * a .kw + a .kw - l .i * a .kw in
+    let d : k ≡ a .kw = omega arith in
+    let lo = length-mid (l .i * a .kw) k (l .ko) (omega (arith, h, l .inv .0 .1)) in
+    let lt = length-mid (l .i * a .kw) k (l .kt) (omega (arith, h, l .inv .0 .2)) in
+    let e = c .before .before .before .before .write-row .ensures in
+    let f = c .before .before .before .before .before .before .before .column .ensures in
+    let x = rows-more (onesRow (a .rows) (a .half) (a .hw) (matrixAt (a .w) (now (a .ones)) (now (a .twos))) (now (a .order)) (a .kw)) (a .kw) (ones-size (a .rows) (a .half) (a .hw) (matrixAt (a .w) (now (a .ones)) (now (a .twos))) (now (a .order)) (a .kw)) (l .i) (now (a .ko)) (l .inv .1) d (e .0 ∙ ones-down (a .rows) (a .half) (a .hw) (matrixAt (a .w) (now (a .ones)) (now (a .twos))) (now (a .order)) (a .kw) (l .i) f (lo ∙ d)) in
+    let y = rows-more (twosRow (a .rows) (a .half) (a .hw) (matrixAt (a .w) (now (a .ones)) (now (a .twos))) (now (a .order)) (a .kw)) (a .kw) (twos-size (a .rows) (a .half) (a .hw) (matrixAt (a .w) (now (a .ones)) (now (a .twos))) (now (a .order)) (a .kw)) (l .i) (now (a .kt)) (l .inv .2) d (e .1 ∙ twos-down (a .rows) (a .half) (a .hw) (matrixAt (a .w) (now (a .ones)) (now (a .twos))) (now (a .order)) (a .kw) (l .i) f (lo ∙ d)) in
+    ((omega arith, search needs, search needs), x, y)
+
+same-length : tie.Need-same-length Inv-loop μ-loop
+same-length c =
+    omega (arith, c .before .loop .inv .0 .1, c .before .before .before .before .before .before .before .pre .1 .1 .1 .2)
+
+same-length-2 : tie.Need-same-length-2 Inv-loop μ-loop
+same-length-2 c =
+    omega (arith, c .before .loop .inv .0 .2, c .before .before .before .before .before .before .before .pre .1 .1 .1 .3)
+
+returns : tie.Need-returns Inv-loop μ-loop
+returns c =
+    let s = c .before .before .before .before .before .before .before in
+    let a = s .args in
+    let l = c .before .loop in
+    (key-ones (a .rows) (a .half) (a .hw) (matrixAt (a .w) (now (a .ones)) (now (a .twos))) (now (a .order)) (a .kw) (l .i) (a .k) (now (a .ko)) (l .inv .1) (omega arith) (s .pre .1 .1 .1 .2), key-twos (a .rows) (a .half) (a .hw) (matrixAt (a .w) (now (a .ones)) (now (a .twos))) (now (a .order)) (a .kw) (l .i) (a .k) (now (a .kt)) (l .inv .2) (omega arith) (s .pre .1 .1 .1 .3))
+
+pub write-key-spec : {M : Type 1} → statement M
+write-key-spec =
+    tie.close
+    (tie.spec
+    Inv-loop
+    μ-loop
+    loop-holds
+    add-q
+    mul-q
+    shared-slice-read-q
+    cast-q
+    column-requires
+    mul-a
+    add-e
+    mul-write-row
+    sub-write-row
+    part-write-row-start
+    part-write-row-end
+    mul-write-row-2
+    sub-write-row-2
+    part-write-row-start-2
+    part-write-row-end-2
+    write-row-requires
+    add-i
+    loop-less
+    loop-again
+    same-length
+    same-length-2
+    returns)

@@ -1,0 +1,52 @@
+-- The row is made 0, and the column put there; the words are then known (`reads-words`).
+-- Assumes nothing.
+use mathlib.Core.Path.{ap, _∙_}
+use native.Mathlib.Omega.{arith}
+use borrow.Author.Needs.{needs}
+use lib.ListN.{length}
+use denote.Ref.{now}
+use Rattle.trits.specs.Rows.{matrixAt}
+use Rattle.trits.proofs.Ends.{zeros-hold}
+use Rattle.trits.proofs.Lists.{length-zeros}
+use Rattle.trits.proofs.Reading.{reads-words}
+use Rattle.matrix.specs.Linear.{column}
+use Rattle.build_key.proofs.key.write_row.Statement.{statement}
+use Rattle.build_key.proofs.key.write_row.Tie as tie
+
+zero-words-requires : tie.Need-zero-words-requires
+zero-words-requires c κs = search needs
+
+zero-words-requires-2 : tie.Need-zero-words-requires-2
+zero-words-requires-2 c κs = search needs
+
+put-column-requires : tie.Need-put-column-requires
+put-column-requires c κs =
+    let s = c .before .before .before .before .before .before .before .before .before .before .before .before .before .before in
+    let a = s .args in
+    let e = c .before .before .before .before .before .before .before .before .zero-words .ensures in
+    let n = ap length e ∙ length-zeros (length (now (a .ko))) in
+    (s .pre .0, (zeros-hold (column (matrixAt (a .w) (now (a .ones)) (now (a .twos))) (a .c)) e (c .before .before .before .before .zero-words2 .ensures) (s .pre .1 .3), (s .pre .1 .0, s .pre .1 .1, omega (arith, n, s .pre .1 .2))))
+
+same-length : tie.Need-same-length
+same-length c = search needs
+
+same-length-2 : tie.Need-same-length-2
+same-length-2 c = search needs
+
+returns : tie.Need-returns
+returns c =
+    let a = c .before .before .before .before .before .before .before .before .before .before .before .before .before .before .before .before .before .before .before .args in
+    let n = ap length (c .before .before .before .before .before .before .before .before .before .before .before .before .before .zero-words .ensures) ∙ length-zeros (length (now (a .ko))) in
+    let w = reads-words (c .before .before .before .before .put-column .ensures) n (λ j. c .before .before .slice-known5 .given j .fits) (λ j. c .slice-known6 .given j .fits) in
+    (w .ones-are, w .twos-are)
+
+pub write-row-spec : {M : Type 1} → statement M
+write-row-spec =
+    tie.close
+    (tie.spec
+    zero-words-requires
+    zero-words-requires-2
+    put-column-requires
+    same-length
+    same-length-2
+    returns)

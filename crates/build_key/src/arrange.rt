@@ -1,0 +1,88 @@
+// The column rule: places are tried in order, and those whose column has no pivot go to the end.
+ghost use mathlib.Core.Path.{_≡_};
+ghost use mathlib.Core.Bool.{cond};
+ghost use Prim.Native.Nat.{suc, _+_, _*_, _<_, _≤_};
+ghost use lib.ListN.{length};
+ghost use Rattle.trits.specs.Rows.{matrixAt};
+ghost use Rattle.matrix.specs.Linear.{rank, range};
+ghost use Rattle.matrix.specs.Orders.{Order};
+ghost use Rattle.matrix.specs.Eliminate.{hasPivot, stepOf};
+ghost use Rattle.grid.specs.Grid.{Rows, Grid};
+ghost use Rattle.scheme.specs.Build.{swap, arranged};
+ghost use Rattle.build_matrix.specs.Work.{colOf, placedAt};
+ghost use Rattle.build_key.specs.KeyRows.{Keyed};
+
+// The column of a secret place.
+pub fn column(q: usize, half: usize, hw: usize) -> usize
+    requires { ⌜ (half ≤ 64 * hw) × (q < half + half) × (hw ≤ 4294967296) ⌝ }
+    ensures { λ r. ⌜ r ≡ colOf half hw q ⌝ }
+{
+    if q < half {
+        return q;
+    }
+    64 * hw + (q - half)
+}
+
+// Two places of the order are exchanged.
+pub fn exchange(order: &mut [u16], j: usize, l: usize)
+    requires { ⌜ (j < length (now order)) × (l < length (now order)) ⌝ }
+    ensures { λ _. ⌜ now (order .exit) ≡ swap j l (now (order .entry)) ⌝ }
+{
+    let a = order[j];
+    let b = order[l];
+    order[j] = b;
+    order[l] = a;
+}
+
+// The column c, of the place at j, is tried: kept, or its place is exchanged with the one at l.
+pub fn try_column(
+    ones: &mut [u64],
+    twos: &mut [u64],
+    rows: usize,
+    w: usize,
+    c: usize,
+    order: &mut [u16],
+    j: usize,
+    l: usize,
+) -> usize
+    requires { ⌜ Rows (now ones) (now twos) rows w ⌝ }
+    requires { ⌜ (length (now ones) ≤ 4294967296) × (c < 64 * w) × (j < rows) × (j < length (now order)) × (l < length (now order)) ⌝ }
+    ensures { λ r. ⌜ r ≡ cond (hasPivot rows j c (matrixAt w (now (ones .entry)) (now (twos .entry)))) (suc j) j ⌝ }
+    ensures { λ _. ⌜ Grid (now (ones .exit)) (now (twos .exit)) rows w (stepOf rows j c (matrixAt w (now (ones .entry)) (now (twos .entry)))) ⌝ }
+    ensures { λ _. ⌜ now (order .exit) ≡ cond (hasPivot rows j c (matrixAt w (now (ones .entry)) (now (twos .entry)))) (now (order .entry)) (swap j l (now (order .entry))) ⌝ }
+{
+    if elimination::step::step(ones, twos, rows, w, c, j) {
+        return j + 1;
+    }
+    exchange(order, j, l);
+    j
+}
+
+// The order is arranged, and the matrix brought to the form in which R stands in its last columns.
+pub fn arrange(
+    ones: &mut [u64],
+    twos: &mut [u64],
+    rows: usize,
+    w: usize,
+    half: usize,
+    hw: usize,
+    order: &mut [u16],
+)
+    requires { ⌜ Rows (now ones) (now twos) rows w ⌝ }
+    requires { ⌜ (length (now ones) ≤ 4294967296) × (half ≤ 64 * hw) × (hw + hw ≤ w) × (length (now order) ≤ half + half) × (hw ≤ 4294967296) ⌝ }
+    requires { ⌜ Order (length (now order)) (now order) ⌝ }
+    requires { ⌜ rank rows (length (now order)) (placedAt half hw w (now ones) (now twos)) (range (length (now order))) ≡ rows ⌝ }
+    ensures { λ _. ⌜ now (order .exit) ≡ arranged rows (length (now (order .entry))) (placedAt half hw w (now (ones .entry)) (now (twos .entry))) (now (order .entry)) .order ⌝ }
+    ensures { λ _. ⌜ Keyed rows (length (now (order .entry))) (placedAt half hw w (now (ones .entry)) (now (twos .entry)))
+        (placedAt half hw w (now (ones .exit)) (now (twos .exit))) (now (order .exit)) ⌝ }
+    ensures { λ _. ⌜ Rows (now (ones .exit)) (now (twos .exit)) rows w ⌝ }
+{
+    let mut j = 0;
+    let mut left = order.len();
+    while j < rows {
+        left -= 1;
+        let q = order[j] as usize;
+        let c = column(q, half, hw);
+        j = try_column(ones, twos, rows, w, c, order, j, j + left);
+    }
+}

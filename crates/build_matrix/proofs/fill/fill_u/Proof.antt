@@ -1,0 +1,135 @@
+-- Each turn makes both halves of one row more (`halves-turn`).
+-- Assumes nothing.
+use Prim.Native.Nat.{_-_, _≤_}
+use mathlib.Core.Path.{ap}
+use native.Mathlib.Omega.{arith}
+use borrow.Author.Needs.{needs}
+use denote.Ref.{now}
+use Rattle.trits.specs.Planes.{tritAt}
+use Rattle.trits.specs.Rows.{matrixAt}
+use Rattle.matrix.specs.Linear.{Vector}
+use Rattle.grid.specs.Grid.{Grid}
+use Rattle.grid.proofs.Cells.{grid-of}
+use Rattle.build_matrix.specs.Work.{scaledBy, negativeBy, halvesIn, leftU, rightU}
+use Rattle.grid.proofs.RowParts.{handed-row, handed-size, handed-trits}
+use Rattle.build_matrix.proofs.HalfRows.{halves-none, halves-turn, halves-done}
+use Rattle.build_matrix.proofs.fill.fill_u.Statement.{statement}
+use Rattle.build_matrix.proofs.fill.fill_u.Tie as tie
+
+abbrev Inv-loop : tie.InvT-loop
+Inv-loop ones₀ twos₀ rows w ru ho ht bo bt co ct i₀ ones twos i =
+    (i ≤ ru)
+    × Grid ones twos rows w (halvesIn 0 i (leftU (matrixAt w ho ht) (tritAt bo bt) (tritAt co ct)) (rightU (matrixAt w ho ht) (tritAt bo bt)) (matrixAt w ones₀ twos₀))
+
+abbrev μ-loop : tie.MeasureT-loop
+μ-loop ones₀ twos₀ rows w ru ho ht bo bt co ct i₀ ones twos i = ru - i
+
+loop-holds : tie.Need-loop-holds Inv-loop μ-loop
+loop-holds c =
+    let s = c .before .before .before .before .before .before .before .before in
+    let a = s .args in
+    (omega arith, grid-of (s .pre .0) (halves-none 0 (leftU (matrixAt (a .w) (now (a .ho)) (now (a .ht))) (tritAt (now (a .bo)) (now (a .bt))) (tritAt (now (a .co)) (now (a .ct)))) (rightU (matrixAt (a .w) (now (a .ho)) (now (a .ht))) (tritAt (now (a .bo)) (now (a .bt)))) (matrixAt (a .w) (now (a .ones)) (now (a .twos)))))
+
+row-part-requires : tie.Need-row-part-requires Inv-loop μ-loop
+row-part-requires c κs =
+    let p = c .before .before .before .before .before .before .before .before .before .before .pre .1 .1 .1 in
+    (p .4, p .5)
+
+row-part-requires-2 : tie.Need-row-part-requires-2 Inv-loop μ-loop
+row-part-requires-2 c κs =
+    let p = c .before .before .before .before .before .before .before .before .before .before .before .pre .1 .1 .1 in
+    (p .4, p .5)
+
+add-put-scaled : tie.Need-add-put-scaled Inv-loop μ-loop
+add-put-scaled c =
+    omega (arith, c .before .before .before .before .loop-test .taken, c .before .before .before .before .before .before .before .before .before .before .before .before .before .before .pre .1 .1 .1 .0, c .before .before .before .before .before .before .before .before .before .before .before .before .before .before .pre .1 .1 .1 .1)
+
+put-scaled-requires : tie.Need-put-scaled-requires Inv-loop μ-loop
+put-scaled-requires c κs =
+    let s = c .before .before .before .before .before .before .before .before .before .before .before .before .before .before in
+    let a = s .args in
+    let l = c .before .before .before .before .before .loop in
+    let h = c .before .before .before .before .loop-test .taken in
+    let m = s .pre .1 .1 .1 .0 in
+    let e = c .before .before .before .row-part .ensures in
+    let f = c .before .before .row-part2 .ensures in
+    let g = s .pre .1 .0 in
+    (l .inv .1 .rows, ((handed-row (a .ru) (a .w) (l .i) g h e f, s .pre .1 .1 .0 .0, s .pre .1 .1 .0 .1), (omega arith, handed-size (a .ru) (a .w) (l .i) g h e f, s .pre .1 .1 .1 .2, s .pre .1 .1 .1 .3)))
+
+add-put-negative : tie.Need-add-put-negative Inv-loop μ-loop
+add-put-negative c =
+    omega (arith, c .before .before .before .before .before .before .before .before .before .before .before .loop-test .taken, c .before .before .before .before .before .before .before .before .before .before .before .before .before .before .before .before .before .before .before .before .before .pre .1 .1 .1 .0, c .before .before .before .before .before .before .before .before .before .before .before .before .before .before .before .before .before .before .before .before .before .pre .1 .1 .1 .1)
+
+add-put-negative-2 : tie.Need-add-put-negative-2 Inv-loop μ-loop
+add-put-negative-2 c =
+    omega (arith, c .before .before .before .before .before .before .before .before .before .before .before .loop-test .taken, c .before .before .before .before .before .before .before .before .before .before .before .before .before .before .before .before .before .before .before .before .before .pre .1 .1 .1 .0, c .before .before .before .before .before .before .before .before .before .before .before .before .before .before .before .before .before .before .before .before .before .pre .1 .1 .1 .1)
+
+put-negative-requires : tie.Need-put-negative-requires Inv-loop μ-loop
+put-negative-requires c κs =
+    let s = c .before .before .before .before .before .before .before .before .before .before .before .before .before .before .before .before .before .before .before .before .before in
+    let a = s .args in
+    let l = c .before .before .before .before .before .before .before .before .before .before .before .before .loop in
+    let h = c .before .before .before .before .before .before .before .before .before .before .before .loop-test .taken in
+    let m = s .pre .1 .1 .1 .0 in
+    let e = c .before .before .before .before .before .before .before .before .before .before .row-part .ensures in
+    let f = c .before .before .before .before .before .before .before .before .before .row-part2 .ensures in
+    let g = s .pre .1 .0 in
+    (c .before .before .before .before .before .before .put-scaled .ensures .rows, ((handed-row (a .ru) (a .w) (l .i) g h e f, s .pre .1 .1 .0 .0), (omega arith, handed-size (a .ru) (a .w) (l .i) g h e f, s .pre .1 .1 .1 .2)))
+
+add-i : tie.Need-add-i Inv-loop μ-loop
+add-i c =
+    omega (arith, c .before .before .before .before .before .before .before .before .before .before .before .before .before .before .before .before .loop-test .taken, c .before .before .before .before .before .before .before .before .before .before .before .before .before .before .before .before .before .before .before .before .before .before .before .before .before .before .pre .1 .1 .1 .0, c .before .before .before .before .before .before .before .before .before .before .before .before .before .before .before .before .before .before .before .before .before .before .before .before .before .before .pre .1 .1 .1 .1)
+
+loop-less : tie.Need-loop-less Inv-loop μ-loop
+loop-less c =
+    omega (arith, c .before .before .before .before .before .before .before .before .before .before .before .before .before .before .before .before .loop-test .taken, c .before .before .before .before .before .before .before .before .before .before .before .before .before .before .before .before .before .before .before .before .before .before .before .before .before .before .pre .1 .1 .1 .0, c .before .before .before .before .before .before .before .before .before .before .before .before .before .before .before .before .before .before .before .before .before .before .before .before .before .before .pre .1 .1 .1 .1)
+
+loop-again : tie.Need-loop-again Inv-loop μ-loop
+loop-again c =
+    let s = c .before .before .before .before .before .before .before .before .before .before .before .before .before .before .before .before .before .before .before .before .before .before .before .before .before .before in
+    let a = s .args in
+    let l = c .before .before .before .before .before .before .before .before .before .before .before .before .before .before .before .before .before .loop in
+    let h = c .before .before .before .before .before .before .before .before .before .before .before .before .before .before .before .before .loop-test .taken in
+    let m = s .pre .1 .1 .1 .0 in
+    let e = c .before .before .before .before .before .before .before .before .before .before .before .before .before .before .before .row-part .ensures in
+    let f = c .before .before .before .before .before .before .before .before .before .before .before .before .before .before .row-part2 .ensures in
+    let g = s .pre .1 .0 in
+    let t = handed-trits (a .ru) (a .w) (l .i) g h e f in (
+      omega arith,
+      halves-turn 0 (leftU (matrixAt (a .w) (now (a .ho)) (now (a .ht))) (tritAt (now (a .bo)) (now (a .bt))) (tritAt (now (a .co)) (now (a .ct)))) (rightU (matrixAt (a .w) (now (a .ho)) (now (a .ht))) (tritAt (now (a .bo)) (now (a .bt)))) (matrixAt (a .w) (now (a .ones)) (now (a .twos))) _ _ (l .inv .1) (omega arith) (omega arith) (ap (λ (v : Vector). scaledBy (tritAt (now (a .bo)) (now (a .bt))) (tritAt (now (a .co)) (now (a .ct))) v) t)
+          (ap (λ (v : Vector). negativeBy (tritAt (now (a .bo)) (now (a .bt))) v) t) (c .before .before .before .before .before .before .before .before .before .before .before .put-scaled .ensures) (c .before .before .before .before .put-negative .ensures),
+    )
+
+same-length : tie.Need-same-length Inv-loop μ-loop
+same-length c =
+    omega (arith, c .before .loop .inv .1 .rows .size, c .before .before .before .before .before .before .before .before .before .before .pre .0 .size)
+
+same-length-2 : tie.Need-same-length-2 Inv-loop μ-loop
+same-length-2 c =
+    omega (arith, c .before .loop .inv .1 .rows .size, c .before .before .before .before .before .before .before .before .before .before .pre .0 .size, c .before .loop .inv .1 .rows .row .same, c .before .before .before .before .before .before .before .before .before .before .pre .0 .row .same)
+
+returns : tie.Need-returns Inv-loop μ-loop
+returns c =
+    let a = c .before .before .before .before .before .before .before .before .before .before .args in
+    halves-done 0 (leftU (matrixAt (a .w) (now (a .ho)) (now (a .ht))) (tritAt (now (a .bo)) (now (a .bt))) (tritAt (now (a .co)) (now (a .ct)))) (rightU (matrixAt (a .w) (now (a .ho)) (now (a .ht))) (tritAt (now (a .bo)) (now (a .bt)))) (matrixAt (a .w) (now (a .ones)) (now (a .twos))) (a .ru) (omega arith) (c .before .loop .inv .1)
+
+pub fill-u-spec : {M : Type 1} → statement M
+fill-u-spec =
+    tie.close
+    (tie.spec
+    Inv-loop
+    μ-loop
+    loop-holds
+    row-part-requires
+    row-part-requires-2
+    add-put-scaled
+    put-scaled-requires
+    add-put-negative
+    add-put-negative-2
+    put-negative-requires
+    add-i
+    loop-less
+    loop-again
+    same-length
+    same-length-2
+    returns)

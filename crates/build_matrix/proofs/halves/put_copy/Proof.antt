@@ -1,0 +1,117 @@
+-- Both planes of the row are copied into a part that begins at its first word.
+-- Assumes nothing.
+use Prim.Native.Nat.{_+_, _-_, _*_}
+use mathlib.Core.Path.{sym, ap, ap₂, _∙_}
+use native.Mathlib.Omega.{arith}
+use borrow.Author.Needs.{needs}
+use lib.ListN.{length}
+use denote.Ref.{now}
+use Rattle.trits.specs.Planes.{tritAt}
+use Rattle.trits.proofs.Matrix.{row-le}
+use Rattle.trits.proofs.Parts.{length-mid}
+use Rattle.grid.proofs.RowParts.{put-grid, past-words, copied-row}
+use Rattle.build_matrix.proofs.halves.put_copy.Statement.{statement}
+use Rattle.build_matrix.proofs.halves.put_copy.Tie as tie
+
+mul-a : tie.Need-mul-a
+mul-a c =
+    let s = c .before .before .before .before in
+    let a = s .args in
+    omega (arith, row-le (a .w) {i = a .j} {m = a .rows} (s .pre .1 .1 .0), s .pre .0 .size, s .pre .0 .row .same)
+
+add-e : tie.Need-add-e
+add-e c =
+    let s = c .before .before .before .before in
+    let a = s .args in
+    omega (arith, row-le (a .w) {i = a .j} {m = a .rows} (s .pre .1 .1 .0), s .pre .0 .size, s .pre .0 .row .same)
+
+mul-copy-words : tie.Need-mul-copy-words
+mul-copy-words c =
+    let s = c .before .before .before .before in
+    let a = s .args in
+    omega (arith, row-le (a .w) {i = a .j} {m = a .rows} (s .pre .1 .1 .0), s .pre .0 .size, s .pre .0 .row .same)
+
+sub-copy-words : tie.Need-sub-copy-words
+sub-copy-words c = search needs
+
+part-copy-words-start : tie.Need-part-copy-words-start
+part-copy-words-start c = search needs
+
+part-copy-words-end : tie.Need-part-copy-words-end
+part-copy-words-end c =
+    let s = c .before .before .before .before in
+    let a = s .args in
+    omega (arith, row-le (a .w) {i = a .j} {m = a .rows} (s .pre .1 .1 .0), s .pre .0 .size, s .pre .0 .row .same)
+
+copy-words-requires : tie.Need-copy-words-requires
+copy-words-requires c κs =
+    let s = c .before .before .before .before .before in
+    let a = s .args in
+    let k = a .j * a .w + a .w - a .j * a .w in
+    let h = row-le (a .w) {i = a .j} {m = a .rows} (s .pre .1 .1 .0) in
+    let lo = length-mid (a .j * a .w) k (now (a .ones)) (omega (arith, h, s .pre .0 .size)) in
+    let lt = length-mid (a .j * a .w) k (now (a .twos)) (omega (arith, h, s .pre .0 .size, s .pre .0 .row .same)) in
+    omega (arith, lo, s .pre .1 .1 .1)
+
+mul-copy-words-2 : tie.Need-mul-copy-words-2
+mul-copy-words-2 c =
+    let s = c .before .before .before .before .before .before .before .before in
+    let a = s .args in
+    omega (arith, row-le (a .w) {i = a .j} {m = a .rows} (s .pre .1 .1 .0), s .pre .0 .size, s .pre .0 .row .same)
+
+sub-copy-words-2 : tie.Need-sub-copy-words-2
+sub-copy-words-2 c = search needs
+
+part-copy-words-start-2 : tie.Need-part-copy-words-start-2
+part-copy-words-start-2 c = search needs
+
+part-copy-words-end-2 : tie.Need-part-copy-words-end-2
+part-copy-words-end-2 c =
+    let s = c .before .before .before .before .before .before .before .before in
+    let a = s .args in
+    omega (arith, row-le (a .w) {i = a .j} {m = a .rows} (s .pre .1 .1 .0), s .pre .0 .size, s .pre .0 .row .same)
+
+copy-words-requires-2 : tie.Need-copy-words-requires-2
+copy-words-requires-2 c κs =
+    let s = c .before .before .before .before .before .before .before .before .before in
+    let a = s .args in
+    let k = a .j * a .w + a .w - a .j * a .w in
+    let h = row-le (a .w) {i = a .j} {m = a .rows} (s .pre .1 .1 .0) in
+    let lo = length-mid (a .j * a .w) k (now (a .ones)) (omega (arith, h, s .pre .0 .size)) in
+    let lt = length-mid (a .j * a .w) k (now (a .twos)) (omega (arith, h, s .pre .0 .size, s .pre .0 .row .same)) in
+    omega (arith, lt, s .pre .1 .1 .1, s .pre .1 .0 .same)
+
+same-length : tie.Need-same-length
+same-length c = search needs
+
+same-length-2 : tie.Need-same-length-2
+same-length-2 c = search needs
+
+returns : tie.Need-returns
+returns c =
+    let s = c .before .before .before .before .before .before .before .before .before .before .before .before in
+    let a = s .args in
+    let k = a .j * a .w + a .w - a .j * a .w in
+    put-grid (a .w) (a .j) (s .pre .0) (s .pre .1 .1 .0) k (omega arith) (s .pre .1 .1 .1 ∙ omega arith)
+    (record { row = copied-row (c .before .before .before .before .before .before .copy-words .ensures) (c .before .before .copy-words2 .ensures) (s .pre .1 .0); size = ap length (c .before .before .before .before .before .before .copy-words .ensures); trits = ap₂ tritAt (c .before .before .before .before .before .before .copy-words .ensures) (c .before .before .copy-words2 .ensures) })
+    (λ q l. sym (past-words (a .w) (s .pre .1 .0) (s .pre .1 .1 .1) q l))
+
+pub put-copy-spec : {M : Type 1} → statement M
+put-copy-spec =
+    tie.close
+    (tie.spec
+    mul-a
+    add-e
+    mul-copy-words
+    sub-copy-words
+    part-copy-words-start
+    part-copy-words-end
+    copy-words-requires
+    mul-copy-words-2
+    sub-copy-words-2
+    part-copy-words-start-2
+    part-copy-words-end-2
+    copy-words-requires-2
+    same-length
+    same-length-2
+    returns)

@@ -1,0 +1,106 @@
+-- The row is lent as a part, and comes back as row j (`put-grid`).
+-- Assumes nothing.
+use Prim.Native.Nat.{_+_, _-_, _*_}
+use native.Mathlib.Omega.{arith}
+use borrow.Author.Needs.{needs}
+use denote.Ref.{now}
+use Rattle.trits.specs.Planes.{tritAt}
+use Rattle.trits.proofs.Matrix.{row-le}
+use Rattle.trits.proofs.Parts.{length-mid}
+use Rattle.grid.proofs.RowParts.{put-grid, past-words}
+use Rattle.build_matrix.proofs.HalfRows.{negative-past}
+use Rattle.build_matrix.proofs.halves.put_negative.Statement.{statement}
+use Rattle.build_matrix.proofs.halves.put_negative.Tie as tie
+
+mul-a : tie.Need-mul-a
+mul-a c =
+    let s = c .before .before .before .before .before .before in
+    let a = s .args in
+    omega (arith, row-le (a .w) {i = a .j} {m = a .rows} (s .pre .1 .1 .0), s .pre .0 .size, s .pre .0 .row .same)
+
+add-e : tie.Need-add-e
+add-e c =
+    let s = c .before .before .before .before .before .before in
+    let a = s .args in
+    omega (arith, row-le (a .w) {i = a .j} {m = a .rows} (s .pre .1 .1 .0), s .pre .0 .size, s .pre .0 .row .same)
+
+mul-negative : tie.Need-mul-negative
+mul-negative c =
+    let s = c .before .before .before .before .before .before in
+    let a = s .args in
+    omega (arith, row-le (a .w) {i = a .j} {m = a .rows} (s .pre .1 .1 .0), s .pre .0 .size, s .pre .0 .row .same)
+
+sub-negative : tie.Need-sub-negative
+sub-negative c = search needs
+
+part-negative-start : tie.Need-part-negative-start
+part-negative-start c = search needs
+
+part-negative-end : tie.Need-part-negative-end
+part-negative-end c =
+    let s = c .before .before .before .before .before .before in
+    let a = s .args in
+    omega (arith, row-le (a .w) {i = a .j} {m = a .rows} (s .pre .1 .1 .0), s .pre .0 .size, s .pre .0 .row .same)
+
+mul-negative-2 : tie.Need-mul-negative-2
+mul-negative-2 c =
+    let s = c .before .before .before .before .before .before .before in
+    let a = s .args in
+    omega (arith, row-le (a .w) {i = a .j} {m = a .rows} (s .pre .1 .1 .0), s .pre .0 .size, s .pre .0 .row .same)
+
+sub-negative-2 : tie.Need-sub-negative-2
+sub-negative-2 c = search needs
+
+part-negative-start-2 : tie.Need-part-negative-start-2
+part-negative-start-2 c = search needs
+
+part-negative-end-2 : tie.Need-part-negative-end-2
+part-negative-end-2 c =
+    let s = c .before .before .before .before .before .before .before in
+    let a = s .args in
+    omega (arith, row-le (a .w) {i = a .j} {m = a .rows} (s .pre .1 .1 .0), s .pre .0 .size, s .pre .0 .row .same)
+
+negative-requires : tie.Need-negative-requires
+negative-requires c κs =
+    let s = c .before .before .before .before .before .before .before .before in
+    let a = s .args in
+    let k = a .j * a .w + a .w - a .j * a .w in
+    let h = row-le (a .w) {i = a .j} {m = a .rows} (s .pre .1 .1 .0) in
+    let lo = length-mid (a .j * a .w) k (now (a .ones)) (omega (arith, h, s .pre .0 .size)) in
+    let lt = length-mid (a .j * a .w) k (now (a .twos)) (omega (arith, h, s .pre .0 .size, s .pre .0 .row .same)) in
+    ((s .pre .1 .0 .0, s .pre .1 .0 .1), (omega (arith, lo, s .pre .1 .1 .1), omega (arith, lo, lt), omega (arith, lo, s .pre .1 .1 .2)))
+
+same-length : tie.Need-same-length
+same-length c = search needs
+
+same-length-2 : tie.Need-same-length-2
+same-length-2 c = search needs
+
+returns : tie.Need-returns
+returns c =
+    let s = c .before .before .before .before .before .before .before .before .before .before .before .before .before in
+    let a = s .args in
+    let k = a .j * a .w + a .w - a .j * a .w in
+    let h = row-le (a .w) {i = a .j} {m = a .rows} (s .pre .1 .1 .0) in
+    let lo = length-mid (a .j * a .w) k (now (a .ones)) (omega (arith, h, s .pre .0 .size)) in
+    let lt = length-mid (a .j * a .w) k (now (a .twos)) (omega (arith, h, s .pre .0 .size, s .pre .0 .row .same)) in
+    put-grid (a .w) (a .j) (s .pre .0) (s .pre .1 .1 .0) k (omega arith) lo (c .before .before .before .before .negative .ensures) (λ q l. negative-past (tritAt (now (a .vo)) (now (a .vt))) (tritAt (now (a .ho)) (now (a .ht))) q (past-words (a .w) (s .pre .1 .0 .0) (s .pre .1 .1 .1) q l))
+
+pub put-negative-spec : {M : Type 1} → statement M
+put-negative-spec =
+    tie.close
+    (tie.spec
+    mul-a
+    add-e
+    mul-negative
+    sub-negative
+    part-negative-start
+    part-negative-end
+    mul-negative-2
+    sub-negative-2
+    part-negative-start-2
+    part-negative-end-2
+    negative-requires
+    same-length
+    same-length-2
+    returns)

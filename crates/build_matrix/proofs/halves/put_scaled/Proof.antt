@@ -1,0 +1,106 @@
+-- The row is lent as a part, and comes back as row j (`put-grid`).
+-- Assumes nothing.
+use Prim.Native.Nat.{_+_, _-_, _*_}
+use native.Mathlib.Omega.{arith}
+use borrow.Author.Needs.{needs}
+use denote.Ref.{now}
+use Rattle.trits.specs.Planes.{tritAt}
+use Rattle.trits.proofs.Matrix.{row-le}
+use Rattle.trits.proofs.Parts.{length-mid}
+use Rattle.grid.proofs.RowParts.{put-grid, past-words}
+use Rattle.build_matrix.proofs.HalfRows.{scaled-past}
+use Rattle.build_matrix.proofs.halves.put_scaled.Statement.{statement}
+use Rattle.build_matrix.proofs.halves.put_scaled.Tie as tie
+
+mul-a : tie.Need-mul-a
+mul-a c =
+    let s = c .before .before .before .before .before .before .before .before in
+    let a = s .args in
+    omega (arith, row-le (a .w) {i = a .j} {m = a .rows} (s .pre .1 .1 .0), s .pre .0 .size, s .pre .0 .row .same)
+
+add-e : tie.Need-add-e
+add-e c =
+    let s = c .before .before .before .before .before .before .before .before in
+    let a = s .args in
+    omega (arith, row-le (a .w) {i = a .j} {m = a .rows} (s .pre .1 .1 .0), s .pre .0 .size, s .pre .0 .row .same)
+
+mul-scaled : tie.Need-mul-scaled
+mul-scaled c =
+    let s = c .before .before .before .before .before .before .before .before in
+    let a = s .args in
+    omega (arith, row-le (a .w) {i = a .j} {m = a .rows} (s .pre .1 .1 .0), s .pre .0 .size, s .pre .0 .row .same)
+
+sub-scaled : tie.Need-sub-scaled
+sub-scaled c = search needs
+
+part-scaled-start : tie.Need-part-scaled-start
+part-scaled-start c = search needs
+
+part-scaled-end : tie.Need-part-scaled-end
+part-scaled-end c =
+    let s = c .before .before .before .before .before .before .before .before in
+    let a = s .args in
+    omega (arith, row-le (a .w) {i = a .j} {m = a .rows} (s .pre .1 .1 .0), s .pre .0 .size, s .pre .0 .row .same)
+
+mul-scaled-2 : tie.Need-mul-scaled-2
+mul-scaled-2 c =
+    let s = c .before .before .before .before .before .before .before .before .before in
+    let a = s .args in
+    omega (arith, row-le (a .w) {i = a .j} {m = a .rows} (s .pre .1 .1 .0), s .pre .0 .size, s .pre .0 .row .same)
+
+sub-scaled-2 : tie.Need-sub-scaled-2
+sub-scaled-2 c = search needs
+
+part-scaled-start-2 : tie.Need-part-scaled-start-2
+part-scaled-start-2 c = search needs
+
+part-scaled-end-2 : tie.Need-part-scaled-end-2
+part-scaled-end-2 c =
+    let s = c .before .before .before .before .before .before .before .before .before in
+    let a = s .args in
+    omega (arith, row-le (a .w) {i = a .j} {m = a .rows} (s .pre .1 .1 .0), s .pre .0 .size, s .pre .0 .row .same)
+
+scaled-requires : tie.Need-scaled-requires
+scaled-requires c κs =
+    let s = c .before .before .before .before .before .before .before .before .before .before in
+    let a = s .args in
+    let k = a .j * a .w + a .w - a .j * a .w in
+    let h = row-le (a .w) {i = a .j} {m = a .rows} (s .pre .1 .1 .0) in
+    let lo = length-mid (a .j * a .w) k (now (a .ones)) (omega (arith, h, s .pre .0 .size)) in
+    let lt = length-mid (a .j * a .w) k (now (a .twos)) (omega (arith, h, s .pre .0 .size, s .pre .0 .row .same)) in
+    ((s .pre .1 .0 .0, s .pre .1 .0 .1, s .pre .1 .0 .2), (omega (arith, lo, s .pre .1 .1 .1), omega (arith, lo, lt), omega (arith, lo, s .pre .1 .1 .2), omega (arith, lo, s .pre .1 .1 .3)))
+
+same-length : tie.Need-same-length
+same-length c = search needs
+
+same-length-2 : tie.Need-same-length-2
+same-length-2 c = search needs
+
+returns : tie.Need-returns
+returns c =
+    let s = c .before .before .before .before .before .before .before .before .before .before .before .before .before .before .before in
+    let a = s .args in
+    let k = a .j * a .w + a .w - a .j * a .w in
+    let h = row-le (a .w) {i = a .j} {m = a .rows} (s .pre .1 .1 .0) in
+    let lo = length-mid (a .j * a .w) k (now (a .ones)) (omega (arith, h, s .pre .0 .size)) in
+    let lt = length-mid (a .j * a .w) k (now (a .twos)) (omega (arith, h, s .pre .0 .size, s .pre .0 .row .same)) in
+    put-grid (a .w) (a .j) (s .pre .0) (s .pre .1 .1 .0) k (omega arith) lo (c .before .before .before .before .scaled .ensures) (λ q l. scaled-past (tritAt (now (a .bo)) (now (a .bt))) (tritAt (now (a .co)) (now (a .ct))) (tritAt (now (a .ho)) (now (a .ht))) q (past-words (a .w) (s .pre .1 .0 .0) (s .pre .1 .1 .1) q l))
+
+pub put-scaled-spec : {M : Type 1} → statement M
+put-scaled-spec =
+    tie.close
+    (tie.spec
+    mul-a
+    add-e
+    mul-scaled
+    sub-scaled
+    part-scaled-start
+    part-scaled-end
+    mul-scaled-2
+    sub-scaled-2
+    part-scaled-start-2
+    part-scaled-end-2
+    scaled-requires
+    same-length
+    same-length-2
+    returns)

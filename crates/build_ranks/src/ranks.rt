@@ -1,0 +1,93 @@
+// The ranks of H_U and H_V, in the working planes.
+ghost use mathlib.Core.Path.{_≡_};
+ghost use mathlib.Core.Bool.{true};
+ghost use Prim.Native.Nat.{_*_, _≤_};
+ghost use lib.ListN.{length};
+ghost use Rattle.trits.specs.Rows.{matrixAt};
+ghost use Rattle.trits.specs.Refusal.{codeOf};
+ghost use Rattle.matrix.specs.Linear.{rank, range};
+ghost use Rattle.grid.specs.Grid.{Rows};
+ghost use Rattle.scheme.specs.Sizes.{sizesFit, ru, rv};
+ghost use Rattle.scheme.specs.Build.{buildRefusal};
+ghost use Rattle.calls.specs.Lent.{halfWords};
+ghost use Rattle.calls.specs.BuildCall.{buildWorkWords};
+ghost use Rattle.build_ranks.specs.Matrices.{matrices};
+use scheme::sizes::Sizes;
+use trits::refusal::Outcome;
+use trits::refusal::Refusal;
+
+// The rank of a matrix, which is copied to planes of its size and eliminated there.
+pub fn rank_copied(
+    ones: &[u64],
+    twos: &[u64],
+    rows: usize,
+    w: usize,
+    n: usize,
+    work_ones: &mut [u64],
+    work_twos: &mut [u64],
+) -> usize
+    requires { ⌜ Rows (now ones) (now twos) rows w ⌝ }
+    requires { ⌜ (length (now ones) ≤ 4294967296) × (n ≤ 64 * w) ⌝ }
+    requires { ⌜ (length (now ones) ≡ length (now «work_ones»)) × (length (now twos) ≡ length (now «work_twos»)) ⌝ }
+    ensures { λ r. ⌜ r ≡ rank rows n (matrixAt w (now (ones .entry)) (now (twos .entry))) (range n) ⌝ }
+{
+    planes::words::copy_words(work_ones, ones);
+    planes::words::copy_words(work_twos, twos);
+    elimination::rank::eliminate(work_ones, work_twos, rows, w, n)
+}
+
+// The rank of a matrix, in planes of its size or more.
+pub fn rank_of(
+    ones: &[u64],
+    twos: &[u64],
+    rows: usize,
+    w: usize,
+    n: usize,
+    work_ones: &mut [u64],
+    work_twos: &mut [u64],
+) -> usize
+    requires { ⌜ Rows (now ones) (now twos) rows w ⌝ }
+    requires { ⌜ (length (now ones) ≤ 4294967296) × (n ≤ 64 * w) ⌝ }
+    requires { ⌜ (length (now ones) ≤ length (now «work_ones»)) × (length (now ones) ≤ length (now «work_twos»)) ⌝ }
+    ensures { λ r. ⌜ r ≡ rank rows n (matrixAt w (now (ones .entry)) (now (twos .entry))) (range n) ⌝ }
+{
+    let e = ones.len();
+    rank_copied(
+        ones,
+        twos,
+        rows,
+        w,
+        n,
+        &mut work_ones[0..e],
+        &mut work_twos[0..e],
+    )
+}
+
+// 9 where H_U lacks rank, then 10 where H_V does.
+pub fn test_ranks(
+    z: Sizes,
+    hu_ones: &[u64],
+    hu_twos: &[u64],
+    hv_ones: &[u64],
+    hv_twos: &[u64],
+    work_ones: &mut [u64],
+    work_twos: &mut [u64],
+) -> Outcome
+    requires { ⌜ sizesFit z ≡ true ⌝ }
+    requires { ⌜ Rows (now «hu_ones») (now «hu_twos») (ru z) (halfWords z) ⌝ }
+    requires { ⌜ Rows (now «hv_ones») (now «hv_twos») (rv z) (halfWords z) ⌝ }
+    requires { ⌜ (length (now «work_ones») ≡ buildWorkWords z) × (length (now «work_twos») ≡ buildWorkWords z) ⌝ }
+    ensures { λ r. ⌜ codeOf r ≡ buildRefusal z (matrices z (now («hu_ones» .entry)) (now («hu_twos» .entry)) (now («hv_ones» .entry)) (now («hv_twos» .entry))) ⌝ }
+{
+    let half = z.n as usize / 2;
+    let hw = (half + 63) / 64;
+    let ru = half - z.ku as usize;
+    if rank_of(hu_ones, hu_twos, ru, hw, half, work_ones, work_twos) != ru {
+        return Outcome::Refused(Refusal::RankU);
+    }
+    let rv = half - z.kv as usize;
+    if rank_of(hv_ones, hv_twos, rv, hw, half, work_ones, work_twos) != rv {
+        return Outcome::Refused(Refusal::RankV);
+    }
+    Outcome::Done
+}

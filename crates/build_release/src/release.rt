@@ -1,0 +1,134 @@
+// The work matrix of a secret, and the key that it makes.
+ghost use mathlib.Core.Path.{_≡_};
+ghost use mathlib.Core.Bool.{true};
+ghost use Prim.Native.Nat.{_*_};
+ghost use lib.ListN.{length};
+ghost use Rattle.matrix.specs.Linear.{rank, range};
+ghost use Rattle.scheme.specs.Secret.{secretMatrix};
+ghost use Rattle.scheme.specs.Build.{keyOrder};
+ghost use Rattle.scheme.specs.Sizes.{sizesFit, places, dim, codim};
+ghost use Rattle.matrix.specs.Orders.{Order};
+ghost use Rattle.calls.specs.Lent.{planes, secretOf, Readable};
+ghost use Rattle.calls.specs.BuildCall.{keyRowWords, buildWorkWords, keyOnesOf, keyTwosOf};
+ghost use Rattle.build_release.specs.Work.{Filled};
+use super::order;
+use scheme::sizes::Sizes;
+
+// The work matrix is filled from the secret.
+pub fn fill_matrix(
+    z: Sizes,
+    hu_ones: &[u64],
+    hu_twos: &[u64],
+    hv_ones: &[u64],
+    hv_twos: &[u64],
+    b_ones: &[u64],
+    b_twos: &[u64],
+    c_ones: &[u64],
+    c_twos: &[u64],
+    work_ones: &mut [u64],
+    work_twos: &mut [u64],
+)
+    requires { ⌜ sizesFit z ≡ true ⌝ }
+    requires { ⌜ Readable z (planes (now «hu_ones») (now «hu_twos») (now «hv_ones») (now «hv_twos») (now «b_ones») (now «b_twos») (now «c_ones») (now «c_twos»)) ⌝ }
+    requires { ⌜ (length (now «work_ones») ≡ buildWorkWords z) × (length (now «work_twos») ≡ buildWorkWords z) ⌝ }
+    ensures { λ _. ⌜ Filled z (secretOf z (planes (now («hu_ones» .entry)) (now («hu_twos» .entry)) (now («hv_ones» .entry)) (now («hv_twos» .entry))
+        (now («b_ones» .entry)) (now («b_twos» .entry)) (now («c_ones» .entry)) (now («c_twos» .entry))))
+        (now («work_ones» .exit)) (now («work_twos» .exit)) ⌝ }
+{
+    let half = z.n as usize / 2;
+    let hw = (half + 63) / 64;
+    let ru = half - z.ku as usize;
+    let rv = half - z.kv as usize;
+    let rows = ru + rv + (ru + rv);
+    planes::words::zero_words(work_ones);
+    planes::words::zero_words(work_twos);
+    build_matrix::fill::fill_u(
+        work_ones,
+        work_twos,
+        rows,
+        hw,
+        ru,
+        hu_ones,
+        hu_twos,
+        b_ones,
+        b_twos,
+        c_ones,
+        c_twos,
+    );
+    build_matrix::fill::fill_v(
+        work_ones,
+        work_twos,
+        rows,
+        hw,
+        ru, // the rows before those of H_V
+        rv,
+        hv_ones,
+        hv_twos,
+        c_ones,
+        c_twos,
+    );
+}
+
+// The key of a secret of full ranks: the final order, and R, of which each row is written into the lent key from its own start on.
+pub fn release(
+    z: Sizes,
+    hu_ones: &[u64],
+    hu_twos: &[u64],
+    hv_ones: &[u64],
+    hv_twos: &[u64],
+    b_ones: &[u64],
+    b_twos: &[u64],
+    c_ones: &[u64],
+    c_twos: &[u64],
+    start: &[u16],
+    p: &mut [u16],
+    key_ones: &mut [u64],
+    key_twos: &mut [u64],
+    work_ones: &mut [u64],
+    work_twos: &mut [u64],
+)
+    requires { ⌜ sizesFit z ≡ true ⌝ }
+    requires { ⌜ Readable z (planes (now «hu_ones») (now «hu_twos») (now «hv_ones») (now «hv_twos») (now «b_ones») (now «b_twos») (now «c_ones») (now «c_twos»)) ⌝ }
+    requires { ⌜ Order (places z) (now start) ⌝ }
+    requires { ⌜ rank (codim z) (places z) (secretMatrix z (secretOf z (planes (now «hu_ones») (now «hu_twos») (now «hv_ones») (now «hv_twos») (now «b_ones») (now «b_twos») (now «c_ones») (now «c_twos»)))) (range (places z)) ≡ codim z ⌝ }
+    requires { ⌜ (length (now p) ≡ places z) × (length (now «key_ones») ≡ dim z * keyRowWords z) × (length (now «key_twos») ≡ dim z * keyRowWords z)
+        × (length (now «work_ones») ≡ buildWorkWords z) × (length (now «work_twos») ≡ buildWorkWords z) ⌝ }
+    ensures { λ _. ⌜ (let s = secretOf z (planes (now («hu_ones» .entry)) (now («hu_twos» .entry)) (now («hv_ones» .entry)) (now («hv_twos» .entry))
+        (now («b_ones» .entry)) (now («b_twos» .entry)) (now («c_ones» .entry)) (now («c_twos» .entry))) in
+        (now (p .exit) ≡ keyOrder z s (now (start .entry)))
+        × (now («key_ones» .exit) ≡ keyOnesOf z s (now (start .entry))) × (now («key_twos» .exit) ≡ keyTwosOf z s (now (start .entry)))) ⌝ }
+{
+    let half = z.n as usize / 2;
+    let hw = (half + 63) / 64;
+    let k = z.ku as usize + z.kv as usize;
+    let rows = half - z.ku as usize + (half - z.kv as usize);
+    let kw = (rows + 63) / 64;
+    fill_matrix(
+        z,
+        hu_ones,
+        hu_twos,
+        hv_ones,
+        hv_twos,
+        b_ones,
+        b_twos,
+        c_ones,
+        c_twos,
+        work_ones,
+        work_twos,
+    );
+    order::copy_order(p, start);
+    build_key::arrange::arrange(work_ones, work_twos, rows, hw + hw, half, hw, p);
+    build_key::key::write_key(
+        work_ones,
+        work_twos,
+        rows,
+        hw + hw,
+        half,
+        hw,
+        p,
+        k,
+        kw,
+        key_ones,
+        key_twos,
+    );
+}

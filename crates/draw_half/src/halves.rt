@@ -1,0 +1,111 @@
+// The two halves of a draw, each in rows of a grid: row x is what its matrix is multiplied with, row e becomes the word.
+ghost use mathlib.Core.Path.{_≡_};
+ghost use mathlib.Core.Logic.{_≢_};
+ghost use Prim.Native.Nat.{_+_, _-_, _*_, _<_, _≤_};
+ghost use lib.Dec.{eqb};
+ghost use lib.ListN.{length, take};
+ghost use Rattle.trits.specs.Planes.{tritAt, Row};
+ghost use Rattle.trits.specs.Rows.{matrixAt};
+ghost use Rattle.matrix.specs.Linear.{zeros, rank};
+ghost use Rattle.matrix.specs.Orders.{Order};
+ghost use Rattle.grid.specs.Grid.{Rows};
+ghost use Rattle.draw_half.specs.Half.{Ends, wordV, wordU, SolvedWhere};
+use draw_walk::walk;
+
+// V: the whole order's places that are no pivot take the trits, and the pivots what the syndrome asks; false where the first part lacks rank.
+pub fn draw_v(
+    ones: &mut [u64],
+    twos: &mut [u64],
+    rows: usize,
+    w: usize,
+    r: usize,
+    ho: &[u64],
+    ht: &[u64],
+    order: &[u16],
+    g: usize,
+    vo: &[u64],
+    vt: &[u64],
+    x: usize,
+    e: usize,
+) -> bool
+    requires { ⌜ Rows (now ones) (now twos) rows w × Rows (now ho) (now ht) r w × Row (now vo) (now vt) ⌝ }
+    requires { ⌜ Order (length (now order)) (now order) ⌝ }
+    requires { ⌜ (length (now ones) ≤ 4294967296) × (w ≤ 65536) × (length (now order) ≤ 64 * w) × (r + g ≤ length (now order)) × (length (now order) - r ≤ 64 * length (now vo)) ⌝ }
+    requires { ⌜ (r ≤ x) × (x < rows) × (r ≤ e) × (e < rows) × (x ≢ e) ⌝ }
+    requires { ⌜ Ends (length (now order)) (matrixAt w (now ones) (now twos) x) × (matrixAt w (now ones) (now twos) e ≡ zeros) ⌝ }
+    ensures { λ t. ⌜ t ≡ eqb (rank r (length (now (order .entry))) (matrixAt w (now (ho .entry)) (now (ht .entry))) (take (r + g) (now (order .entry)))) r ⌝ }
+    ensures { λ _. ⌜ Rows (now (ones .exit)) (now (twos .exit)) rows w ⌝ }
+    ensures { λ t. ⌜ SolvedWhere t r x e (matrixAt w (now (ones .entry)) (now (twos .entry))) (matrixAt w (now (ones .exit)) (now (twos .exit)))
+        (wordV r (length (now (order .entry))) (matrixAt w (now (ho .entry)) (now (ht .entry))) (now (order .entry)) g (tritAt (now (vo .entry)) (now (vt .entry)))
+        (matrixAt w (now (ones .entry)) (now (twos .entry)) x)) ⌝ }
+{
+    let first = r + g;
+    if draw_reduce::reduce::reduce(ones, twos, rows, w, r, ho, ht, order, first) != r {
+        return false;
+    }
+    walk::supply(ones, twos, rows, w, r, order, order.len(), vo, vt, e);
+    grid::two_rows::sub_rows(ones, twos, rows, w, x, e);
+    walk::solve_pivots(ones, twos, rows, w, r, order, first, x, e);
+    true
+}
+
+// U: the first part's places that are no pivot take the first values, the last part is forced by row ev or takes the others, and the pivots likewise.
+pub fn draw_u(
+    ones: &mut [u64],
+    twos: &mut [u64],
+    rows: usize,
+    w: usize,
+    r: usize,
+    ho: &[u64],
+    ht: &[u64],
+    order: &[u16],
+    g: usize,
+    bo: &[u64],
+    bt: &[u64],
+    co: &[u64],
+    ct: &[u64],
+    uo: &[u64],
+    ut: &[u64],
+    ev: usize,
+    x: usize,
+    e: usize,
+) -> bool
+    requires { ⌜ Rows (now ones) (now twos) rows w × Rows (now ho) (now ht) r w ⌝ }
+    requires { ⌜ Row (now bo) (now bt) × Row (now co) (now ct) × Row (now uo) (now ut) ⌝ }
+    requires { ⌜ Order (length (now order)) (now order) ⌝ }
+    requires { ⌜ (length (now ones) ≤ 4294967296) × (w ≤ 65536) × (length (now order) ≤ 64 * w) × (r + g ≤ length (now order)) × (length (now order) - r ≤ 64 * length (now uo)) ⌝ }
+    requires { ⌜ (length (now order) ≤ 64 * length (now bo)) × (length (now order) ≤ 64 * length (now co)) ⌝ }
+    requires { ⌜ (r ≤ x) × (x < rows) × (r ≤ e) × (e < rows) × (x ≢ e) × (r ≤ ev) × (ev < rows) × (ev ≢ e) ⌝ }
+    requires { ⌜ Ends (length (now order)) (matrixAt w (now ones) (now twos) x) × (matrixAt w (now ones) (now twos) e ≡ zeros) ⌝ }
+    ensures { λ t. ⌜ t ≡ eqb (rank r (length (now (order .entry))) (matrixAt w (now (ho .entry)) (now (ht .entry))) (take (r + g) (now (order .entry)))) r ⌝ }
+    ensures { λ _. ⌜ Rows (now (ones .exit)) (now (twos .exit)) rows w ⌝ }
+    ensures { λ t. ⌜ SolvedWhere t r x e (matrixAt w (now (ones .entry)) (now (twos .entry))) (matrixAt w (now (ones .exit)) (now (twos .exit)))
+        (wordU r (length (now (order .entry))) (matrixAt w (now (ho .entry)) (now (ht .entry))) (tritAt (now (bo .entry)) (now (bt .entry))) (tritAt (now (co .entry)) (now (ct .entry)))
+        (now (order .entry)) g (tritAt (now (uo .entry)) (now (ut .entry))) (matrixAt w (now (ones .entry)) (now (twos .entry)) ev) (matrixAt w (now (ones .entry)) (now (twos .entry)) x)) ⌝ }
+{
+    let first = r + g;
+    if draw_reduce::reduce::reduce(ones, twos, rows, w, r, ho, ht, order, first) != r {
+        return false;
+    }
+    walk::supply(ones, twos, rows, w, r, order, first, uo, ut, e);
+    walk::supply_forced(
+        ones,
+        twos,
+        rows,
+        w,
+        order,
+        first,
+        bo,
+        bt,
+        co,
+        ct,
+        uo,
+        ut,
+        g,
+        ev,
+        e,
+    );
+    grid::two_rows::sub_rows(ones, twos, rows, w, x, e);
+    walk::solve_pivots(ones, twos, rows, w, r, order, first, x, e);
+    true
+}

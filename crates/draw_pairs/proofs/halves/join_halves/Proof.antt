@@ -1,0 +1,40 @@
+-- b·e_V is added to e_U, which is e_L, and c·e_L to e_V (`joined-grid`; what the rows are: `joined-left`, `joined-right`).
+-- Assumes nothing.
+use mathlib.Core.Path.{sym}
+use borrow.Author.Needs.{needs}
+use denote.Ref.{now}
+use Rattle.trits.specs.Planes.{tritAt}
+use Rattle.draw_pairs.proofs.PlacedHalves.{joined-grid}
+use Rattle.draw_pairs.proofs.halves.join_halves.Statement.{statement}
+use Rattle.draw_pairs.proofs.halves.join_halves.Tie as tie
+
+add-product-requires : tie.Need-add-product-requires
+add-product-requires c κs =
+    let s = c .before .before .before .before .before .before .before .before in
+    let p = s .pre .1 .1 in
+    (s .pre .0, (s .pre .1 .0 .0, (p .0, p .1, p .2, λ z. p .4 (sym z), p .3, p .5)))
+
+add-product-requires-2 : tie.Need-add-product-requires-2
+add-product-requires-2 c κs =
+    let s = c .before .before .before .before .before .before .before .before .before .before .before .before .before .before .before in
+    let p = s .pre .1 .1 in
+    (c .before .before .before .before .before .before .add-product .ensures .rows, (s .pre .1 .0 .1, (p .1, p .0, p .2, λ z. p .3 (sym z), p .4, p .6)))
+
+same-length : tie.Need-same-length
+same-length c =
+    search needs
+
+same-length-2 : tie.Need-same-length-2
+same-length-2 c =
+    search needs
+
+returns : tie.Need-returns
+returns c =
+    let s = c .before .before .before .before .before .before .before .before .before .before .before .before .before .before .before .before .before .before .before .before in
+    let a = s .args in
+    joined-grid (a .w) (now (a .ones)) (now (a .twos)) (tritAt (now (a .bo)) (now (a .bt))) (tritAt (now (a .co)) (now (a .ct))) (a .u) (a .v) (a .t) (c .before .before .before .before .before .before .before .before .before .before .before .add-product .ensures) (c .before .before .before .before .add-product2 .ensures)
+
+pub join-halves-spec : {M : Type 1} → statement M
+join-halves-spec =
+    tie.close
+    (tie.spec add-product-requires add-product-requires-2 same-length same-length-2 returns)

@@ -1,0 +1,55 @@
+-- c·L is taken from R, which is x_V, and b·x_V from L (`parted-grid`; what the rows are: `parted-left`, `parted-right`).
+-- Assumes nothing.
+use native.Mathlib.Omega.{arith}
+use borrow.Author.Needs.{needs}
+use denote.Ref.{now}
+use Rattle.trits.specs.Planes.{tritAt}
+use Rattle.draw_pairs.proofs.PlacedHalves.{parted-grid}
+use Rattle.draw_pairs.proofs.halves.part_halves.Statement.{statement}
+use Rattle.draw_pairs.proofs.halves.part_halves.Tie as tie
+
+add-r : tie.Need-add-r
+add-r c =
+    omega arith
+
+add-t : tie.Need-add-t
+add-t c =
+    omega arith
+
+sub-product-requires : tie.Need-sub-product-requires
+sub-product-requires c κs =
+    let s = c .before .before .before .before .before .before .before .before in
+    let p = s .pre .1 .1 .0 in
+    (s .pre .0, (s .pre .1 .0 .1, (omega arith, omega arith, omega arith, λ z. omega arith, λ z. omega arith, s .pre .1 .1 .2)))
+
+sub-product-requires-2 : tie.Need-sub-product-requires-2
+sub-product-requires-2 c κs =
+    let s = c .before .before .before .before .before .before .before .before .before .before .before .before .before .before .before in
+    let p = s .pre .1 .1 .0 in
+    (c .before .before .before .before .before .before .sub-product .ensures .rows, (search needs, (omega arith, omega arith, omega arith, λ z. omega arith, λ z. omega arith, search needs)))
+
+same-length : tie.Need-same-length
+same-length c =
+    search needs
+
+same-length-2 : tie.Need-same-length-2
+same-length-2 c =
+    search needs
+
+returns : tie.Need-returns
+returns c =
+    let s = c .before .before .before .before .before .before .before .before .before .before .before .before .before .before .before .before .before .before .before .before in
+    let a = s .args in
+    parted-grid (a .w) (now (a .ones)) (now (a .twos)) (tritAt (now (a .bo)) (now (a .bt))) (tritAt (now (a .co)) (now (a .ct))) (a .l) (c .before .before .before .before .before .before .before .before .before .before .before .sub-product .ensures) (c .before .before .before .before .sub-product2 .ensures)
+
+pub part-halves-spec : {M : Type 1} → statement M
+part-halves-spec =
+    tie.close
+    (tie.spec
+    add-r
+    add-t
+    sub-product-requires
+    sub-product-requires-2
+    same-length
+    same-length-2
+    returns)

@@ -1,0 +1,112 @@
+-- Each turn puts one more trit of y at its place of the order (`place-turn`); where an order lists each place once, no trit is put over another.
+-- Assumes nothing.
+use Prim.Native.Nat.{_+_, _-_, _≤_}
+use mathlib.Core.Path.{refl}
+use native.Mathlib.Omega.{arith}
+use denote.Ref.{now}
+use Rattle.trits.specs.Rows.{matrixAt}
+use Rattle.trits.specs.Planes.{tritAt}
+use Rattle.matrix.specs.Linear.{zeros}
+use Rattle.grid.specs.Grid.{Grid}
+use Rattle.grid.proofs.RowParts.{read-lt, read-trit}
+use Rattle.scheme.specs.Draw.{placed}
+use Rattle.scheme.specs.Secret.{join}
+use Rattle.draw_pairs.specs.Halves.{placedRows}
+use Rattle.draw_pairs.proofs.PlacedHalves.{order-below, place-begun, place-turn, place-done}
+use Rattle.draw_pairs.proofs.places.place_syndrome.Statement.{statement}
+use Rattle.draw_pairs.proofs.places.place_syndrome.Tie as tie
+
+abbrev Inv-loop : tie.InvT-loop
+Inv-loop ones₀ twos₀ rows w l half p count yo yt r i₀ ones twos i = (i ≤ count) × Grid ones twos rows w (placedRows l half (placed p (join i (tritAt yo yt) zeros)) (matrixAt w ones₀ twos₀))
+
+abbrev μ-loop : tie.MeasureT-loop
+μ-loop ones₀ twos₀ rows w l half p count yo yt r i₀ ones twos i = count - i
+
+add-r : tie.Need-add-r Inv-loop μ-loop
+add-r c =
+    omega (arith, c .before .before .before .before .before .pre .1 .1 .1 .0 .1)
+
+loop-holds : tie.Need-loop-holds Inv-loop μ-loop
+loop-holds c =
+    let s = c .before .before .before .before .before in
+    let a = s .args in
+    (omega arith, place-begun (a .l) (a .half) (now (a .p)) (s .pre .1 .1 .0) (tritAt (now (a .yo)) (now (a .yt))) (matrixAt (a .w) (now (a .ones)) (now (a .twos))) (s .pre .0) refl (s .pre .1 .0 .0) (s .pre .1 .0 .1))
+
+mul-q : tie.Need-mul-q Inv-loop μ-loop
+mul-q c =
+    let s = c .before .before .before .before .before .before .before in
+    omega (arith, s .pre .1 .1 .0 .size, s .pre .1 .1 .1 .1 .0)
+
+shared-slice-read-q : tie.Need-shared-slice-read-q Inv-loop μ-loop
+shared-slice-read-q c =
+    let s = c .before .before .before .before .before .before .before .before in
+    omega (arith, s .pre .1 .1 .0 .size, s .pre .1 .1 .1 .1 .0)
+
+cast-q : tie.Need-cast-q Inv-loop μ-loop
+cast-q c =
+    let l = c .before .before .loop in
+    omega (arith, c .shared-slice-known4 .given (l .i))
+
+trit-at-requires : tie.Need-trit-at-requires Inv-loop μ-loop
+trit-at-requires c κs =
+    let s = c .before .before .before .before .before .before .before .before in
+    (s .pre .1 .1 .1 .1 .2, omega (arith, s .pre .1 .1 .1 .1 .1))
+
+put-place-requires : tie.Need-put-place-requires Inv-loop μ-loop
+put-place-requires c κs =
+    let s = c .before .before .before .before .before .before .before .before .before .before .before in
+    let a = s .args in
+    let l = c .before .before .before .before .before .loop in
+    let p = s .pre .1 .1 .1 .0 in
+    let q = order-below (a .half + a .half) (now (a .p)) (s .pre .1 .1 .0) (l .i) (omega (arith, s .pre .1 .1 .1 .1 .0)) in
+    (l .inv .1 .rows, (omega (arith, l .inv .1 .rows .size, s .pre .0 .size, p .0), omega (arith, p .1), omega (arith, p .1), p .2, q, read-lt _ _ _ _ (c .before .before .trit-at .ensures)))
+
+add-i : tie.Need-add-i Inv-loop μ-loop
+add-i c =
+    omega arith
+
+loop-less : tie.Need-loop-less Inv-loop μ-loop
+loop-less c =
+    omega arith
+
+loop-again : tie.Need-loop-again Inv-loop μ-loop
+loop-again c =
+    let s = c .before .before .before .before .before .before .before .before .before .before .before .before .before .before .before .before in
+    let a = s .args in
+    let l = c .before .before .before .before .before .before .before .before .before .before .loop in
+    (omega arith, place-turn (a .l) (a .half) (now (a .p)) (s .pre .1 .1 .0) (tritAt (now (a .yo)) (now (a .yt))) (matrixAt (a .w) (now (a .ones)) (now (a .twos))) (l .i) (c .before .before .before .before .before .before .before .trit-at .result) (omega (arith, s .pre .1 .1 .1 .1 .0)) (l .inv .1) (read-trit _ _ (c .before .before .before .before .before .before .before .trit-at .ensures)) (c .before .before .before .before .put-place .ensures))
+
+same-length : tie.Need-same-length Inv-loop μ-loop
+same-length c =
+    omega (arith, c .before .loop .inv .1 .rows .size, c .before .before .before .before .before .before .before .pre .0 .size)
+
+same-length-2 : tie.Need-same-length-2 Inv-loop μ-loop
+same-length-2 c =
+    omega (arith, c .before .loop .inv .1 .rows .size, c .before .loop .inv .1 .rows .row .same, c .before .before .before .before .before .before .before .pre .0 .size, c .before .before .before .before .before .before .before .pre .0 .row .same)
+
+returns : tie.Need-returns Inv-loop μ-loop
+returns c =
+    let s = c .before .before .before .before .before .before .before in
+    let a = s .args in
+    let l = c .before .loop in
+    place-done (a .l) (a .half) (now (a .p)) (s .pre .1 .1 .0) (tritAt (now (a .yo)) (now (a .yt))) (matrixAt (a .w) (now (a .ones)) (now (a .twos))) (l .i) (a .count) (omega arith) (l .inv .1)
+
+pub place-syndrome-spec : {M : Type 1} → statement M
+place-syndrome-spec =
+    tie.close
+    (tie.spec
+    Inv-loop
+    μ-loop
+    add-r
+    loop-holds
+    mul-q
+    shared-slice-read-q
+    cast-q
+    trit-at-requires
+    put-place-requires
+    add-i
+    loop-less
+    loop-again
+    same-length
+    same-length-2
+    returns)

@@ -1,0 +1,61 @@
+-- Each branch puts the trit into the row of its half (`put-low`, `put-high`).
+-- Assumes nothing.
+use native.Mathlib.Omega.{arith}
+use borrow.Author.Needs.{needs}
+use denote.Ref.{now}
+use Rattle.trits.specs.Rows.{matrixAt}
+use Rattle.trits.specs.Trit.{tritOf}
+use Rattle.draw_pairs.proofs.PlacedHalves.{put-low, put-high}
+use Rattle.draw_pairs.proofs.places.put_place.Statement.{statement}
+use Rattle.draw_pairs.proofs.places.put_place.Tie as tie
+
+put-at-requires : tie.Need-put-at-requires
+put-at-requires c κs =
+    let s = c .before .before .before .before .before in
+    let p = s .pre .1 in
+    (s .pre .0, (p .0, p .1, omega (arith, p .3, c .before .before .if1 .taken), p .5))
+
+put-at-requires-2 : tie.Need-put-at-requires-2
+put-at-requires-2 c κs =
+    let s = c .before .before .before .before .before in
+    let p = s .pre .1 in
+    (s .pre .0, (p .0, p .2, omega (arith, p .3, p .4, c .before .before .if1 .left), p .5))
+
+same-length : tie.Need-same-length
+same-length c =
+    search needs
+
+same-length-2 : tie.Need-same-length-2
+same-length-2 c =
+    search needs
+
+returns : tie.Need-returns
+returns c =
+    let a = c .before .before .before .before .before .before .before .before .before .before .args in
+    put-low (a .u) (a .v) (a .half) (a .q) (tritOf (a .t)) (matrixAt (a .w) (now (a .ones)) (now (a .twos))) (c .before .before .before .before .before .before .before .if1 .taken) (c .before .before .before .before .put-at .ensures)
+
+same-length-3 : tie.Need-same-length-3
+same-length-3 c =
+    search needs
+
+same-length-4 : tie.Need-same-length-4
+same-length-4 c =
+    search needs
+
+returns-2 : tie.Need-returns-2
+returns-2 c =
+    let a = c .before .before .before .before .before .before .before .before .before .before .args in
+    put-high (a .u) (a .v) (a .half) (a .q) (tritOf (a .t)) (matrixAt (a .w) (now (a .ones)) (now (a .twos))) (omega (arith, c .before .before .before .before .before .before .before .if1 .left)) (c .before .before .before .before .put-at2 .ensures)
+
+pub put-place-spec : {M : Type 1} → statement M
+put-place-spec =
+    tie.close
+    (tie.spec
+    put-at-requires
+    put-at-requires-2
+    same-length
+    same-length-2
+    returns
+    same-length-3
+    same-length-4
+    returns-2)

@@ -1,0 +1,109 @@
+-- The row is lent as a part, multiplied, and comes back as row i (`mul-grid`).
+-- Assumes nothing.
+use Prim.Native.Nat.{_+_, _-_, _*_}
+use native.Mathlib.Omega.{arith}
+use borrow.Author.Needs.{needs}
+use denote.Ref.{now}
+use Rattle.trits.specs.Planes.{tritAt}
+use Rattle.trits.proofs.Parts.{length-mid, part-row}
+use Rattle.trits.proofs.Matrix.{row-le}
+use Rattle.draw_pairs.proofs.RowProducts.{mul-grid}
+use Rattle.draw_pairs.proofs.products.mul_by.Statement.{statement}
+use Rattle.draw_pairs.proofs.products.mul_by.Tie as tie
+
+mul-a : tie.Need-mul-a
+mul-a c =
+    let s = c .before .before .before .before in
+    let a = s .args in
+    omega (arith, row-le (a .w) {i = a .i} {m = a .rows} (s .pre .1 .1 .0), s .pre .0 .size, s .pre .0 .row .same)
+
+add-e : tie.Need-add-e
+add-e c =
+    let s = c .before .before .before .before in
+    let a = s .args in
+    omega (arith, row-le (a .w) {i = a .i} {m = a .rows} (s .pre .1 .1 .0), s .pre .0 .size, s .pre .0 .row .same)
+
+mul-mul-row : tie.Need-mul-mul-row
+mul-mul-row c =
+    let s = c .before .before .before .before in
+    let a = s .args in
+    omega (arith, row-le (a .w) {i = a .i} {m = a .rows} (s .pre .1 .1 .0), s .pre .0 .size, s .pre .0 .row .same)
+
+sub-mul-row : tie.Need-sub-mul-row
+sub-mul-row c =
+    search needs
+
+part-mul-row-start : tie.Need-part-mul-row-start
+part-mul-row-start c =
+    search needs
+
+part-mul-row-end : tie.Need-part-mul-row-end
+part-mul-row-end c =
+    let s = c .before .before .before .before in
+    let a = s .args in
+    omega (arith, row-le (a .w) {i = a .i} {m = a .rows} (s .pre .1 .1 .0), s .pre .0 .size, s .pre .0 .row .same)
+
+mul-mul-row-2 : tie.Need-mul-mul-row-2
+mul-mul-row-2 c =
+    let s = c .before .before .before .before .before in
+    let a = s .args in
+    omega (arith, row-le (a .w) {i = a .i} {m = a .rows} (s .pre .1 .1 .0), s .pre .0 .size, s .pre .0 .row .same)
+
+sub-mul-row-2 : tie.Need-sub-mul-row-2
+sub-mul-row-2 c =
+    search needs
+
+part-mul-row-start-2 : tie.Need-part-mul-row-start-2
+part-mul-row-start-2 c =
+    search needs
+
+part-mul-row-end-2 : tie.Need-part-mul-row-end-2
+part-mul-row-end-2 c =
+    let s = c .before .before .before .before .before in
+    let a = s .args in
+    omega (arith, row-le (a .w) {i = a .i} {m = a .rows} (s .pre .1 .1 .0), s .pre .0 .size, s .pre .0 .row .same)
+
+mul-row-requires : tie.Need-mul-row-requires
+mul-row-requires c κs =
+    let s = c .before .before .before .before .before .before in
+    let a = s .args in
+    let k = a .i * a .w + a .w - a .i * a .w in
+    let h = row-le (a .w) {i = a .i} {m = a .rows} (s .pre .1 .1 .0) in
+    let lo = length-mid (a .i * a .w) k (now (a .ones)) (omega (arith, h, s .pre .0 .size)) in
+    (part-row (s .pre .0 .row) (a .i * a .w) k (omega (arith, h, s .pre .0 .size)), (s .pre .1 .0, omega (arith, lo, s .pre .1 .1 .1)))
+
+same-length : tie.Need-same-length
+same-length c =
+    search needs
+
+same-length-2 : tie.Need-same-length-2
+same-length-2 c =
+    search needs
+
+returns : tie.Need-returns
+returns c =
+    let s = c .before .before .before .before .before .before .before .before .before .before .before in
+    let a = s .args in
+    let k = a .i * a .w + a .w - a .i * a .w in
+    let h = row-le (a .w) {i = a .i} {m = a .rows} (s .pre .1 .1 .0) in
+    let lo = length-mid (a .i * a .w) k (now (a .ones)) (omega (arith, h, s .pre .0 .size)) in
+    mul-grid (a .w) (a .i) (s .pre .0) (s .pre .1 .1 .0) k (tritAt (now (a .so)) (now (a .st))) (omega arith) lo (c .before .before .before .before .mul-row .ensures)
+
+pub mul-by-spec : {M : Type 1} → statement M
+mul-by-spec =
+    tie.close
+    (tie.spec
+    mul-a
+    add-e
+    mul-mul-row
+    sub-mul-row
+    part-mul-row-start
+    part-mul-row-end
+    mul-mul-row-2
+    sub-mul-row-2
+    part-mul-row-start-2
+    part-mul-row-end-2
+    mul-row-requires
+    same-length
+    same-length-2
+    returns)

@@ -1,0 +1,39 @@
+-- The row is handed out as a part, which holds the trits of row i (`handed-trits`).
+-- Assumes nothing.
+use Prim.Native.Nat.{ℕ, _*_}
+use mathlib.Core.Path.{ap₂, _∙_}
+use native.Mathlib.Omega.{arith}
+use Rattle.trits.specs.Trit.{weightV}
+use Rattle.matrix.specs.Linear.{Vector}
+use Rattle.grid.proofs.RowParts.{handed-row, handed-size, handed-trits}
+use Rattle.draw_pairs.proofs.weights.row_weight.Statement.{statement}
+use Rattle.draw_pairs.proofs.weights.row_weight.Tie as tie
+
+row-part-requires : tie.Need-row-part-requires
+row-part-requires c κs =
+    let s = c .before .before in
+    (s .pre .1 .0, s .pre .1 .1)
+
+row-part-requires-2 : tie.Need-row-part-requires-2
+row-part-requires-2 c κs =
+    let s = c .before .before .before in
+    (s .pre .1 .0, s .pre .1 .1)
+
+weight-requires : tie.Need-weight-requires
+weight-requires c κs =
+    let s = c .before .before .before .before in
+    let a = s .args in
+    let n = handed-size (a .rows) (a .w) (a .i) (s .pre .0) (s .pre .1 .2) (c .before .row-part .ensures) (c .row-part2 .ensures) in
+    (handed-row (a .rows) (a .w) (a .i) (s .pre .0) (s .pre .1 .2) (c .before .row-part .ensures) (c .row-part2 .ensures) .same, omega (arith, n, s .pre .1 .1))
+
+returns : tie.Need-returns
+returns c =
+    let s = c .before .before .before .before .before in
+    let a = s .args in
+    c .weight .ensures
+    ∙ ap₂ (λ (v : Vector) (n : ℕ). weightV v (64 * n)) (handed-trits (a .rows) (a .w) (a .i) (s .pre .0) (s .pre .1 .2) (c .before .before .row-part .ensures) (c .before .row-part2 .ensures))
+    (handed-size (a .rows) (a .w) (a .i) (s .pre .0) (s .pre .1 .2) (c .before .before .row-part .ensures) (c .before .row-part2 .ensures))
+
+pub row-weight-spec : {M : Type 1} → statement M
+row-weight-spec =
+    tie.close (tie.spec row-part-requires row-part-requires-2 weight-requires returns)

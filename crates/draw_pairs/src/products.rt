@@ -1,0 +1,110 @@
+// A row of a grid times a lent row, place by place.
+ghost use mathlib.Core.Path.{_≡_};
+ghost use mathlib.Core.Logic.{_≢_};
+ghost use Prim.Native.Nat.{_<_};
+ghost use lib.ListN.{length};
+ghost use Rattle.trits.specs.Trit.{addT, subT, mulT, zipV};
+ghost use Rattle.trits.specs.Planes.{tritAt, Row};
+ghost use Rattle.trits.specs.Rows.{matrixAt};
+ghost use Rattle.matrix.specs.Linear.{zeros};
+ghost use Rattle.grid.specs.Grid.{Rows, Grid, putRow};
+ghost use Rattle.draw_pairs.specs.Halves.{joinProduct};
+
+// Row i becomes 0.
+pub fn zero_row(ones: &mut [u64], twos: &mut [u64], rows: usize, w: usize, i: usize)
+    requires { ⌜ Rows (now ones) (now twos) rows w ⌝ }
+    requires { ⌜ i < rows ⌝ }
+    ensures { λ _. ⌜ Grid (now (ones .exit)) (now (twos .exit)) rows w (putRow i zeros (matrixAt w (now (ones .entry)) (now (twos .entry)))) ⌝ }
+{
+    let a = i * w;
+    let e = a + w;
+    planes::words::zero_words(&mut ones[a..e]);
+    planes::words::zero_words(&mut twos[a..e]);
+}
+
+// Row i is multiplied by the source: its part of the planes is lent.
+pub fn mul_by(
+    ones: &mut [u64],
+    twos: &mut [u64],
+    rows: usize,
+    w: usize,
+    i: usize,
+    so: &[u64],
+    st: &[u64],
+)
+    requires { ⌜ Rows (now ones) (now twos) rows w ⌝ }
+    requires { ⌜ Row (now so) (now st) ⌝ }
+    requires { ⌜ (i < rows) × (length (now so) ≡ w) ⌝ }
+    ensures { λ _. ⌜ Grid (now (ones .exit)) (now (twos .exit)) rows w
+        (putRow i (zipV mulT (matrixAt w (now (ones .entry)) (now (twos .entry)) i) (tritAt (now (so .entry)) (now (st .entry)))) (matrixAt w (now (ones .entry)) (now (twos .entry)))) ⌝ }
+{
+    let a = i * w;
+    let e = a + w;
+    rows::mul_row(&mut ones[a..e], &mut twos[a..e], so, st);
+}
+
+// Row t becomes row i times the source.
+pub fn put_product(
+    ones: &mut [u64],
+    twos: &mut [u64],
+    rows: usize,
+    w: usize,
+    t: usize,
+    i: usize,
+    so: &[u64],
+    st: &[u64],
+)
+    requires { ⌜ Rows (now ones) (now twos) rows w ⌝ }
+    requires { ⌜ Row (now so) (now st) ⌝ }
+    requires { ⌜ (t < rows) × (i < rows) × (t ≢ i) × (length (now so) ≡ w) ⌝ }
+    ensures { λ _. ⌜ Grid (now (ones .exit)) (now (twos .exit)) rows w
+        (putRow t (zipV mulT (matrixAt w (now (ones .entry)) (now (twos .entry)) i) (tritAt (now (so .entry)) (now (st .entry)))) (matrixAt w (now (ones .entry)) (now (twos .entry)))) ⌝ }
+{
+    zero_row(ones, twos, rows, w, t);
+    grid::two_rows::add_rows(ones, twos, rows, w, t, i);
+    mul_by(ones, twos, rows, w, t, so, st);
+}
+
+// Row i times the source is added to row a, through row t.
+pub fn add_product(
+    ones: &mut [u64],
+    twos: &mut [u64],
+    rows: usize,
+    w: usize,
+    a: usize,
+    i: usize,
+    t: usize,
+    so: &[u64],
+    st: &[u64],
+)
+    requires { ⌜ Rows (now ones) (now twos) rows w ⌝ }
+    requires { ⌜ Row (now so) (now st) ⌝ }
+    requires { ⌜ (a < rows) × (i < rows) × (t < rows) × (t ≢ i) × (a ≢ t) × (length (now so) ≡ w) ⌝ }
+    ensures { λ _. ⌜ Grid (now (ones .exit)) (now (twos .exit)) rows w
+        (joinProduct addT a i t (tritAt (now (so .entry)) (now (st .entry))) (matrixAt w (now (ones .entry)) (now (twos .entry)))) ⌝ }
+{
+    put_product(ones, twos, rows, w, t, i, so, st);
+    grid::two_rows::add_rows(ones, twos, rows, w, a, t);
+}
+
+// Row i times the source is subtracted from row a, through row t.
+pub fn sub_product(
+    ones: &mut [u64],
+    twos: &mut [u64],
+    rows: usize,
+    w: usize,
+    a: usize,
+    i: usize,
+    t: usize,
+    so: &[u64],
+    st: &[u64],
+)
+    requires { ⌜ Rows (now ones) (now twos) rows w ⌝ }
+    requires { ⌜ Row (now so) (now st) ⌝ }
+    requires { ⌜ (a < rows) × (i < rows) × (t < rows) × (t ≢ i) × (a ≢ t) × (length (now so) ≡ w) ⌝ }
+    ensures { λ _. ⌜ Grid (now (ones .exit)) (now (twos .exit)) rows w
+        (joinProduct subT a i t (tritAt (now (so .entry)) (now (st .entry))) (matrixAt w (now (ones .entry)) (now (twos .entry)))) ⌝ }
+{
+    put_product(ones, twos, rows, w, t, i, so, st);
+    grid::two_rows::sub_rows(ones, twos, rows, w, a, t);
+}

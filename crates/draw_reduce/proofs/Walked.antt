@@ -1,0 +1,362 @@
+-- The walk along an order in the matrix that elimination leaves finds the pivots again, and passes over the other places. Assumes nothing.
+use mathlib.Core.Path.{_≡_, refl, sym, ap, ap₂, _∙_, subst, fun-ext}
+use mathlib.Core.Bool.{Bool, true, false, cond, _&&_, and-false}
+use mathlib.Core.List.{List, [], _∷_, _++_, append-assoc, append-nil}
+use Prim.Native.Nat.{ℕ, suc, _+_, _≤_, _<_}
+use native.Mathlib.Decide.{decLt}
+use native.Mathlib.Omega.{arith}
+use borrow.Author.Tests.{eq-eqb, ne-eqb, eqb-true, eqb-false, lt-ltb, le-ltb}
+use lib.Dec.{eqb, ltb}
+use lib.ListN.{length, take, drop, take-append-drop}
+use Rattle.trits.specs.Trit.{Trit, t0, t1, subT, mulT, isSet, putV, dotV}
+use Rattle.trits.proofs.Arithmetic.{add-zero-r, mul-assoc, add-neg}
+use Rattle.matrix.specs.Linear.{Vector, Matrix, zeros, times, elem, pivots, rank, without}
+use Rattle.matrix.specs.Orders.{Distinct, Order}
+use Rattle.matrix.specs.Eliminate.{swapRows, clearRows, pivotRow, hasPivot, stepOf, Stage, tried, eliminate, eliminated, begun}
+use Rattle.matrix.proofs.Field.{mul-zero, mul-one, square}
+use Rattle.matrix.proofs.Dots.{put-same, put-other}
+use Rattle.matrix.proofs.Places.{Below, or-false-left, or-false-right, or-none}
+use Rattle.matrix.proofs.Orders.{order-good}
+use Rattle.matrix.proofs.Greedy.{pivots-kept}
+use Rattle.matrix.proofs.Elimination.{Reduced, reduced-cong}
+use Rattle.matrix.proofs.Steps.{has-row, has-none, step-has, step-none}
+use Rattle.matrix.proofs.Kept.{tried-cells, tried-kept, tried-count, eliminate-pivots, eliminated-reduced}
+use Rattle.scheme.proofs.Draws.{parts, first-below}
+use Rattle.draw_reduce.specs.Walk.{over, isNext, taken, passed}
+
+-- ---- what one step leaves of a column
+
+-- the rows of A from c on have 0 at q
+abbrev pub ZeroFrom : ℕ → ℕ → Matrix → ℕ → Type 0
+ZeroFrom r c A q = (i : ℕ) → c ≤ i → i < r → A i q ≡ t0
+
+module _ (r at p : ℕ) (A : Matrix) (e : hasPivot r at p A ≡ true) where
+  abbrev moved : Matrix
+  moved = swapRows at (pivotRow r A p at) A
+
+  moved-set : isSet (moved at p) ≡ true
+  moved-set = rw (eq-eqb at at refl) (has-row r at p A e .2)
+
+  -- a column that has a pivot becomes a unit column
+  step-unit : (i : ℕ) → stepOf r at p A i p ≡ putV zeros at t1 i
+  step-unit i = ap (λ (B : Matrix). B i p) (step-has r at p A e) ∙ go (eqb i at) refl
+    where
+      go : (s : Bool) → eqb i at ≡ s → clearRows at p moved i p ≡ putV zeros at t1 i
+      go true k = rw k (square (moved at p) moved-set)
+      go false k =
+          ap (λ (s : Bool). cond s (mulT (moved at p) (moved at p)) (subT (moved i p) (mulT (mulT (moved i p) (moved at p)) (moved at p)))) k
+          ∙ ap (subT (moved i p)) (mul-assoc (moved i p) (moved at p) (moved at p) ∙ ap (mulT (moved i p)) (square (moved at p) moved-set) ∙ mul-one (moved i p))
+          ∙ add-neg (moved i p) ∙ sym (put-other zeros at t1 i (eqb-false i at k))
+
+  -- exchanged rows have 0 at q, so the column there stays
+  moved-keep : (q : ℕ) → ZeroFrom r at A q → (i : ℕ) → moved i q ≡ A i q
+  moved-keep q z i = go (eqb i at) refl (eqb i (pivotRow r A p at)) refl
+    where
+      f : (at ≤ pivotRow r A p at) × (pivotRow r A p at < r) × (isSet (A (pivotRow r A p at) p) ≡ true)
+      f = has-row r at p A e
+
+      here : A at q ≡ t0
+      here = z at (omega arith) (omega (arith, f .0, f .1))
+
+      there : A (pivotRow r A p at) q ≡ t0
+      there = z (pivotRow r A p at) (f .0) (f .1)
+
+      go : (s : Bool) → eqb i at ≡ s → (t : Bool) → eqb i (pivotRow r A p at) ≡ t → moved i q ≡ A i q
+      go true k t l = rw k (there ∙ sym here ∙ ap (λ (x : ℕ). A x q) (sym (eqb-true i at k)))
+      go false k true l = rw (k, l) (here ∙ sym there ∙ ap (λ (x : ℕ). A x q) (sym (eqb-true i (pivotRow r A p at) l)))
+      go false k false l = rw (k, l)
+
+  stepped-keep : (q : ℕ) → ZeroFrom r at A q → (i : ℕ) → clearRows at p moved i q ≡ A i q
+  stepped-keep q z i = go (eqb i at) refl
+    where
+      f : (at ≤ pivotRow r A p at) × (pivotRow r A p at < r) × (isSet (A (pivotRow r A p at) p) ≡ true)
+      f = has-row r at p A e
+
+      here : A at q ≡ t0
+      here = z at (omega arith) (omega (arith, f .0, f .1))
+
+      none : moved at q ≡ t0
+      none = moved-keep q z at ∙ here
+
+      go : (s : Bool) → eqb i at ≡ s → clearRows at p moved i q ≡ A i q
+      go true k = rw k (ap (mulT (moved at p)) none ∙ mul-zero (moved at p) ∙ sym here ∙ ap (λ (x : ℕ). A x q) (sym (eqb-true i at k)))
+      go false k =
+          ap (λ (s : Bool). cond s (mulT (moved at p) (moved at q)) (subT (moved i q) (mulT (mulT (moved i p) (moved at p)) (moved at q)))) k
+          ∙ ap (λ (x : Trit). subT (moved i q) (mulT (mulT (moved i p) (moved at p)) x)) none
+          ∙ ap (subT (moved i q)) (mul-zero (mulT (moved i p) (moved at p))) ∙ add-zero-r (moved i q) ∙ moved-keep q z i
+
+-- a step leaves a column whose rows from `at` on are 0
+step-keep : (r at p : ℕ) (A : Matrix) (q : ℕ) → ZeroFrom r at A q → (i : ℕ) → stepOf r at p A i q ≡ A i q
+step-keep r at p A q z i = go (hasPivot r at p A) refl
+  where
+    go : (s : Bool) → hasPivot r at p A ≡ s → stepOf r at p A i q ≡ A i q
+    go true e = ap (λ (B : Matrix). B i q) (step-has r at p A e) ∙ stepped-keep r at p A e q z i
+    go false e = ap (λ (B : Matrix). B i q) (step-none r at p A e)
+
+-- ---- the columns that are done stay
+
+-- as many places are kept as before, or one more
+tried-more : (r p : ℕ) (s : Stage) → length (s .kept) ≤ length (tried r p s .kept)
+tried-more r p s = subst (λ (k : ℕ). length (s .kept) ≤ k) (sym (tried-count r p s)) (by (hasPivot r (length (s .kept)) p (s .cells)))
+  where
+    by : (t : Bool) → length (s .kept) ≤ cond t (suc (length (s .kept))) (length (s .kept))
+    by true = omega arith
+    by false = omega arith
+
+-- what is tried later leaves a column whose rows past the kept places are 0
+later-keep : (r : ℕ) (ps : List ℕ) (s : Stage) (q : ℕ) → ZeroFrom r (length (s .kept)) (s .cells) q → (i : ℕ) → eliminate r ps s .cells i q ≡ s .cells i q
+unfolding eliminate
+later-keep r [] s q z i = refl
+later-keep r (p ∷ ps) s q z i =
+    later-keep r ps (tried r p s) q (λ k a b. same k ∙ z k (omega (arith, a, tried-more r p s)) b) i ∙ same i
+  where
+    same : (k : ℕ) → tried r p s .cells k q ≡ s .cells k q
+    same k = ap (λ (B : Matrix). B k q) (tried-cells r p s) ∙ step-keep r (length (s .kept)) p (s .cells) q z k
+
+-- ---- the walk, place after place
+
+module _ (r : ℕ) (A : Matrix) (c q : ℕ) (qs : List ℕ) where
+  pub taken-next : isNext r A c q ≡ true → taken r A c (q ∷ qs) ≡ q ∷ taken r A (suc c) qs
+  unfolding taken
+  taken-next e = ap (λ (t : Bool). cond t (q ∷ taken r A (suc c) qs) (taken r A c qs)) e
+
+  pub taken-not : isNext r A c q ≡ false → taken r A c (q ∷ qs) ≡ taken r A c qs
+  unfolding taken
+  taken-not e = ap (λ (t : Bool). cond t (q ∷ taken r A (suc c) qs) (taken r A c qs)) e
+
+  pub passed-next : isNext r A c q ≡ true → passed r A c (q ∷ qs) ≡ passed r A (suc c) qs
+  unfolding passed
+  passed-next e = ap (λ (t : Bool). cond t (passed r A (suc c) qs) (q ∷ passed r A c qs)) e
+
+  pub passed-not : isNext r A c q ≡ false → passed r A c (q ∷ qs) ≡ q ∷ passed r A c qs
+  unfolding passed
+  passed-not e = ap (λ (t : Bool). cond t (passed r A (suc c) qs) (q ∷ passed r A c qs)) e
+
+module _ (r : ℕ) (A : Matrix) (c q : ℕ) where
+  next-set : c < r → isSet (A c q) ≡ true → isNext r A c q ≡ true
+  next-set h e = ap₂ _&&_ (lt-ltb c r h) e
+
+  next-unset : (c < r → A c q ≡ t0) → isNext r A c q ≡ false
+  next-unset f = by (decLt c r)
+    where
+      by : Dec (c < r) → isNext r A c q ≡ false
+      by (yes h) = ap (λ (x : Trit). ltb c r && isSet x) (f h) ∙ and-false (ltb c r)
+      by (no h) = ap (λ (t : Bool). t && isSet (A c q)) (le-ltb c r (omega arith))
+
+-- the place q is tried, then the places qs
+module _ (r q : ℕ) (qs : List ℕ) (s : Stage) where
+  abbrev at : ℕ
+  at = length (s .kept)
+
+  abbrev next : Stage
+  next = tried r q s
+
+  abbrev end : Matrix
+  end = eliminate r qs (tried r q s) .cells
+
+  module _ (e : hasPivot r at q (s .cells) ≡ true) where
+    kept-one : next .kept ≡ s .kept ++ (q ∷ [])
+    kept-one = tried-kept r q s ∙ ap (λ (t : Bool). cond t (s .kept ++ (q ∷ [])) (s .kept)) e
+
+    count-one : length (next .kept) ≡ suc at
+    count-one = tried-count r q s ∙ ap (λ (t : Bool). cond t (suc at) at) e
+
+    unit : (i : ℕ) → next .cells i q ≡ putV zeros at t1 i
+    unit i = ap (λ (B : Matrix). B i q) (tried-cells r q s) ∙ step-unit r at q (s .cells) e i
+
+    end-one : end at q ≡ t1
+    end-one =
+        later-keep r qs next q (λ i a b. unit i ∙ put-other zeros at t1 i (λ z. omega (arith, a, z, count-one))) at
+        ∙ unit at ∙ put-same zeros at t1
+
+    walk-one : taken r end at (q ∷ qs) ≡ q ∷ taken r end (length (next .kept)) qs
+    walk-one =
+        let f = has-row r at q (s .cells) e in
+        taken-next r end at q qs (next-set r end at q (omega (arith, f .0, f .1)) (ap isSet end-one))
+        ∙ ap (λ (k : ℕ). q ∷ taken r end k qs) (sym count-one)
+
+  module _ (e : hasPivot r at q (s .cells) ≡ false) where
+    kept-none : next .kept ≡ s .kept
+    kept-none = tried-kept r q s ∙ ap (λ (t : Bool). cond t (s .kept ++ (q ∷ [])) (s .kept)) e
+
+    count-none : length (next .kept) ≡ at
+    count-none = ap (λ (l : List ℕ). length l) kept-none
+
+    same : (i : ℕ) → next .cells i q ≡ s .cells i q
+    same i = ap (λ (B : Matrix). B i q) (tried-cells r q s ∙ step-none r at q (s .cells) e)
+
+    end-none : at < r → end at q ≡ t0
+    end-none h =
+        later-keep r qs next q (λ i a b. same i ∙ has-none r at q (s .cells) e i (omega (arith, a, count-none)) b) at
+        ∙ same at ∙ has-none r at q (s .cells) e at (omega arith) h
+
+    walk-none : taken r end at (q ∷ qs) ≡ taken r end (length (next .kept)) qs
+    walk-none = taken-not r end at q qs (next-unset r end at q end-none) ∙ ap (λ (k : ℕ). taken r end k qs) (sym count-none)
+
+-- the kept places and those that the walk then takes are the places kept in the end
+walk-kept : (r : ℕ) (ps : List ℕ) (s : Stage) → s .kept ++ taken r (eliminate r ps s .cells) (length (s .kept)) ps ≡ eliminate r ps s .kept
+unfolding eliminate taken
+walk-kept r [] s = append-nil (s .kept)
+walk-kept r (q ∷ qs) s = go (walk-kept r qs (tried r q s)) (hasPivot r (length (s .kept)) q (s .cells)) refl
+  where
+    go : tried r q s .kept ++ taken r (eliminate r qs (tried r q s) .cells) (length (tried r q s .kept)) qs ≡ eliminate r qs (tried r q s) .kept
+        → (t : Bool) → hasPivot r (length (s .kept)) q (s .cells) ≡ t
+        → s .kept ++ taken r (eliminate r qs (tried r q s) .cells) (length (s .kept)) (q ∷ qs) ≡ eliminate r qs (tried r q s) .kept
+    go ih true e =
+        let rest : List ℕ = taken r (eliminate r qs (tried r q s) .cells) (length (tried r q s .kept)) qs in
+        ap (λ (l : List ℕ). s .kept ++ l) (walk-one r q qs s e)
+        ∙ sym (append-assoc (s .kept) (q ∷ []) rest) ∙ ap (λ (l : List ℕ). l ++ rest) (sym (kept-one r q qs s e)) ∙ ih
+    go ih false e =
+        let rest : List ℕ = taken r (eliminate r qs (tried r q s) .cells) (length (tried r q s .kept)) qs in
+        ap (λ (l : List ℕ). s .kept ++ l) (walk-none r q qs s e) ∙ ap (λ (l : List ℕ). l ++ rest) (sym (kept-none r q qs s e)) ∙ ih
+
+-- the walk along the places tried takes the pivots
+pub walk-taken : (r n : ℕ) (H : Matrix) (ps : List ℕ) → Below n ps → taken r (eliminated r H ps) 0 ps ≡ pivots r n H ps
+unfolding eliminated
+walk-taken r n H ps b = walk-kept r ps (begun H) ∙ eliminate-pivots r n H ps b
+
+-- ---- the places passed over are the others
+
+pub taken-within : (r : ℕ) (A : Matrix) (ps : List ℕ) (c p : ℕ) → elem p ps ≡ false → elem p (taken r A c ps) ≡ false
+unfolding taken
+taken-within r A [] c p h = refl
+taken-within r A (q ∷ qs) c p h = go (λ k. taken-within r A qs k p (or-false-right (eqb p q) (elem p qs) h)) (isNext r A c q)
+  where
+    go : ((k : ℕ) → elem p (taken r A k qs) ≡ false) → (t : Bool) → elem p (cond t (q ∷ taken r A (suc c) qs) (taken r A c qs)) ≡ false
+    go ih true = or-none (eqb p q) (elem p (taken r A (suc c) qs)) (or-false-left (eqb p q) (elem p qs) h) (ih (suc c))
+    go ih false = ih c
+
+-- a place that is not listed need not be taken out
+without-other : (p : ℕ) (qs ps : List ℕ) → elem p ps ≡ false → without (p ∷ qs) ps ≡ without qs ps
+unfolding without
+without-other p qs [] h = refl
+without-other p qs (q ∷ ps) h =
+    let f : eqb q p ≡ false = ne-eqb q p (λ z. eqb-false p q (or-false-left (eqb p q) (elem p ps) h) (sym z)) in
+    rw f (ap (λ (l : List ℕ). cond (elem q qs) l (q ∷ l)) (without-other p qs ps (or-false-right (eqb p q) (elem p ps) h)))
+
+pub passed-without : (r : ℕ) (A : Matrix) (ps : List ℕ) (c : ℕ) → Distinct ps → passed r A c ps ≡ without (taken r A c ps) ps
+unfolding passed taken without
+passed-without r A [] c d = refl
+passed-without r A (q ∷ qs) c d = go (λ k. passed-without r A qs k (d .1)) (isNext r A c q)
+  where
+    go : ((k : ℕ) → passed r A k qs ≡ without (taken r A k qs) qs) → (t : Bool)
+        → cond t (passed r A (suc c) qs) (q ∷ passed r A c qs) ≡ without (cond t (q ∷ taken r A (suc c) qs) (taken r A c qs)) (q ∷ qs)
+    go ih true = rw (eq-eqb q q refl) (ih (suc c) ∙ sym (without-other q (taken r A (suc c) qs) qs (d .0)))
+    go ih false = rw (taken-within r A qs c q (d .0)) (ap (λ (l : List ℕ). q ∷ l) (ih c))
+
+pub walk-passed : (r n : ℕ) (H : Matrix) (ps : List ℕ) → Below n ps → Distinct ps → passed r (eliminated r H ps) 0 ps ≡ without (pivots r n H ps) ps
+walk-passed r n H ps b d = passed-without r (eliminated r H ps) ps 0 d ∙ ap (λ (l : List ℕ). without l ps) (walk-taken r n H ps b)
+
+-- ---- two parts, one after the other
+
+pub taken-append : (r : ℕ) (A : Matrix) (ps qs : List ℕ) (c : ℕ) → taken r A c (ps ++ qs) ≡ taken r A c ps ++ taken r A (c + length (taken r A c ps)) qs
+unfolding taken
+taken-append r A [] qs c = ap (λ (k : ℕ). taken r A k qs) (omega arith)
+taken-append r A (p ∷ ps) qs c = go (taken-append r A ps qs) (isNext r A c p)
+  where
+    go : ((k : ℕ) → taken r A k (ps ++ qs) ≡ taken r A k ps ++ taken r A (k + length (taken r A k ps)) qs) → (t : Bool)
+        → cond t (p ∷ taken r A (suc c) (ps ++ qs)) (taken r A c (ps ++ qs))
+        ≡ cond t (p ∷ taken r A (suc c) ps) (taken r A c ps) ++ taken r A (c + length (cond t (p ∷ taken r A (suc c) ps) (taken r A c ps))) qs
+    go ih true =
+        let e : suc c + length (taken r A (suc c) ps) ≡ c + suc (length (taken r A (suc c) ps)) = omega arith in
+        ap (λ (l : List ℕ). p ∷ l) (ih (suc c) ∙ ap (λ (k : ℕ). taken r A (suc c) ps ++ taken r A k qs) e)
+    go ih false = ih c
+
+pub passed-append : (r : ℕ) (A : Matrix) (ps qs : List ℕ) (c : ℕ) → passed r A c (ps ++ qs) ≡ passed r A c ps ++ passed r A (c + length (taken r A c ps)) qs
+unfolding taken passed
+passed-append r A [] qs c = ap (λ (k : ℕ). passed r A k qs) (omega arith)
+passed-append r A (p ∷ ps) qs c = go (passed-append r A ps qs) (isNext r A c p)
+  where
+    go : ((k : ℕ) → passed r A k (ps ++ qs) ≡ passed r A k ps ++ passed r A (k + length (taken r A k ps)) qs) → (t : Bool)
+        → cond t (passed r A (suc c) (ps ++ qs)) (p ∷ passed r A c (ps ++ qs))
+        ≡ cond t (passed r A (suc c) ps) (p ∷ passed r A c ps) ++ passed r A (c + length (cond t (p ∷ taken r A (suc c) ps) (taken r A c ps))) qs
+    go ih true =
+        let e : suc c + length (taken r A (suc c) ps) ≡ c + suc (length (taken r A (suc c) ps)) = omega arith in
+        ih (suc c) ∙ ap (λ (k : ℕ). passed r A (suc c) ps ++ passed r A k qs) e
+    go ih false = ap (λ (l : List ℕ). p ∷ l) (ih c)
+
+-- with r pivots behind no place is taken
+pub taken-full : (r : ℕ) (A : Matrix) (c : ℕ) (qs : List ℕ) → r ≤ c → taken r A c qs ≡ []
+unfolding taken
+taken-full r A c [] h = refl
+taken-full r A c (q ∷ qs) h = taken-not r A c q qs (next-unset r A c q (λ l. absurd (omega arith))) ∙ taken-full r A c qs h
+
+pub passed-full : (r : ℕ) (A : Matrix) (c : ℕ) (qs : List ℕ) → r ≤ c → passed r A c qs ≡ qs
+unfolding passed
+passed-full r A c [] h = refl
+passed-full r A c (q ∷ qs) h = passed-not r A c q qs (next-unset r A c q (λ l. absurd (omega arith))) ∙ ap (λ (l : List ℕ). q ∷ l) (passed-full r A c qs h)
+
+-- ---- an order, whose first k places were tried
+
+module _ (r n : ℕ) (H : Matrix) (k : ℕ) (order : List ℕ) (o : Order n order) where
+  pub first-taken : taken r (eliminated r H (take k order)) 0 (take k order) ≡ pivots r n H (take k order)
+  first-taken = walk-taken r n H (take k order) (first-below n k order o)
+
+  pub first-passed : passed r (eliminated r H (take k order)) 0 (take k order) ≡ without (pivots r n H (take k order)) (take k order)
+  first-passed = walk-passed r n H (take k order) (first-below n k order o) (parts n k order o .0)
+
+  module _ (full : length (pivots r n H (take k order)) ≡ r) where
+    pub order-taken : taken r (eliminated r H (take k order)) 0 order ≡ pivots r n H (take k order)
+    order-taken =
+        let F : Matrix = eliminated r H (take k order) in
+        ap (taken r F 0) (sym (take-append-drop k order)) ∙ taken-append r F (take k order) (drop k order) 0
+        ∙ ap₂ (λ (a b : List ℕ). a ++ b) first-taken (taken-full r F (0 + length (taken r F 0 (take k order))) (drop k order) (omega (arith, ap (λ (l : List ℕ). length l) first-taken, full)))
+        ∙ append-nil (pivots r n H (take k order))
+
+    pub order-passed : passed r (eliminated r H (take k order)) 0 order ≡ without (pivots r n H (take k order)) order
+    order-passed = passed-without r (eliminated r H (take k order)) order 0 (order-good n order o .0) ∙ ap (λ (l : List ℕ). without l order) order-taken
+
+-- ---- rows past the first r do not count
+
+module _ (r : ℕ) (F A : Matrix) where
+  pub over-row : (c : ℕ) → c < r → over r F A c ≡ F c
+  over-row c h = fun-ext (λ q. ap (λ (t : Bool). cond t (F c q) (A c q)) (lt-ltb c r h))
+
+  pub over-rest : (c : ℕ) → r ≤ c → over r F A c ≡ A c
+  over-rest c h = fun-ext (λ q. ap (λ (t : Bool). cond t (F c q) (A c q)) (le-ltb c r h))
+
+  pub times-over : (n : ℕ) (v : Vector) (c : ℕ) → c < r → times n (over r F A) v c ≡ times n F v c
+  times-over n v c h = ap (λ (u : Vector). dotV u v n) (over-row c h)
+
+-- the walk reads the first r rows
+pub next-cong : (r : ℕ) (A B : Matrix) (c q : ℕ) → ((i : ℕ) → i < r → A i ≡ B i) → isNext r A c q ≡ isNext r B c q
+next-cong r A B c q e = by (decLt c r)
+  where
+    by : Dec (c < r) → isNext r A c q ≡ isNext r B c q
+    by (yes h) = ap (λ (u : Vector). ltb c r && isSet (u q)) (e c h)
+    by (no h) = ap (λ (t : Bool). t && isSet (A c q)) (le-ltb c r (omega arith)) ∙ sym (ap (λ (t : Bool). t && isSet (B c q)) (le-ltb c r (omega arith)))
+
+pub taken-cong : (r : ℕ) (A B : Matrix) → ((i : ℕ) → i < r → A i ≡ B i) → (qs : List ℕ) (c : ℕ) → taken r A c qs ≡ taken r B c qs
+unfolding taken
+taken-cong r A B e [] c = refl
+taken-cong r A B e (q ∷ qs) c =
+    ap (λ (t : Bool). cond t (q ∷ taken r A (suc c) qs) (taken r A c qs)) (next-cong r A B c q e)
+    ∙ ap₂ (λ (x y : List ℕ). cond (isNext r B c q) (q ∷ x) y) (taken-cong r A B e qs (suc c)) (taken-cong r A B e qs c)
+
+pub passed-cong : (r : ℕ) (A B : Matrix) → ((i : ℕ) → i < r → A i ≡ B i) → (qs : List ℕ) (c : ℕ) → passed r A c qs ≡ passed r B c qs
+unfolding passed
+passed-cong r A B e [] c = refl
+passed-cong r A B e (q ∷ qs) c =
+    ap (λ (t : Bool). cond t (passed r A (suc c) qs) (q ∷ passed r A c qs)) (next-cong r A B c q e)
+    ∙ ap₂ (λ (x y : List ℕ). cond (isNext r B c q) x (q ∷ y)) (passed-cong r A B e qs (suc c)) (passed-cong r A B e qs c)
+
+module _ (r : ℕ) (F A : Matrix) (c : ℕ) (qs : List ℕ) where
+  pub taken-over : taken r (over r F A) c qs ≡ taken r F c qs
+  taken-over = taken-cong r (over r F A) F (over-row r F A) qs c
+
+  pub passed-over : passed r (over r F A) c qs ≡ passed r F c qs
+  passed-over = passed-cong r (over r F A) F (over-row r F A) qs c
+
+-- what the definitions ask of the grid's matrix: it is reduced at the pivots
+pub order-reduced : (r n : ℕ) (H A : Matrix) (k : ℕ) (order : List ℕ) → Order n order
+    → Reduced r n H (over r (eliminated r H (take k order)) A) (pivots r n H (take k order))
+order-reduced r n H A k order o =
+    let F : Matrix = eliminated r H (take k order) in
+    let ps : List ℕ = pivots r n H (take k order) in
+    let b = first-below n k order o in
+    reduced-cong r n H F (over r F A) ps (pivots-kept r n H (take k order) b .below) (λ i q l m. sym (ap (λ (u : Vector). u q) (over-row r F A i l))) (eliminated-reduced r n H (take k order) b)
+
+-- a rank that is full is that of r pivots
+pub rank-full : (r n : ℕ) (H : Matrix) (ps : List ℕ) → rank r n H ps ≡ r → length (pivots r n H ps) ≡ r
+unfolding rank
+rank-full r n H ps e = e

@@ -1,0 +1,76 @@
+-- The front of the grid is lent, and comes back with the eliminated matrix (`front-grid`).
+-- Assumes nothing.
+use Prim.Native.Nat.{_-_}
+use native.Mathlib.Nat.{mul-le-mul-right}
+use native.Mathlib.Omega.{arith}
+use borrow.Author.Needs.{needs}
+use denote.Ref.{now}
+use lib.ListN.{length}
+use Rattle.trits.proofs.Parts.{length-mid}
+use Rattle.draw_reduce.proofs.Fronts.{front-grid}
+use Rattle.draw_reduce.proofs.reduce.reduce.Statement.{statement}
+use Rattle.draw_reduce.proofs.reduce.reduce.Tie as tie
+
+sub-reduce-copied : tie.Need-sub-reduce-copied
+sub-reduce-copied c = search needs
+
+part-reduce-copied-start : tie.Need-part-reduce-copied-start
+part-reduce-copied-start c = search needs
+
+part-reduce-copied-end : tie.Need-part-reduce-copied-end
+part-reduce-copied-end c =
+    let s = c .before .before .before .before .before in
+    let a = s .args in
+    omega (arith, s .pre .0 .size, s .pre .1 .0 .size, mul-le-mul-right (a .w) (s .pre .1 .1 .1 .1))
+
+sub-reduce-copied-2 : tie.Need-sub-reduce-copied-2
+sub-reduce-copied-2 c = search needs
+
+part-reduce-copied-start-2 : tie.Need-part-reduce-copied-start-2
+part-reduce-copied-start-2 c = search needs
+
+part-reduce-copied-end-2 : tie.Need-part-reduce-copied-end-2
+part-reduce-copied-end-2 c =
+    let s = c .before .before .before .before .before .before in
+    let a = s .args in
+    omega (arith, s .pre .0 .row .same, s .pre .0 .size, s .pre .1 .0 .size, mul-le-mul-right (a .w) (s .pre .1 .1 .1 .1))
+
+reduce-copied-requires : tie.Need-reduce-copied-requires
+reduce-copied-requires c κs =
+    let s = c .before .before .before .before .before .before .before in
+    let a = s .args in
+    let n = length (now (a .ho)) in
+    let b = s .pre .1 .1 .1 in
+    let m = mul-le-mul-right (a .w) (b .1) in
+    let h = s .pre .1 .0 in
+    let lo = length-mid 0 (n - 0) (now (a .ones)) (omega (arith, s .pre .0 .size, h .size, m)) in
+    let lt = length-mid 0 (n - 0) (now (a .twos)) (omega (arith, s .pre .0 .row .same, s .pre .0 .size, h .size, m)) in
+    (h, ((omega (arith, lo, h .size), omega (arith, lt, h .size)), (s .pre .1 .1 .0, (omega (arith, lo, h .size, m, s .pre .0 .size, b .0), b .2, b .3))))
+
+same-length : tie.Need-same-length
+same-length c = search needs
+
+same-length-2 : tie.Need-same-length-2
+same-length-2 c = search needs
+
+returns : tie.Need-returns
+returns c =
+    let s = c .before .before .before .before .before .before .before .before .before .before .before .before in
+    let a = s .args in
+    let d = c .before .before .before .before .reduce-copied .ensures in
+    (d .0, front-grid (a .w) (a .r) (s .pre .0) (s .pre .1 .1 .1 .1) (length (now (a .ho)) - 0) (omega (arith, s .pre .1 .0 .size)) (d .1))
+
+pub reduce-spec : {M : Type 1} → statement M
+reduce-spec =
+    tie.close
+    (tie.spec
+    sub-reduce-copied
+    part-reduce-copied-start
+    part-reduce-copied-end
+    sub-reduce-copied-2
+    part-reduce-copied-start-2
+    part-reduce-copied-end-2
+    reduce-copied-requires
+    same-length
+    same-length-2
+    returns)

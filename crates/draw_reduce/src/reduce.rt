@@ -1,0 +1,84 @@
+// The matrix of one half in the first rows of a grid, reduced along an order.
+ghost use mathlib.Core.Path.{_≡_};
+ghost use Prim.Native.Nat.{_*_, _≤_};
+ghost use lib.ListN.{length, take};
+ghost use Rattle.trits.specs.Rows.{matrixAt};
+ghost use Rattle.matrix.specs.Linear.{rank};
+ghost use Rattle.matrix.specs.Orders.{Order};
+ghost use Rattle.matrix.specs.Eliminate.{eliminated};
+ghost use Rattle.grid.specs.Grid.{Rows, Grid};
+ghost use Rattle.draw_reduce.specs.Walk.{over};
+
+// The columns at the first m places of an order are tried one after another, and those with a pivot counted.
+pub fn eliminate_by(
+    ones: &mut [u64],
+    twos: &mut [u64],
+    rows: usize,
+    w: usize,
+    order: &[u16],
+    m: usize,
+) -> usize
+    requires { ⌜ Rows (now ones) (now twos) rows w ⌝ }
+    requires { ⌜ Order (length (now order)) (now order) ⌝ }
+    requires { ⌜ (length (now ones) ≤ 4294967296) × (m ≤ length (now order)) × (length (now order) ≤ 64 * w) ⌝ }
+    ensures { λ c. ⌜ c ≡ rank rows (length (now (order .entry))) (matrixAt w (now (ones .entry)) (now (twos .entry))) (take m (now (order .entry))) ⌝ }
+    ensures { λ _. ⌜ Grid (now (ones .exit)) (now (twos .exit)) rows w
+        (eliminated rows (matrixAt w (now (ones .entry)) (now (twos .entry))) (take m (now (order .entry)))) ⌝ }
+{
+    let mut count = 0;
+    let mut i = 0;
+    while i < m {
+        let q = order[i] as usize;
+        count = elimination::rank::count_column(ones, twos, rows, w, q, count);
+        i += 1;
+    }
+    count
+}
+
+// A matrix is copied to planes of its size and so eliminated there.
+pub fn reduce_copied(
+    ones: &mut [u64],
+    twos: &mut [u64],
+    rows: usize,
+    w: usize,
+    ho: &[u64],
+    ht: &[u64],
+    order: &[u16],
+    m: usize,
+) -> usize
+    requires { ⌜ Rows (now ho) (now ht) rows w ⌝ }
+    requires { ⌜ (length (now ones) ≡ rows * w) × (length (now twos) ≡ rows * w) ⌝ }
+    requires { ⌜ Order (length (now order)) (now order) ⌝ }
+    requires { ⌜ (length (now ones) ≤ 4294967296) × (m ≤ length (now order)) × (length (now order) ≤ 64 * w) ⌝ }
+    ensures { λ c. ⌜ c ≡ rank rows (length (now (order .entry))) (matrixAt w (now (ho .entry)) (now (ht .entry))) (take m (now (order .entry))) ⌝ }
+    ensures { λ _. ⌜ Grid (now (ones .exit)) (now (twos .exit)) rows w
+        (eliminated rows (matrixAt w (now (ho .entry)) (now (ht .entry))) (take m (now (order .entry)))) ⌝ }
+{
+    planes::words::copy_words(ones, ho);
+    planes::words::copy_words(twos, ht);
+    eliminate_by(ones, twos, rows, w, order, m)
+}
+
+// The first r rows of a grid become a matrix of r rows, eliminated at the first m places of an order; the rank of its columns there is answered.
+pub fn reduce(
+    ones: &mut [u64],
+    twos: &mut [u64],
+    rows: usize,
+    w: usize,
+    r: usize,
+    ho: &[u64],
+    ht: &[u64],
+    order: &[u16],
+    m: usize,
+) -> usize
+    requires { ⌜ Rows (now ones) (now twos) rows w ⌝ }
+    requires { ⌜ Rows (now ho) (now ht) r w ⌝ }
+    requires { ⌜ Order (length (now order)) (now order) ⌝ }
+    requires { ⌜ (length (now ones) ≤ 4294967296) × (r ≤ rows) × (m ≤ length (now order)) × (length (now order) ≤ 64 * w) ⌝ }
+    ensures { λ c. ⌜ c ≡ rank r (length (now (order .entry))) (matrixAt w (now (ho .entry)) (now (ht .entry))) (take m (now (order .entry))) ⌝ }
+    ensures { λ _. ⌜ Grid (now (ones .exit)) (now (twos .exit)) rows w
+        (over r (eliminated r (matrixAt w (now (ho .entry)) (now (ht .entry))) (take m (now (order .entry)))) (matrixAt w (now (ones .entry)) (now (twos .entry)))) ⌝ }
+{
+    let e = ho.len();
+    reduce_copied(&mut ones[0..e], &mut twos[0..e], r, w, ho, ht, order, m)
+}

@@ -1,0 +1,101 @@
+-- By what the row writer says, for all places and for the last k.
+-- Assumes nothing.
+use Prim.Native.Nat.{ℕ, _+_}
+use mathlib.Core.Path.{_≡_, sym, ap, _∙_}
+use mathlib.Core.List.{List}
+use native.Mathlib.Omega.{arith}
+use Rattle.trits.specs.Planes.{onesOf, twosOf}
+use Rattle.matrix.specs.Linear.{Vector}
+use Rattle.calls.specs.Lent.{halfWords}
+use Rattle.calls.proofs.Bounds.{bounds, prod}
+use borrow.Author.Needs.{needs}
+use Rattle.draw_release.proofs.release_word.Statement.{statement}
+use Rattle.draw_release.proofs.release_word.Tie as tie
+
+-- a plane of n words, where n is m
+ones-sized : {o : List ℕ} (v : Vector) {n m : ℕ} → o ≡ onesOf v n → n ≡ m → o ≡ onesOf v m
+ones-sized v e f = e ∙ ap (onesOf v) f
+
+twos-sized : {o : List ℕ} (v : Vector) {n m : ℕ} → o ≡ twosOf v n → n ≡ m → o ≡ twosOf v m
+twos-sized v e f = e ∙ ap (twosOf v) f
+
+add-w : tie.Need-add-w
+add-w c =
+    let s = c .before .before .before .before .before .before .before in let a = s .args in let b = bounds (a .z) (s .pre .0) in omega (arith, b .low, b .high, b .ku, b .kv, s .pre .1 .1 .0)
+
+add-rows : tie.Need-add-rows
+add-rows c =
+    let s = c .before .before .before .before .before .before .before in let a = s .args in let b = bounds (a .z) (s .pre .0) in omega (arith, b .low, b .high, b .ku, b .kv, s .pre .1 .1 .0)
+
+add-u : tie.Need-add-u
+add-u c =
+    let s = c .before .before .before .before .before .before .before in let a = s .args in let b = bounds (a .z) (s .pre .0) in omega (arith, b .low, b .high, b .ku, b .kv, s .pre .1 .1 .0)
+
+add-v : tie.Need-add-v
+add-v c =
+    let s = c .before .before .before .before .before .before .before in let a = s .args in let b = bounds (a .z) (s .pre .0) in omega (arith, b .low, b .high, b .ku, b .kv, s .pre .1 .1 .0)
+
+add-n : tie.Need-add-n
+add-n c =
+    let s = c .before .before .before .before .before .before .before in let a = s .args in let b = bounds (a .z) (s .pre .0) in omega (arith, b .low, b .high, b .ku, b .kv, s .pre .1 .1 .0)
+
+add-k : tie.Need-add-k
+add-k c =
+    let s = c .before .before .before .before .before .before .before in let a = s .args in let b = bounds (a .z) (s .pre .0) in omega (arith, b .low, b .high, b .ku, b .kv, s .pre .1 .1 .0)
+
+sub-first : tie.Need-sub-first
+sub-first c =
+    let s = c .before .before .before .before .before .before .before in let a = s .args in let b = bounds (a .z) (s .pre .0) in omega (arith, b .low, b .high, b .ku, b .kv, s .pre .1 .1 .0)
+
+sub-first-2 : tie.Need-sub-first-2
+sub-first-2 c =
+    let s = c .before .before .before .before .before .before .before in let a = s .args in let b = bounds (a .z) (s .pre .0) in omega (arith, b .low, b .high, b .ku, b .kv, s .pre .1 .1 .0)
+
+add-first : tie.Need-add-first
+add-first c =
+    let s = c .before .before .before .before .before .before .before in let a = s .args in let b = bounds (a .z) (s .pre .0) in omega (arith, b .low, b .high, b .ku, b .kv, s .pre .1 .1 .0)
+
+write-places-requires : tie.Need-write-places-requires
+write-places-requires c κs =
+    let s = c .before .before .before .before .before .before .before .before .before in let a = s .args in let b = bounds (a .z) (s .pre .0) in let R = s .pre .1 .1 .1 .0 in let n = s .pre .1 .1 .1 .1 in let o = s .pre .1 .0 in let h = b .high in let big = prod (a .l + 5) (halfWords (a .z)) 8197 128 (omega (arith, s .pre .1 .1 .0)) (omega (arith, h)) in (R, (o, ((omega (arith, R .size, big), omega arith, omega arith, omega (arith, h)), (omega (arith, o .size), omega (arith, n .0), n .1 ∙ sym (n .0)))))
+
+write-places-requires-2 : tie.Need-write-places-requires-2
+write-places-requires-2 c κs =
+    let s = c .before .before .before .before .before .before .before .before .before .before .before .before .before .before .before .before in let a = s .args in let b = bounds (a .z) (s .pre .0) in let R = s .pre .1 .1 .1 .0 in let n = s .pre .1 .1 .1 .1 in let o = s .pre .1 .0 in let h = b .high in let big = prod (a .l + 5) (halfWords (a .z)) 8197 128 (omega (arith, s .pre .1 .1 .0)) (omega (arith, h)) in (R, (o, ((omega (arith, R .size, big), omega arith, omega arith, omega (arith, h)), (omega (arith, o .size, b .ku, b .kv), omega (arith, n .2), n .3 ∙ sym (n .2)))))
+
+same-length : tie.Need-same-length
+same-length c = search needs
+
+same-length-2 : tie.Need-same-length-2
+same-length-2 c = search needs
+
+same-length-3 : tie.Need-same-length-3
+same-length-3 c = search needs
+
+same-length-4 : tie.Need-same-length-4
+same-length-4 c = search needs
+
+returns : tie.Need-returns
+returns c =
+    let s = c .before .before .before .before .before .before .before .before .before .before .before .before .before .before .before .before .before .before .before .before .before in let a = s .args in let b = bounds (a .z) (s .pre .0) in let n = s .pre .1 .1 .1 .1 in (ones-sized _ (c .before .before .before .before .before .before .before .before .before .before .before .write-places .ensures .0) (n .0), twos-sized _ (c .before .before .before .before .before .before .before .before .before .before .before .write-places .ensures .1) (n .0), ones-sized _ (c .before .before .before .before .write-places2 .ensures .0) (n .2), twos-sized _ (c .before .before .before .before .write-places2 .ensures .1) (n .2))
+
+pub release-word-spec : {M : Type 1} → statement M
+release-word-spec =
+    tie.close
+    (tie.spec
+    add-w
+    add-rows
+    add-u
+    add-v
+    add-n
+    add-k
+    sub-first
+    sub-first-2
+    add-first
+    write-places-requires
+    write-places-requires-2
+    same-length
+    same-length-2
+    same-length-3
+    same-length-4
+    returns)

@@ -1,0 +1,74 @@
+// The release of a drawn word: from rows of a grid to the word and its signature.
+ghost use mathlib.Core.Path.{_≡_};
+ghost use mathlib.Core.Bool.{true};
+ghost use Prim.Native.Nat.{_+_, _≤_};
+ghost use lib.ListN.{length};
+ghost use Rattle.trits.specs.Trit.{upTo};
+ghost use Rattle.trits.specs.Planes.{wordsFor, onesOf, twosOf};
+ghost use Rattle.trits.specs.Rows.{matrixAt};
+ghost use Rattle.matrix.specs.Orders.{Order};
+ghost use Rattle.grid.specs.Grid.{Rows};
+ghost use Rattle.scheme.specs.Sizes.{sizesFit, half, places, dim, codim};
+ghost use Rattle.draw_pairs.specs.Halves.{writtenFrom};
+ghost use Rattle.calls.specs.Lent.{halfWords};
+use scheme::sizes::Sizes;
+
+// The word is written in public places, and its last k trits as the signature.
+pub fn release_word(
+    z: Sizes,
+    l: usize,
+    p: &[u16],
+    work_ones: &[u64],
+    work_twos: &[u64],
+    word_ones: &mut [u64],
+    word_twos: &mut [u64],
+    s_ones: &mut [u64],
+    s_twos: &mut [u64],
+)
+    requires { ⌜ sizesFit z ≡ true ⌝ }
+    requires { ⌜ Order (places z) (now p) ⌝ }
+    requires { ⌜ l ≤ 8192 ⌝ }
+    requires { ⌜ Rows (now «work_ones») (now «work_twos») (l + 5) (halfWords z) ⌝ }
+    requires { ⌜ (length (now «word_ones») ≡ wordsFor (places z)) × (length (now «word_twos») ≡ wordsFor (places z)) × (length (now «s_ones») ≡ wordsFor (dim z)) × (length (now «s_twos») ≡ wordsFor (dim z)) ⌝ }
+    ensures { λ _. ⌜ (let A = matrixAt (halfWords z) (now («work_ones» .entry)) (now («work_twos» .entry)) in
+        let word = writtenFrom (half z) (A (l + 4)) (A (l + 3)) (now (p .entry)) in
+        (now («word_ones» .exit) ≡ onesOf (upTo (places z) (word 0)) (wordsFor (places z))) × (now («word_twos» .exit) ≡ twosOf (upTo (places z) (word 0)) (wordsFor (places z)))
+        × (now («s_ones» .exit) ≡ onesOf (upTo (dim z) (word (codim z))) (wordsFor (dim z))) × (now («s_twos» .exit) ≡ twosOf (upTo (dim z) (word (codim z))) (wordsFor (dim z)))) ⌝ }
+{
+    let half = z.n as usize / 2;
+    let w = (half + 63) / 64;
+    let rows = l + 5;
+    let u = l + 4;
+    let v = l + 3;
+    let n = half + half;
+    let k = z.ku as usize + z.kv as usize;
+    let first = half - z.ku as usize + (half - z.kv as usize);
+    draw_pairs::places::write_places(
+        work_ones,
+        work_twos,
+        rows,
+        w,
+        u,
+        v,
+        half,
+        p,
+        0,
+        n,
+        word_ones,
+        word_twos,
+    );
+    draw_pairs::places::write_places(
+        work_ones,
+        work_twos,
+        rows,
+        w,
+        u,
+        v,
+        half,
+        p,
+        first,
+        k,
+        s_ones,
+        s_twos,
+    );
+}

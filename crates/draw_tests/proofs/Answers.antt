@@ -1,0 +1,219 @@
+-- The call's answer by its tests, and what is known once they have passed. Assumes nothing.
+use mathlib.Core.Path.{_≡_, refl, ap, _∙_}
+use mathlib.Core.Bool.{Bool, true, false, not, _||_, cond}
+use mathlib.Core.List.{List}
+use Prim.Native.Nat.{ℕ, _+_, _-_, _≤_}
+use native.Mathlib.Omega.{arith}
+use borrow.Author.Tests.{eqb-true}
+use mir.Syntax.{w64}
+use mir.Val.{Fits}
+use lib.Dec.{eqb, lit<}
+use lib.ListN.{length, getD}
+use Rattle.trits.specs.Trit.{weightV}
+use Rattle.trits.specs.Planes.{wordsFor, tritAt, zeroWords}
+use Rattle.trits.specs.Refusal.{refuse, demand, first, planesRefusal}
+use Rattle.trits.proofs.Refusals.{passed-first, passed-refuse, passed-demand}
+use Rattle.matrix.specs.Linear.{Vector, rank}
+use Rattle.matrix.specs.Orders.{isOrder}
+use Rattle.matrix.proofs.Field.{not-false}
+use Rattle.matrix.proofs.Orders.{order-test}
+use Rattle.scheme.specs.declared.sizes.Sizes.{Sizes}
+use Rattle.scheme.specs.Sizes.{half, places, dim, ru, rv, codim, gapU, sizesFit}
+use Rattle.scheme.specs.Secret.{Secret, noZero}
+use Rattle.scheme.specs.Draw.{Choices, firstV, firstU, drawn, drawRefusal}
+use Rattle.calls.specs.Lent.{pairDiffers, secretDiffers, hasZero, secretRefusal, workExit, Readable}
+use Rattle.calls.specs.DrawCall.{DrawCall, drawWorkWords, choicesDiffer, drawLengthsDiffer, choicesRefusal, drawAnswer}
+use Rattle.calls.proofs.Exits.{planes-le, first-le, work-done, work-late}
+use Rattle.calls.proofs.Secrets.{or-none, pair-same, SecretLengths, secret-same, secret-le, row-of}
+use Rattle.draw_tests.specs.Ready.{given, chosen, ending, Ready}
+
+-- ---- the answer
+
+-- the contents of the secret, then those of p, y and the choices
+abbrev pub contents : Sizes → DrawCall → ℕ
+contents z i = first (secretRefusal z (i .secret)) (choicesRefusal z i)
+
+module _ (z : Sizes) (i : DrawCall) where
+  pub answer-size : sizesFit z ≡ false → 1 ≡ drawAnswer z i
+  unfolding drawAnswer
+  answer-size e = rw e
+
+  module _ (e : sizesFit z ≡ true) where
+    pub answer-length : drawLengthsDiffer z i ≡ true → 2 ≡ drawAnswer z i
+    unfolding drawAnswer
+    answer-length f = rw (e, f)
+
+    module _ (f : drawLengthsDiffer z i ≡ false) where
+      chain : first (secretRefusal z (i .secret)) (first (choicesRefusal z i) (ending z i)) ≡ drawAnswer z i
+      unfolding drawAnswer
+      chain = rw (e, f)
+
+      pub answer-contents : {x : ℕ} → x ≡ contents z i → (x ≡ 0 → ⊥) → x ≡ drawAnswer z i
+      unfolding first
+      answer-contents {x} g h = g ∙ by (secretRefusal z (i .secret)) (eqb (secretRefusal z (i .secret)) 0) (choicesRefusal z i) (eqb (choicesRefusal z i) 0) refl (λ y. h (g ∙ y)) ∙ chain
+        where
+          by : (S : ℕ) (s : Bool) (C : ℕ) (t : Bool) → eqb C 0 ≡ t → (cond s C S ≡ 0 → ⊥) → cond s C S ≡ cond s (cond t (ending z i) C) S
+          by S true C true q k = absurd (k (eqb-true C 0 q))
+          by S true C false q k = refl
+          by S false C t q k = refl
+
+      pub answer-ending : contents z i ≡ 0 → ending z i ≡ drawAnswer z i
+      unfolding first
+      answer-ending g =
+          let a = passed-first (secretRefusal z (i .secret)) (choicesRefusal z i) g in
+          by (secretRefusal z (i .secret)) (a .0) (choicesRefusal z i) (a .1) ∙ chain
+        where
+          by : (S : ℕ) → S ≡ 0 → (C : ℕ) → C ≡ 0 → ending z i ≡ cond (eqb S 0) (cond (eqb C 0) (ending z i) C) S
+          by S p C q = rw (p, q)
+
+-- the choices are tested alone
+pub same-choices : (z : Sizes) (i : DrawCall) → choicesRefusal z (chosen (i .p) (i .yOnes) (i .yTwos) (i .orderV) (i .vOnes) (i .vTwos) (i .orderU) (i .uOnes) (i .uTwos)) ≡ choicesRefusal z i
+unfolding choicesRefusal
+same-choices z i = refl
+
+demand-le : (t : Bool) (r : ℕ) → r ≤ 8 → demand t 7 r ≤ 8
+demand-le true r h = h
+demand-le false r h = omega arith
+
+refuse-le : (t : Bool) → refuse t 8 0 ≤ 8
+refuse-le true = omega arith
+refuse-le false = omega arith
+
+pub contents-le : (z : Sizes) (i : DrawCall) → contents z i ≤ 8
+unfolding choicesRefusal
+contents-le z i =
+    first-le (secretRefusal z (i .secret)) (choicesRefusal z i) (secret-le z (i .secret))
+    (demand-le (isOrder (places z) (i .p)) _ (first-le _ _ (planes-le (i .yOnes) (i .yTwos) 1 (codim z))
+    (demand-le (isOrder (half z) (i .orderV)) _ (first-le _ _ (planes-le (i .vOnes) (i .vTwos) 1 (z .kv))
+    (demand-le (isOrder (half z) (i .orderU)) _ (first-le _ _ (planes-le (i .uOnes) (i .uTwos) 1 (z .ku))
+    (refuse-le (hasZero (z .ku - gapU z) (λ j. tritAt (i .uOnes) (i .uTwos) (gapU z + j))))))))))
+
+-- ---- the working space
+
+pub work-ended : (z : Sizes) (s : Secret) (p : List ℕ) (y : Vector) (ch : Choices) (w : List ℕ) → zeroWords (length w) ≡ workExit (drawRefusal z s p y ch) w
+unfolding drawRefusal
+work-ended z s p y ch w = by (eqb (rank (rv z) (half z) (s .hv) (firstV z ch)) (rv z)) (eqb (rank (ru z) (half z) (s .hu) (firstU z ch)) (ru z)) (eqb (weightV (drawn z s p y ch) (places z)) (z .w))
+  where
+    by : (a b c : Bool) → zeroWords (length w) ≡ workExit (demand a 12 (demand b 13 (demand c 14 0))) w
+    by true true true = work-done w refl
+    by true true false = work-late w {k = 14} refl (omega arith)
+    by true false c = work-late w {k = 13} refl (omega arith)
+    by false b c = work-late w {k = 12} refl (omega arith)
+
+-- ---- lengths that do not differ
+
+pub record ChoicesLengths (z : Sizes) (p y1 y2 ov v1 v2 ou u1 u2 e1 e2 s1 s2 w1 w2 : ℕ) : Type 0 where
+  pub order : p ≡ places z
+  pub yOnes : y1 ≡ wordsFor (codim z)
+  pub yTwos : y2 ≡ wordsFor (codim z)
+  pub orderV : ov ≡ half z
+  pub vOnes : v1 ≡ wordsFor (z .kv)
+  pub vTwos : v2 ≡ wordsFor (z .kv)
+  pub orderU : ou ≡ half z
+  pub uOnes : u1 ≡ wordsFor (z .ku)
+  pub uTwos : u2 ≡ wordsFor (z .ku)
+  pub wordOnes : e1 ≡ wordsFor (places z)
+  pub wordTwos : e2 ≡ wordsFor (places z)
+  pub sOnes : s1 ≡ wordsFor (dim z)
+  pub sTwos : s2 ≡ wordsFor (dim z)
+  pub workOnes : w1 ≡ drawWorkWords z
+  pub workTwos : w2 ≡ drawWorkWords z
+
+choices-same : (z : Sizes) (p y1 y2 ov v1 v2 ou u1 u2 e1 e2 s1 s2 w1 w2 : ℕ) → choicesDiffer z p y1 y2 ov v1 v2 ou u1 u2 e1 e2 s1 s2 w1 w2 ≡ false
+    → ChoicesLengths z p y1 y2 ov v1 v2 ou u1 u2 e1 e2 s1 s2 w1 w2
+unfolding choicesDiffer
+choices-same z p y1 y2 ov v1 v2 ou u1 u2 e1 e2 s1 s2 w1 w2 e =
+    let A = or-none (not (eqb p (places z))) _ e in
+    let B = or-none (pairDiffers (wordsFor (codim z)) y1 y2) _ (A .1) in
+    let C = or-none (pairDiffers (half z) ov ou) _ (B .1) in
+    let D = or-none (pairDiffers (wordsFor (z .kv)) v1 v2) _ (C .1) in
+    let E = or-none (pairDiffers (wordsFor (z .ku)) u1 u2) _ (D .1) in
+    let F = or-none (pairDiffers (wordsFor (places z)) e1 e2) _ (E .1) in
+    let G = or-none (pairDiffers (wordsFor (dim z)) s1 s2) _ (F .1) in
+    let y = pair-same _ y1 y2 (B .0) in
+    let o = pair-same _ ov ou (C .0) in
+    let v = pair-same _ v1 v2 (D .0) in
+    let u = pair-same _ u1 u2 (E .0) in
+    let r = pair-same _ e1 e2 (F .0) in
+    let s = pair-same _ s1 s2 (G .0) in
+    let w = pair-same _ w1 w2 (G .1) in
+    record {
+      order = eqb-true p (places z) (not-false (eqb p (places z)) (A .0));
+      yOnes = y .0;
+      yTwos = y .1;
+      orderV = o .0;
+      vOnes = v .0;
+      vTwos = v .1;
+      orderU = o .1;
+      uOnes = u .0;
+      uTwos = u .1;
+      wordOnes = r .0;
+      wordTwos = r .1;
+      sOnes = s .0;
+      sTwos = s .1;
+      workOnes = w .0;
+      workTwos = w .1;
+    }
+
+none : (m : ℕ) (v : Vector) → hasZero m v ≡ false → noZero m v ≡ true
+unfolding hasZero noZero
+none m v e = ap not e
+
+module _ (z : Sizes) (i : DrawCall) where
+  -- the lengths one after another
+  abbrev secretAll : Bool
+  secretAll = secretDiffers z (length (i .secret .huOnes)) (length (i .secret .huTwos)) (length (i .secret .hvOnes)) (length (i .secret .hvTwos)) (length (i .secret .bOnes)) (length (i .secret .bTwos))
+      (length (i .secret .cOnes)) (length (i .secret .cTwos))
+
+  abbrev choicesAll : Bool
+  choicesAll = choicesDiffer z (length (i .p)) (length (i .yOnes)) (length (i .yTwos)) (length (i .orderV)) (length (i .vOnes)) (length (i .vTwos)) (length (i .orderU)) (length (i .uOnes)) (length (i .uTwos))
+      (length (i .wordOnes)) (length (i .wordTwos)) (length (i .sOnes)) (length (i .sTwos)) (length (i .workOnes)) (length (i .workTwos))
+
+  pub same-lengths : {t : Bool} → (secretAll || choicesAll) ≡ t → drawLengthsDiffer z i ≡ t
+  unfolding drawLengthsDiffer
+  same-lengths e = e
+
+  module _ (e : drawLengthsDiffer z i ≡ false) where
+    pub lengths-secret : SecretLengths z (length (i .secret .huOnes)) (length (i .secret .huTwos)) (length (i .secret .hvOnes)) (length (i .secret .hvTwos)) (length (i .secret .bOnes)) (length (i .secret .bTwos))
+        (length (i .secret .cOnes)) (length (i .secret .cTwos))
+    unfolding drawLengthsDiffer
+    lengths-secret = secret-same z _ _ _ _ _ _ _ _ (or-none secretAll choicesAll e .0)
+
+    pub lengths-choices : ChoicesLengths z (length (i .p)) (length (i .yOnes)) (length (i .yTwos)) (length (i .orderV)) (length (i .vOnes)) (length (i .vTwos)) (length (i .orderU)) (length (i .uOnes))
+        (length (i .uTwos)) (length (i .wordOnes)) (length (i .wordTwos)) (length (i .sOnes)) (length (i .sTwos)) (length (i .workOnes)) (length (i .workTwos))
+    unfolding drawLengthsDiffer
+    lengths-choices = choices-same z _ _ _ _ _ _ _ _ _ _ _ _ _ _ _ (or-none secretAll choicesAll e .1)
+
+    -- ---- contents that are not refused
+
+    pub ready : contents z i ≡ 0 → Readable z (i .secret)
+        → ((j : ℕ) → Fits w64 (getD (i .yOnes) j 0)) → ((j : ℕ) → Fits w64 (getD (i .yTwos) j 0)) → ((j : ℕ) → Fits w64 (getD (i .vOnes) j 0)) → ((j : ℕ) → Fits w64 (getD (i .vTwos) j 0))
+        → ((j : ℕ) → Fits w64 (getD (i .uOnes) j 0)) → ((j : ℕ) → Fits w64 (getD (i .uTwos) j 0))
+        → Ready z (given (i .secret) (i .p) (i .yOnes) (i .yTwos) (i .orderV) (i .vOnes) (i .vTwos) (i .orderU) (i .uOnes) (i .uTwos))
+    unfolding choicesRefusal
+    ready g k f1 f2 f3 f4 f5 f6 =
+        let l = lengths-choices in
+        let S = passed-first (secretRefusal z (i .secret)) (choicesRefusal z i) g in
+        let A = passed-demand (isOrder (places z) (i .p)) 7 _ (lit< tt) (S .1) in
+        let B = passed-first (planesRefusal (i .yOnes) (i .yTwos) 1 (codim z)) _ (A .1) in
+        let C = passed-demand (isOrder (half z) (i .orderV)) 7 _ (lit< tt) (B .1) in
+        let D = passed-first (planesRefusal (i .vOnes) (i .vTwos) 1 (z .kv)) _ (C .1) in
+        let E = passed-demand (isOrder (half z) (i .orderU)) 7 _ (lit< tt) (D .1) in
+        let F = passed-first (planesRefusal (i .uOnes) (i .uTwos) 1 (z .ku)) _ (E .1) in
+        record {
+          secret = k;
+          p = order-test (places z) (i .p) (A .0);
+          y = row-of _ _ 1 (codim z) (B .0) (l .yOnes) (l .yTwos) f1 f2;
+          ySize = l .yOnes;
+          orderV = order-test (half z) (i .orderV) (C .0);
+          v = row-of _ _ 1 (z .kv) (D .0) (l .vOnes) (l .vTwos) f3 f4;
+          vSize = l .vOnes;
+          orderU = order-test (half z) (i .orderU) (E .0);
+          u = row-of _ _ 1 (z .ku) (F .0) (l .uOnes) (l .uTwos) f5 f6;
+          uSize = l .uOnes;
+          values = none (z .ku - gapU z) (λ j. tritAt (i .uOnes) (i .uTwos) (gapU z + j)) (passed-refuse (hasZero (z .ku - gapU z) (λ j. tritAt (i .uOnes) (i .uTwos) (gapU z + j))) 8 0 (lit< tt) (F .1) .0);
+        }
+
+-- what the tests of the secret have shown, its words being words
+pub contents-secret : (z : Sizes) (i : DrawCall) → contents z i ≡ 0 → secretRefusal z (i .secret) ≡ 0
+contents-secret z i g = passed-first (secretRefusal z (i .secret)) (choicesRefusal z i) g .0

@@ -1,0 +1,40 @@
+-- What a draw has once its tests have passed ("One draw", "Turned back by the input"). Assumes nothing.
+use mathlib.Core.Path.{_≡_}
+use mathlib.Core.Bool.{true}
+use mathlib.Core.List.{List, []}
+use Prim.Native.Nat.{ℕ, _+_, _-_}
+use lib.ListN.{length}
+use Rattle.trits.specs.Planes.{Row, tritAt, wordsFor}
+use Rattle.matrix.specs.Orders.{Order}
+use Rattle.scheme.specs.declared.sizes.Sizes.{Sizes}
+use Rattle.scheme.specs.Sizes.{half, places, codim, gapU}
+use Rattle.scheme.specs.Secret.{noZero}
+use Rattle.scheme.specs.Draw.{drawRefusal}
+use Rattle.calls.specs.Lent.{Planes, planes, secretOf, Readable}
+use Rattle.calls.specs.DrawCall.{DrawCall, drawCall, syndromeOf, choicesOf}
+
+-- what is read: the secret, p, y and the choices, with nothing to write to
+abbrev pub given : Planes → List ℕ → List ℕ → List ℕ → List ℕ → List ℕ → List ℕ → List ℕ → List ℕ → List ℕ → DrawCall
+given s p yo yt ov vo vt ou uo ut = drawCall s p yo yt ov vo vt ou uo ut [] [] [] [] [] []
+
+-- p, y and the choices alone
+abbrev pub chosen : List ℕ → List ℕ → List ℕ → List ℕ → List ℕ → List ℕ → List ℕ → List ℕ → List ℕ → DrawCall
+chosen = given (planes [] [] [] [] [] [] [] [])
+
+-- the end of a draw whose tests have passed: 12, 13, 14 or 0
+abbrev pub ending : Sizes → DrawCall → ℕ
+ending z i = drawRefusal z (secretOf z (i .secret)) (i .p) (syndromeOf i) (choicesOf i)
+
+-- rows that can be read, and orders
+pub record Ready (z : Sizes) (i : DrawCall) : Type 0 where
+  pub secret : Readable z (i .secret)
+  pub p : Order (places z) (i .p)
+  pub y : Row (i .yOnes) (i .yTwos)
+  pub ySize : length (i .yOnes) ≡ wordsFor (codim z)
+  pub orderV : Order (half z) (i .orderV)
+  pub v : Row (i .vOnes) (i .vTwos)
+  pub vSize : length (i .vOnes) ≡ wordsFor (z .kv)
+  pub orderU : Order (half z) (i .orderU)
+  pub u : Row (i .uOnes) (i .uTwos)
+  pub uSize : length (i .uOnes) ≡ wordsFor (z .ku)
+  pub values : noZero (z .ku - gapU z) (λ j. tritAt (i .uOnes) (i .uTwos) (gapU z + j)) ≡ true

@@ -1,0 +1,163 @@
+-- One trit of a row of a matrix in planes: written there, read from elsewhere, or made of two rows. Assumes nothing.
+use mathlib.Core.Path.{_≡_, refl, sym, ap, ap₂, _∙_, subst, fun-ext}
+use mathlib.Core.Bool.{Bool, true, false, not, _&&_, cond, true≢false}
+use mathlib.Core.Logic.{_⊎_, inl, inr}
+use mathlib.Core.List.{List}
+use Prim.Native.Nat.{ℕ, zero, suc, _+_, _-_, _*_, _%_, _≤_, _<_}
+use native.Mathlib.Decide.{decLt, ℕ-discrete}
+use native.Mathlib.Omega.{arith}
+use borrow.Author.Tests.{eq-eqb, ne-eqb, eqb-true, lt-ltb, le-ltb}
+use borrow.Rule.Slice.PartMut.{midOf}
+use lib.Dec.{T, eqb}
+use mir.Syntax.{w8}
+use mir.Val.{Fits}
+use lib.ListN.{length}
+use Rattle.trits.specs.Trit.{Trit, t0, t1, t2, subT, mulT, isSet, number, tritOf, putV, dotV}
+use Rattle.trits.specs.Planes.{tritAt, Row, Reads}
+use Rattle.trits.specs.Rows.{matrixAt}
+use Rattle.trits.proofs.Arithmetic.{at, every}
+use Rattle.trits.proofs.Reading.{read-past}
+use Rattle.trits.proofs.Parts.{part-row, part-trit, length-mid}
+use Rattle.trits.proofs.Matrix.{row-le, rows-apart}
+use Rattle.matrix.specs.Linear.{Vector, Matrix}
+use Rattle.grid.specs.Grid.{Rows, Grid, putRow}
+use Rattle.grid.proofs.RowParts.{read-trit}
+use Rattle.grid.proofs.Cells.{cell, cell-past, grid-by, grid-to, read-set, read-unset}
+use Rattle.draw_reduce.specs.Walk.{isNext}
+use Rattle.draw_walk.specs.Forced.{forcedBy}
+
+-- ---- trits as numbers
+
+back-number : (n : ℕ) → n < 3 → n ≡ number (tritOf n)
+back-number zero h = refl
+back-number (suc zero) h = refl
+back-number (suc (suc zero)) h = refl
+back-number (suc (suc (suc n))) h = absurd (omega arith)
+
+set-number : (x : Trit) → not (eqb (number x) 0) ≡ isSet x
+set-number t0 = refl
+set-number t1 = refl
+set-number t2 = refl
+
+-- (c - b)·v by numbers, for every trit
+true-of : (b : Bool) → T b → b ≡ true
+true-of true h = refl
+true-of false h = absurd h
+
+forced-table : (b c v : Trit) → (number c + 2 * number b) * number v % 3 ≡ number (mulT (subT c b) v)
+forced-table b c v = eqb-true _ _ (true-of _ (at (test b c) (at (λ c. every (test b c)) (at (λ b. every (λ c. every (test b c))) tt b) c) v))
+  where
+    test : Trit → Trit → Trit → Bool
+    test b c v = eqb ((number c + 2 * number b) * number v % 3) (number (mulT (subT c b) v))
+
+pub forced-number : (b c v : ℕ) → b < 3 → c < 3 → v < 3 → (c + 2 * b) * v % 3 ≡ number (mulT (subT (tritOf c) (tritOf b)) (tritOf v))
+forced-number b c v hb hc hv =
+    ap₂ (λ (x y : ℕ). (x + 2 * y) * v % 3) (back-number c hc) (back-number b hb)
+    ∙ ap (λ (z : ℕ). (number (tritOf c) + 2 * number (tritOf b)) * z % 3) (back-number v hv)
+    ∙ forced-table (tritOf b) (tritOf c) (tritOf v)
+
+-- a product of small numbers is a byte
+pub small-product : {x v : ℕ} → x < 7 → v < 3 → Fits w8 (x * v)
+small-product {x} {v} h k = by v k
+  where
+    by : (n : ℕ) → n < 3 → Fits w8 (x * n)
+    by zero l = omega arith
+    by (suc zero) l = omega arith
+    by (suc (suc zero)) l = omega arith
+    by (suc (suc (suc n))) l = absurd (omega arith)
+
+-- ---- a trit put in row e
+
+-- a trit known by its number
+pub put-number : {o t : List ℕ} {r w : ℕ} (A : Matrix) (e q n : ℕ) (x : Trit) → n ≡ number x → Grid o t r w (putRow e (putV (A e) q (tritOf n)) A) → Grid o t r w (putRow e (putV (A e) q x) A)
+put-number A e q n x d g = grid-to g (ap (λ (y : Trit). putRow e (putV (A e) q y) A) (read-trit x n d))
+
+-- row e stays as it is
+pub put-own : (e : ℕ) (A : Matrix) → A ≡ putRow e (A e) A
+put-own e A = fun-ext (λ i. fun-ext (λ q. by i q (ℕ-discrete i e)))
+  where
+    by : (i q : ℕ) → Dec (i ≡ e) → A i q ≡ putRow e (A e) A i q
+    by i q (yes d) = rw (eq-eqb i e d) (ap (λ (k : ℕ). A k q) d)
+    by i q (no f) = rw (ne-eqb i e f)
+
+-- which of two words row e takes
+module _ {b : Bool} (u v : Vector) where
+  pub pick-first : b ≡ true → u ≡ cond b u v
+  pick-first d = ap (λ (c : Bool). cond c u v) (sym d)
+
+  pub pick-second : b ≡ false → v ≡ cond b u v
+  pick-second d = ap (λ (c : Bool). cond c u v) (sym d)
+
+pub grid-row : {o t : List ℕ} {r w : ℕ} (A : Matrix) (e : ℕ) {u v : Vector} → Grid o t r w (putRow e u A) → u ≡ v → Grid o t r w (putRow e v A)
+grid-row A e g d = grid-to g (ap (λ (y : Vector). putRow e y A) d)
+
+pub grid-own : {o t : List ℕ} {r w : ℕ} → Rows o t r w → (e : ℕ) {v : Vector} → matrixAt w o t e ≡ v → Grid o t r w (putRow e v (matrixAt w o t))
+grid-own {o} {t} {w = w} g e d = record { rows = g; cells = put-own e (matrixAt w o t) ∙ ap (λ (y : Vector). putRow e y (matrixAt w o t)) d }
+
+-- ---- whether a place has the next pivot
+
+module _ (r w : ℕ) (o t : List ℕ) (c q : ℕ) where
+  pub next-none : r ≤ c → false ≡ isNext r (matrixAt w o t) c q
+  next-none h = sym (ap (λ (b : Bool). b && isSet (matrixAt w o t c q)) (le-ltb c r h))
+
+  pub next-row : {x : ℕ} → c < r → q < 64 * w → x ≡ number (tritAt o t (64 * (c * w) + q)) → not (eqb x 0) ≡ isNext r (matrixAt w o t) c q
+  next-row h l e =
+      ap (λ (n : ℕ). not (eqb n 0)) e ∙ set-number (tritAt o t (64 * (c * w) + q)) ∙ ap isSet (sym (cell w o t c q l))
+      ∙ sym (ap (λ (b : Bool). b && isSet (matrixAt w o t c q)) (lt-ltb c r h))
+
+-- there is a row for it
+pub next-lt : (r : ℕ) (A : Matrix) (c q : ℕ) → isNext r A c q ≡ true → c < r
+next-lt r A c q e = by (decLt c r)
+  where
+    by : Dec (c < r) → c < r
+    by (yes l) = l
+    by (no f) = absurd (true≢false (sym e ∙ ap (λ (b : Bool). b && isSet (A c q)) (le-ltb c r (omega arith))))
+
+-- of two cases the second, where the first is not so
+pub other-case : {b : Bool} {X : Type 0} → (b ≡ true) ⊎ X → b ≡ false → X
+other-case (inl f) e = absurd (true≢false (sym f ∙ e))
+other-case (inr x) e = x
+
+-- ---- the product of two rows
+
+pub record Part (o t : List ℕ) (w i k : ℕ) : Type 0 where
+  pub row : Row (midOf (i * w) k o) (midOf (i * w) k t)
+  pub size : length (midOf (i * w) k o) ≡ w
+  pub trits : tritAt (midOf (i * w) k o) (midOf (i * w) k t) ≡ matrixAt w o t i
+
+pub row-part : {o t : List ℕ} {r w : ℕ} → Rows o t r w → (i : ℕ) → i < r → (k : ℕ) → w ≡ k → Part o t w i k
+row-part {o} {t} {r} {w} g i h k e =
+    subst (λ (x : ℕ). Part o t w i x) e (record { row = part-row (g .row) (i * w) w fits; size = length-mid (i * w) w o fits; trits = fun-ext (λ q. by q (decLt q (64 * w))) })
+  where
+    fits : i * w + w ≤ length o
+    fits = omega (arith, row-le w h, g .size)
+
+    fits-two : i * w + w ≤ length t
+    fits-two = omega (arith, g .row .same, row-le w h, g .size)
+
+    by : (q : ℕ) → Dec (q < 64 * w) → tritAt (midOf (i * w) w o) (midOf (i * w) w t) q ≡ matrixAt w o t i q
+    by q (yes l) = part-trit o t (i * w) w fits fits-two q l ∙ sym (cell w o t i q l)
+    by q (no l) =
+        read-past (midOf (i * w) w o) (midOf (i * w) w t) w q (length-mid (i * w) w o fits) (length-mid (i * w) w t fits-two) (omega arith)
+        ∙ sym (cell-past w o t i q (omega arith))
+
+pub rows-product : {o t : List ℕ} {w i j k l n : ℕ} (a : Part o t w i k) (b : Part o t w j l)
+    → n ≡ number (dotV (tritAt (midOf (i * w) k o) (midOf (i * w) k t)) (tritAt (midOf (j * w) l o) (midOf (j * w) l t)) (64 * length (midOf (i * w) k o)))
+    → n ≡ number (dotV (matrixAt w o t i) (matrixAt w o t j) (64 * w))
+rows-product {o} {t} {w} {i} {j} {k} {l} a b d =
+    d ∙ ap₂ (λ (u v : Vector). number (dotV u v (64 * length (midOf (i * w) k o)))) (a .trits) (b .trits)
+    ∙ ap (λ (m : ℕ). number (dotV (matrixAt w o t i) (matrixAt w o t j) (64 * m))) (a .size)
+
+-- ---- a forced place
+
+module _ (w : ℕ) (o t : List ℕ) (ev q n : ℕ) (h : q < 64 * w) (e : n ≡ number (tritAt o t (64 * (ev * w) + q))) (b c : Vector) (x : Trit) where
+  pub forced-none : n ≡ 0 → x ≡ forcedBy b c (matrixAt w o t ev) q x
+  forced-none z = sym (ap (λ (s : Bool). cond s (mulT (subT (c q) (b q)) (matrixAt w o t ev q)) x) (read-unset w o t ev q n h e z))
+
+  pub forced-some : {k l m : ℕ} → (n ≡ 0 → ⊥) → k ≡ number (b q) → l ≡ number (c q) → m ≡ number (mulT (subT (tritOf l) (tritOf k)) (tritOf n))
+      → m ≡ number (forcedBy b c (matrixAt w o t ev) q x)
+  forced-some {k} {l} {m} f eb ec d =
+      d
+      ∙ ap₂ (λ (y z : Trit). number (mulT (subT y z) (tritOf n))) (read-trit (c q) l ec) (read-trit (b q) k eb)
+      ∙ ap (λ (y : Trit). number (mulT (subT (c q) (b q)) y)) (read-trit (tritAt o t (64 * (ev * w) + q)) n e ∙ sym (cell w o t ev q h))
+      ∙ sym (ap (λ (s : Bool). number (cond s (mulT (subT (c q) (b q)) (matrixAt w o t ev q)) x)) (read-set w o t ev q n h e f))

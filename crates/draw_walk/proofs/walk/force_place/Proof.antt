@@ -1,0 +1,112 @@
+-- Row ev is 0 at the place, and the value is put as it is (`forced-none`), or it is not, and the product is put (`forced-some`).
+-- Assumes nothing.
+use borrow.Author.Needs.{needs}
+use Rattle.grid.proofs.RowParts.{trit-lt}
+use Rattle.draw_walk.proofs.Puts.{put-number, grid-row, forced-none, forced-some}
+use Rattle.trits.proofs.Matrix.{row-le}
+use Rattle.trits.specs.Rows.{matrixAt}
+use Rattle.trits.specs.Planes.{tritAt}
+use Rattle.trits.specs.Trit.{Trit, tritOf, putV, mulT, subT}
+use denote.Ref.{now}
+use native.Mathlib.Omega.{arith}
+use mathlib.Core.Path.{ap}
+use Prim.Native.Nat.{_+_, _-_, _*_}
+use Rattle.draw_walk.proofs.walk.force_place.Statement.{statement}
+use Rattle.draw_walk.proofs.walk.force_place.Tie as tie
+
+mul-trit-at : tie.Need-mul-trit-at
+mul-trit-at c =
+    let s = c .before .before .before .before .before .before .before .before .before .before in
+    let a = s .args in
+    let h = row-le (a .w) {i = a .ev} {m = a .rows} (omega arith) in
+    omega (arith, h, s .pre .0 .size)
+
+mul-trit-at-2 : tie.Need-mul-trit-at-2
+mul-trit-at-2 c =
+    let s = c .before .before .before .before .before .before .before .before .before .before in
+    let a = s .args in
+    let h = row-le (a .w) {i = a .ev} {m = a .rows} (omega arith) in
+    omega (arith, h, s .pre .0 .size)
+
+add-trit-at : tie.Need-add-trit-at
+add-trit-at c =
+    let s = c .before .before .before .before .before .before .before .before .before .before in
+    let a = s .args in
+    let h = row-le (a .w) {i = a .ev} {m = a .rows} (omega arith) in
+    omega (arith, h, s .pre .0 .size)
+
+trit-at-requires : tie.Need-trit-at-requires
+trit-at-requires c κs =
+    let s = c .before .before .before .before .before .before .before .before .before .before in
+    let a = s .args in
+    let h = row-le (a .w) {i = a .ev} {m = a .rows} (omega arith) in
+    (s .pre .0 .row .same, omega (arith, h, s .pre .0 .size))
+
+put-from-requires : tie.Need-put-from-requires
+put-from-requires c κs =
+    let s = c .before .before .before .before .before .before .before .before .before .before .before .before .before .before in
+    (s .pre .0, (s .pre .1 .0 .2, (s .pre .1 .1 .0, s .pre .1 .1 .1, s .pre .1 .1 .3, s .pre .1 .1 .6)))
+
+same-length : tie.Need-same-length
+same-length c = search needs
+
+same-length-2 : tie.Need-same-length-2
+same-length-2 c = search needs
+
+returns : tie.Need-returns
+returns c =
+    let s = c .before .before .before .before .before .before .before .before .before .before .before .before .before .before .before .before .before .before .before in
+    let a = s .args in
+    grid-row (matrixAt (a .w) (now (a .ones)) (now (a .twos))) (a .e) (c .before .before .before .before .put-from .ensures) (ap (λ (x : Trit). putV ((matrixAt (a .w) (now (a .ones)) (now (a .twos))) (a .e)) (a .q) x) (forced-none (a .w) (now (a .ones)) (now (a .twos)) (a .ev) (a .q) _ (s .pre .1 .1 .1) (c .before .before .before .before .before .before .before .before .trit-at .ensures) (tritAt (now (a .bo)) (now (a .bt))) (tritAt (now (a .co)) (now (a .ct))) (tritAt (now (a .uo)) (now (a .ut)) (a .j)) (c .before .before .before .before .before .before .before .if1 .taken)))
+
+trit-at-requires-2 : tie.Need-trit-at-requires-2
+trit-at-requires-2 c κs =
+    let s = c .before .before .before .before .before .before .before .before .before .before .before .before in
+    (s .pre .1 .0 .0 .same, s .pre .1 .1 .4)
+
+trit-at-requires-3 : tie.Need-trit-at-requires-3
+trit-at-requires-3 c κs =
+    let s = c .before .before .before .before .before .before .before .before .before .before .before .before .before in
+    (s .pre .1 .0 .1 .same, s .pre .1 .1 .5)
+
+forced-trit-requires : tie.Need-forced-trit-requires
+forced-trit-requires c κs =
+    let a = c .before .before .before .before .before .before .before .before .before .before .before .before .before .before .args in
+    (trit-lt (tritAt (now (a .bo)) (now (a .bt)) (a .q)) _ (c .before .trit-at2 .ensures), trit-lt (tritAt (now (a .co)) (now (a .ct)) (a .q)) _ (c .trit-at3 .ensures), trit-lt (tritAt (now (a .ones)) (now (a .twos)) (64 * (a .ev * a .w) + a .q)) _ (c .before .before .before .trit-at .ensures))
+
+put-at-requires : tie.Need-put-at-requires
+put-at-requires c κs =
+    let s = c .before .before .before .before .before .before .before .before .before .before .before .before .before .before .before .before .before in
+    (s .pre .0, (s .pre .1 .1 .0, s .pre .1 .1 .3, s .pre .1 .1 .1, trit-lt (mulT (subT (tritOf (c .before .before .before .trit-at3 .result)) (tritOf (c .before .before .before .before .trit-at2 .result))) (tritOf (c .before .before .before .before .before .before .trit-at .result))) _ (c .before .before .forced-trit .ensures)))
+
+same-length-3 : tie.Need-same-length-3
+same-length-3 c = search needs
+
+same-length-4 : tie.Need-same-length-4
+same-length-4 c = search needs
+
+returns-2 : tie.Need-returns-2
+returns-2 c =
+    let s = c .before .before .before .before .before .before .before .before .before .before .before .before .before .before .before .before .before .before .before .before .before .before in
+    let a = s .args in
+    put-number (matrixAt (a .w) (now (a .ones)) (now (a .twos))) (a .e) (a .q) _ _ (forced-some (a .w) (now (a .ones)) (now (a .twos)) (a .ev) (a .q) _ (s .pre .1 .1 .1) (c .before .before .before .before .before .before .before .before .before .before .before .trit-at .ensures) (tritAt (now (a .bo)) (now (a .bt))) (tritAt (now (a .co)) (now (a .ct))) (tritAt (now (a .uo)) (now (a .ut)) (a .j)) (c .before .before .before .before .before .before .before .before .before .before .if1 .left) (c .before .before .before .before .before .before .before .before .before .trit-at2 .ensures) (c .before .before .before .before .before .before .before .before .trit-at3 .ensures) (c .before .before .before .before .before .before .before .forced-trit .ensures)) (c .before .before .before .before .put-at .ensures)
+
+pub force-place-spec : {M : Type 1} → statement M
+force-place-spec =
+    tie.close
+    (tie.spec
+    mul-trit-at
+    mul-trit-at-2
+    add-trit-at
+    trit-at-requires
+    put-from-requires
+    same-length
+    same-length-2
+    returns
+    trit-at-requires-2
+    trit-at-requires-3
+    forced-trit-requires
+    put-at-requires
+    same-length-3
+    same-length-4
+    returns-2)

@@ -1,0 +1,37 @@
+-- The trit read is put as it is (`put-number`).
+-- Assumes nothing.
+use borrow.Author.Needs.{needs}
+use Rattle.grid.proofs.RowParts.{trit-lt}
+use Rattle.draw_walk.proofs.Puts.{put-number}
+use Rattle.trits.specs.Rows.{matrixAt}
+use Rattle.trits.specs.Planes.{tritAt}
+use denote.Ref.{now}
+use Rattle.draw_walk.proofs.walk.put_from.Statement.{statement}
+use Rattle.draw_walk.proofs.walk.put_from.Tie as tie
+
+trit-at-requires : tie.Need-trit-at-requires
+trit-at-requires c κs =
+    let s = c .before .before .before .before in
+    (s .pre .1 .0 .same, s .pre .1 .1 .3)
+
+put-at-requires : tie.Need-put-at-requires
+put-at-requires c κs =
+    let s = c .before .before .before .before .before .before .before in
+    let a = s .args in
+    (s .pre .0, (s .pre .1 .1 .0, s .pre .1 .1 .2, s .pre .1 .1 .1, trit-lt (tritAt (now (a .vo)) (now (a .vt)) (a .j)) _ (c .before .before .trit-at .ensures)))
+
+same-length : tie.Need-same-length
+same-length c = search needs
+
+same-length-2 : tie.Need-same-length-2
+same-length-2 c = search needs
+
+returns : tie.Need-returns
+returns c =
+    let s = c .before .before .before .before .before .before .before .before .before .before .before .before in
+    let a = s .args in
+    put-number (matrixAt (a .w) (now (a .ones)) (now (a .twos))) (a .e) (a .q) _ (tritAt (now (a .vo)) (now (a .vt)) (a .j)) (c .before .before .before .before .before .before .before .trit-at .ensures) (c .before .before .before .before .put-at .ensures)
+
+pub put-from-spec : {M : Type 1} → statement M
+put-from-spec =
+    tie.close (tie.spec trit-at-requires put-at-requires same-length same-length-2 returns)

@@ -1,0 +1,171 @@
+-- Each part that is lent is a row of the matrix (`row-part`), and the product is over its words (`rows-product`).
+-- Assumes nothing.
+use borrow.Author.Needs.{needs}
+use Rattle.draw_walk.proofs.Puts.{row-part, rows-product}
+use Rattle.trits.proofs.Matrix.{row-le}
+use native.Mathlib.Omega.{arith}
+use mathlib.Core.Path.{sym, _∙_}
+use Prim.Native.Nat.{_+_, _-_, _*_}
+use Rattle.draw_walk.proofs.walk.row_dot.Statement.{statement}
+use Rattle.draw_walk.proofs.walk.row_dot.Tie as tie
+
+mul-a : tie.Need-mul-a
+mul-a c =
+    let s = c .before .before in
+    let a = s .args in
+    let h = row-le (a .w) {i = a .i} {m = a .rows} (omega arith) in
+    let k = row-le (a .w) {i = a .j} {m = a .rows} (omega arith) in
+    omega (arith, h, k, s .pre .0 .size, s .pre .0 .row .same)
+
+add-b : tie.Need-add-b
+add-b c =
+    let s = c .before .before in
+    let a = s .args in
+    let h = row-le (a .w) {i = a .i} {m = a .rows} (omega arith) in
+    let k = row-le (a .w) {i = a .j} {m = a .rows} (omega arith) in
+    omega (arith, h, k, s .pre .0 .size, s .pre .0 .row .same)
+
+mul-c : tie.Need-mul-c
+mul-c c =
+    let s = c .before .before in
+    let a = s .args in
+    let h = row-le (a .w) {i = a .i} {m = a .rows} (omega arith) in
+    let k = row-le (a .w) {i = a .j} {m = a .rows} (omega arith) in
+    omega (arith, h, k, s .pre .0 .size, s .pre .0 .row .same)
+
+add-d : tie.Need-add-d
+add-d c =
+    let s = c .before .before in
+    let a = s .args in
+    let h = row-le (a .w) {i = a .i} {m = a .rows} (omega arith) in
+    let k = row-le (a .w) {i = a .j} {m = a .rows} (omega arith) in
+    omega (arith, h, k, s .pre .0 .size, s .pre .0 .row .same)
+
+mul-dot : tie.Need-mul-dot
+mul-dot c =
+    let s = c .before .before in
+    let a = s .args in
+    let h = row-le (a .w) {i = a .i} {m = a .rows} (omega arith) in
+    let k = row-le (a .w) {i = a .j} {m = a .rows} (omega arith) in
+    omega (arith, h, k, s .pre .0 .size, s .pre .0 .row .same)
+
+sub-dot : tie.Need-sub-dot
+sub-dot c = search needs
+
+part-dot-start : tie.Need-part-dot-start
+part-dot-start c = search needs
+
+part-dot-end : tie.Need-part-dot-end
+part-dot-end c =
+    let s = c .before .before in
+    let a = s .args in
+    let h = row-le (a .w) {i = a .i} {m = a .rows} (omega arith) in
+    let k = row-le (a .w) {i = a .j} {m = a .rows} (omega arith) in
+    omega (arith, h, k, s .pre .0 .size, s .pre .0 .row .same)
+
+mul-dot-2 : tie.Need-mul-dot-2
+mul-dot-2 c =
+    let s = c .before .before .before in
+    let a = s .args in
+    let h = row-le (a .w) {i = a .i} {m = a .rows} (omega arith) in
+    let k = row-le (a .w) {i = a .j} {m = a .rows} (omega arith) in
+    omega (arith, h, k, s .pre .0 .size, s .pre .0 .row .same)
+
+sub-dot-2 : tie.Need-sub-dot-2
+sub-dot-2 c = search needs
+
+part-dot-start-2 : tie.Need-part-dot-start-2
+part-dot-start-2 c = search needs
+
+part-dot-end-2 : tie.Need-part-dot-end-2
+part-dot-end-2 c =
+    let s = c .before .before .before in
+    let a = s .args in
+    let h = row-le (a .w) {i = a .i} {m = a .rows} (omega arith) in
+    let k = row-le (a .w) {i = a .j} {m = a .rows} (omega arith) in
+    omega (arith, h, k, s .pre .0 .size, s .pre .0 .row .same)
+
+mul-dot-3 : tie.Need-mul-dot-3
+mul-dot-3 c =
+    let s = c .before .before .before .before in
+    let a = s .args in
+    let h = row-le (a .w) {i = a .i} {m = a .rows} (omega arith) in
+    let k = row-le (a .w) {i = a .j} {m = a .rows} (omega arith) in
+    omega (arith, h, k, s .pre .0 .size, s .pre .0 .row .same)
+
+sub-dot-3 : tie.Need-sub-dot-3
+sub-dot-3 c = search needs
+
+part-dot-start-3 : tie.Need-part-dot-start-3
+part-dot-start-3 c = search needs
+
+part-dot-end-3 : tie.Need-part-dot-end-3
+part-dot-end-3 c =
+    let s = c .before .before .before .before in
+    let a = s .args in
+    let h = row-le (a .w) {i = a .i} {m = a .rows} (omega arith) in
+    let k = row-le (a .w) {i = a .j} {m = a .rows} (omega arith) in
+    omega (arith, h, k, s .pre .0 .size, s .pre .0 .row .same)
+
+mul-dot-4 : tie.Need-mul-dot-4
+mul-dot-4 c =
+    let s = c .before .before .before .before .before in
+    let a = s .args in
+    let h = row-le (a .w) {i = a .i} {m = a .rows} (omega arith) in
+    let k = row-le (a .w) {i = a .j} {m = a .rows} (omega arith) in
+    omega (arith, h, k, s .pre .0 .size, s .pre .0 .row .same)
+
+sub-dot-4 : tie.Need-sub-dot-4
+sub-dot-4 c = search needs
+
+part-dot-start-4 : tie.Need-part-dot-start-4
+part-dot-start-4 c = search needs
+
+part-dot-end-4 : tie.Need-part-dot-end-4
+part-dot-end-4 c =
+    let s = c .before .before .before .before .before in
+    let a = s .args in
+    let h = row-le (a .w) {i = a .i} {m = a .rows} (omega arith) in
+    let k = row-le (a .w) {i = a .j} {m = a .rows} (omega arith) in
+    omega (arith, h, k, s .pre .0 .size, s .pre .0 .row .same)
+
+dot-requires : tie.Need-dot-requires
+dot-requires c κs =
+    let s = c .before .before .before .before .before .before in
+    let a = s .args in
+    let x = row-part (s .pre .0) (a .i) (omega arith) (a .i * a .w + a .w - a .i * a .w) (omega arith) in
+    let y = row-part (s .pre .0) (a .j) (omega arith) (a .j * a .w + a .w - a .j * a .w) (omega arith) in
+    (x .row, (y .row, (y .size ∙ sym (x .size), omega (arith, x .size))))
+
+returns : tie.Need-returns
+returns c =
+    let s = c .before .before .before .before .before .before .before in
+    let a = s .args in
+    rows-product (row-part (s .pre .0) (a .i) (omega arith) (a .i * a .w + a .w - a .i * a .w) (omega arith)) (row-part (s .pre .0) (a .j) (omega arith) (a .j * a .w + a .w - a .j * a .w) (omega arith)) (c .dot .ensures)
+
+pub row-dot-spec : {M : Type 1} → statement M
+row-dot-spec =
+    tie.close
+    (tie.spec
+    mul-a
+    add-b
+    mul-c
+    add-d
+    mul-dot
+    sub-dot
+    part-dot-start
+    part-dot-end
+    mul-dot-2
+    sub-dot-2
+    part-dot-start-2
+    part-dot-end-2
+    mul-dot-3
+    sub-dot-3
+    part-dot-start-3
+    part-dot-end-3
+    mul-dot-4
+    sub-dot-4
+    part-dot-start-4
+    part-dot-end-4
+    dot-requires
+    returns)

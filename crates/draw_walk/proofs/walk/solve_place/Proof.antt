@@ -1,0 +1,79 @@
+-- Where the place has the next pivot it takes the product of row c and row x; else nothing changes.
+-- Assumes nothing.
+use borrow.Author.Needs.{needs}
+use Rattle.grid.proofs.RowParts.{trit-lt}
+use Rattle.draw_walk.proofs.Puts.{next-lt, put-number, pick-first, pick-second, grid-row, grid-own}
+use Rattle.elimination.proofs.Went.{yes-count, no-count}
+use Rattle.trits.specs.Rows.{matrixAt}
+use Rattle.trits.specs.Trit.{dotV}
+use denote.Ref.{now}
+use native.Mathlib.Omega.{arith}
+use mathlib.Core.Path.{sym, _∙_}
+use Prim.Native.Nat.{_*_}
+use Rattle.draw_walk.proofs.walk.solve_place.Statement.{statement}
+use Rattle.draw_walk.proofs.walk.solve_place.Tie as tie
+
+is-next-requires : tie.Need-is-next-requires
+is-next-requires c κs =
+    let s = c .before .before .before .before in
+    (s .pre .0, (s .pre .1 .0, s .pre .1 .2, s .pre .1 .3))
+
+row-dot-requires : tie.Need-row-dot-requires
+row-dot-requires c κs =
+    let s = c .before .before .before .before .before .before .before .before in
+    let a = s .args in
+    let h = next-lt (a .r) (matrixAt (a .w) (now (a .ones)) (now (a .twos))) (a .c) (a .q) (sym (c .before .before .before .is-next .ensures) ∙ c .before .before .if1 .taken) in
+    (s .pre .0, (s .pre .1 .1, omega (arith, h, s .pre .1 .3), s .pre .1 .4))
+
+put-at-requires : tie.Need-put-at-requires
+put-at-requires c κs =
+    let s = c .before .before .before .before .before .before .before .before .before .before .before in
+    let a = s .args in
+    (s .pre .0, (s .pre .1 .0, s .pre .1 .5, s .pre .1 .2, trit-lt (dotV ((matrixAt (a .w) (now (a .ones)) (now (a .twos))) (a .c)) ((matrixAt (a .w) (now (a .ones)) (now (a .twos))) (a .x)) (64 * a .w)) _ (c .before .before .row-dot .ensures)))
+
+add-result : tie.Need-add-result
+add-result c =
+    let a = c .before .before .before .before .before .before .before .before .before .before .before .before .before .before .before .before .args in
+    let h = next-lt (a .r) (matrixAt (a .w) (now (a .ones)) (now (a .twos))) (a .c) (a .q) (sym (c .before .before .before .before .before .before .before .before .before .before .before .is-next .ensures) ∙ c .before .before .before .before .before .before .before .before .before .before .if1 .taken) in
+    omega (arith, h)
+
+same-length : tie.Need-same-length
+same-length c = search needs
+
+same-length-2 : tie.Need-same-length-2
+same-length-2 c = search needs
+
+returns : tie.Need-returns
+returns c =
+    let s = c .before .before .before .before .before .before .before .before .before .before .before .before .before .before .before .before in
+    let a = s .args in
+    let y = sym (c .before .before .before .before .before .before .before .before .before .before .before .is-next .ensures) ∙ c .before .before .before .before .before .before .before .before .before .before .if1 .taken in
+    (yes-count (a .c) y, grid-row (matrixAt (a .w) (now (a .ones)) (now (a .twos))) (a .e) (put-number (matrixAt (a .w) (now (a .ones)) (now (a .twos))) (a .e) (a .q) _ _ (c .before .before .before .before .before .before .before .row-dot .ensures) (c .before .before .before .before .put-at .ensures)) (pick-first _ ((matrixAt (a .w) (now (a .ones)) (now (a .twos))) (a .e)) y))
+
+same-length-3 : tie.Need-same-length-3
+same-length-3 c = search needs
+
+same-length-4 : tie.Need-same-length-4
+same-length-4 c = search needs
+
+returns-2 : tie.Need-returns-2
+returns-2 c =
+    let s = c .before .before .before .before .before .before in
+    let a = s .args in
+    let y = sym (c .before .is-next .ensures) ∙ c .if1 .left in
+    (no-count (a .c) y, grid-own (s .pre .0) (a .e) (pick-second _ ((matrixAt (a .w) (now (a .ones)) (now (a .twos))) (a .e)) y))
+
+pub solve-place-spec : {M : Type 1} → statement M
+solve-place-spec =
+    tie.close
+    (tie.spec
+    is-next-requires
+    row-dot-requires
+    put-at-requires
+    add-result
+    same-length
+    same-length-2
+    returns
+    same-length-3
+    same-length-4
+    returns-2)

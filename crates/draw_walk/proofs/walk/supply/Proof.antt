@@ -1,0 +1,112 @@
+-- Each turn walks one place more (`supply-turn`); a place passed over finds a trit (`supply-room`).
+-- Assumes nothing.
+use Rattle.draw_reduce.proofs.Fronts.{place-below}
+use Rattle.draw_walk.proofs.Supplied.{Walking, walking-none, passed-nil, passed-count, supply-room, supply-turn}
+use Rattle.draw_reduce.specs.Walk.{passed}
+use Rattle.matrix.specs.Linear.{fill}
+use Rattle.trits.specs.Rows.{matrixAt}
+use Rattle.trits.specs.Planes.{tritAt}
+use denote.Ref.{now}
+use lib.ListN.{length, take}
+use native.Mathlib.Omega.{arith}
+use mathlib.Core.Path.{_≡_}
+use Prim.Native.Nat.{_-_, _*_, _≤_}
+use Rattle.draw_walk.proofs.walk.supply.Statement.{statement}
+use Rattle.draw_walk.proofs.walk.supply.Tie as tie
+
+abbrev Inv-loop : tie.InvT-loop
+Inv-loop ones₀ twos₀ rows w r order m vo vt e c₀ i₀ ones twos c i = (i ≤ m) × Walking rows w r e (matrixAt w ones₀ twos₀) (fill (passed r (matrixAt w ones₀ twos₀) 0 (take i order)) (tritAt vo vt) ((matrixAt w ones₀ twos₀) e)) (take i order) c ones twos
+
+abbrev μ-loop : tie.MeasureT-loop
+μ-loop ones₀ twos₀ rows w r order m vo vt e c₀ i₀ ones twos c i = m - i
+
+loop-holds : tie.Need-loop-holds Inv-loop μ-loop
+loop-holds c =
+    let s = c .before .before .before .before .before in
+    let a = s .args in
+    (omega arith, walking-none (a .e) (now (a .order)) (λ B. passed (a .r) B 0 (take 0 (now (a .order)))) (tritAt (now (a .vo)) (now (a .vt))) (s .pre .0) (passed-nil (a .r) (matrixAt (a .w) (now (a .ones)) (now (a .twos))) (now (a .order))))
+
+mul-q : tie.Need-mul-q Inv-loop μ-loop
+mul-q c = omega arith
+
+shared-slice-read-q : tie.Need-shared-slice-read-q Inv-loop μ-loop
+shared-slice-read-q c = omega arith
+
+cast-q : tie.Need-cast-q Inv-loop μ-loop
+cast-q c =
+    omega (arith, c .shared-slice-known4 .given (c .before .before .loop .i))
+
+sub-supply-place : tie.Need-sub-supply-place Inv-loop μ-loop
+sub-supply-place c =
+    let s = c .before .before .before .before .before .before .before .before .before .before in
+    let a = s .args in
+    let l = c .before .before .before .before .loop in
+    omega (arith, passed-count (now (a .order)) (matrixAt (a .w) (now (a .ones)) (now (a .twos))) {i = l .i} (s .pre .1 .1 .0) (omega arith) (s .pre .1 .1 .1 .0 .3) (l .inv .1))
+
+supply-place-requires : tie.Need-supply-place-requires Inv-loop μ-loop
+supply-place-requires c κs =
+    let s = c .before .before .before .before .before .before .before .before .before .before in
+    let a = s .args in
+    let l = c .before .before .before .before .loop in
+    let q = place-below (now (a .order)) (length (now (a .order))) (l .i) (s .pre .1 .1 .0) (omega arith) in
+    let p = passed-count (now (a .order)) (matrixAt (a .w) (now (a .ones)) (now (a .twos))) {i = l .i} (s .pre .1 .1 .0) (omega arith) (s .pre .1 .1 .1 .0 .3) (l .inv .1) in (
+      l .inv .1 .grid .rows,
+      (
+        s .pre .1 .0,
+        (
+          (omega (arith, l .inv .1 .grid .rows .size, s .pre .0 .size), omega (arith, q), omega arith, s .pre .1 .1 .1 .0 .4),
+          supply-room (now (a .order)) (matrixAt (a .w) (now (a .ones)) (now (a .twos))) (s .pre .1 .1 .0) (omega arith) (s .pre .1 .1 .1 .0 .3) (l .inv .1) (a .m) (64 * length (now (a .vo))) (omega arith) (s .pre .1 .1 .1 .1) (omega (arith, p)),
+        ),
+      ),
+    )
+
+add-i : tie.Need-add-i Inv-loop μ-loop
+add-i c = omega arith
+
+loop-less : tie.Need-loop-less Inv-loop μ-loop
+loop-less c = omega arith
+
+loop-again : tie.Need-loop-again Inv-loop μ-loop
+loop-again c =
+    let s = c .before .before .before .before .before .before .before .before .before .before .before .before .before .before .before in
+    let a = s .args in
+    let l = c .before .before .before .before .before .before .before .before .before .loop in
+    let e = c .before .before .before .before .supply-place .ensures in
+    (omega arith, supply-turn (now (a .order)) (matrixAt (a .w) (now (a .ones)) (now (a .twos))) (s .pre .1 .1 .0) (omega arith) (s .pre .1 .1 .1 .0 .3) (tritAt (now (a .vo)) (now (a .vt))) (l .inv .1) (e .0) (e .1))
+
+same-length : tie.Need-same-length Inv-loop μ-loop
+same-length c =
+    let s = c .before .before .before .before .before .before .before in
+    omega (arith, c .before .loop .inv .1 .grid .rows .size, s .pre .0 .size)
+
+same-length-2 : tie.Need-same-length-2 Inv-loop μ-loop
+same-length-2 c =
+    let s = c .before .before .before .before .before .before .before in
+    let g = c .before .loop .inv .1 .grid .rows in
+    omega (arith, g .size, g .row .same, s .pre .0 .size, s .pre .0 .row .same)
+
+returns : tie.Need-returns Inv-loop μ-loop
+returns c =
+    let a = c .before .before .before .before .before .before .before .args in
+    let l = c .before .loop in
+    let e : l .i ≡ a .m = omega arith in
+    (rw e at (l .inv .1)) .grid
+
+pub supply-spec : {M : Type 1} → statement M
+supply-spec =
+    tie.close
+    (tie.spec
+    Inv-loop
+    μ-loop
+    loop-holds
+    mul-q
+    shared-slice-read-q
+    cast-q
+    sub-supply-place
+    supply-place-requires
+    add-i
+    loop-less
+    loop-again
+    same-length
+    same-length-2
+    returns)

@@ -1,0 +1,107 @@
+-- Each turn puts the value of one place more of the last part (`forced-turn`); row ev is not the row that changes.
+-- Assumes nothing.
+use Rattle.draw_reduce.proofs.Fronts.{place-below}
+use Rattle.draw_walk.proofs.Supplied.{forcedAt, forced-start, forced-turn, forced-all}
+use Rattle.grid.specs.Grid.{Grid, putRow}
+use Rattle.matrix.specs.Linear.{fill}
+use Rattle.trits.specs.Rows.{matrixAt}
+use Rattle.trits.specs.Planes.{tritAt}
+use denote.Ref.{now}
+use lib.ListN.{length, take, drop}
+use native.Mathlib.Omega.{arith}
+use mathlib.Core.Path.{refl}
+use Prim.Native.Nat.{_-_, _≤_}
+use Rattle.draw_walk.proofs.walk.supply_forced.Statement.{statement}
+use Rattle.draw_walk.proofs.walk.supply_forced.Tie as tie
+
+abbrev Inv-loop : tie.InvT-loop
+Inv-loop ones₀ twos₀ rows w order from bo bt co ct uo ut g ev e i₀ ones twos i = ((from ≤ i) × (i ≤ length order)) × Grid ones twos rows w (putRow e (fill (take (i - from) (drop from order)) (forcedAt order (matrixAt w ones₀ twos₀) from ev (tritAt bo bt) (tritAt co ct) (tritAt uo ut) g) ((matrixAt w ones₀ twos₀) e)) (matrixAt w ones₀ twos₀))
+
+abbrev μ-loop : tie.MeasureT-loop
+μ-loop ones₀ twos₀ rows w order from bo bt co ct uo ut g ev e i₀ ones twos i = length order - i
+
+loop-holds : tie.Need-loop-holds Inv-loop μ-loop
+loop-holds c =
+    let s = c .before .before .before .before .before .before .before .before .before in
+    let a = s .args in
+    ((omega arith, omega arith), forced-start (now (a .order)) (matrixAt (a .w) (now (a .ones)) (now (a .twos))) (a .from) (a .from) (a .e) (a .ev) (tritAt (now (a .bo)) (now (a .bt))) (tritAt (now (a .co)) (now (a .ct))) (tritAt (now (a .uo)) (now (a .ut))) (a .g) (s .pre .0) refl refl)
+
+mul-q : tie.Need-mul-q Inv-loop μ-loop
+mul-q c = omega arith
+
+shared-slice-read-q : tie.Need-shared-slice-read-q Inv-loop μ-loop
+shared-slice-read-q c = omega arith
+
+cast-q : tie.Need-cast-q Inv-loop μ-loop
+cast-q c =
+    omega (arith, c .shared-slice-known8 .given (c .before .before .loop .i))
+
+sub-j : tie.Need-sub-j Inv-loop μ-loop
+sub-j c = omega arith
+
+add-j : tie.Need-add-j Inv-loop μ-loop
+add-j c =
+    let s = c .before .before .before .before .before .before .before .before .before .before .before .before in
+    let p = s .pre .1 .1 .1 in
+    omega (arith, p .0 .1, p .0 .2, p .0 .3, p .1 .3)
+
+force-place-requires : tie.Need-force-place-requires Inv-loop μ-loop
+force-place-requires c κs =
+    let s = c .before .before .before .before .before .before .before .before .before .before .before .before .before .before in
+    let a = s .args in
+    let l = c .before .before .before .before .loop in
+    let q = place-below (now (a .order)) (length (now (a .order))) (l .i) (s .pre .1 .1 .0) (omega arith) in
+    (l .inv .1 .rows, (s .pre .1 .0, (omega (arith, l .inv .1 .rows .size, s .pre .0 .size), omega (arith, q), s .pre .1 .1 .1 .0 .4, s .pre .1 .1 .1 .0 .5, omega (arith, q), omega (arith, q), omega arith)))
+
+add-i : tie.Need-add-i Inv-loop μ-loop
+add-i c =
+    let s = c .before .before .before .before .before .before .before .before .before .before .before .before .before .before .before .before .before .before .before in
+    let p = s .pre .1 .1 .1 in
+    omega (arith, p .0 .1, p .0 .2)
+
+loop-less : tie.Need-loop-less Inv-loop μ-loop
+loop-less c = omega arith
+
+loop-again : tie.Need-loop-again Inv-loop μ-loop
+loop-again c =
+    let s = c .before .before .before .before .before .before .before .before .before .before .before .before .before .before .before .before .before .before .before in
+    let a = s .args in
+    let l = c .before .before .before .before .before .before .before .before .before .loop in
+    ((omega arith, omega arith), forced-turn (now (a .order)) (matrixAt (a .w) (now (a .ones)) (now (a .twos))) (a .from) (l .i) (a .e) (a .ev) (tritAt (now (a .bo)) (now (a .bt))) (tritAt (now (a .co)) (now (a .ct))) (tritAt (now (a .uo)) (now (a .ut))) (a .g) (s .pre .1 .1 .0) (omega arith) (omega arith) (s .pre .1 .1 .1 .0 .6) (l .inv .1) (c .before .before .before .before .force-place .ensures))
+
+same-length : tie.Need-same-length Inv-loop μ-loop
+same-length c =
+    let s = c .before .before .before .before .before .before .before .before .before .before .before in
+    omega (arith, c .before .loop .inv .1 .rows .size, s .pre .0 .size)
+
+same-length-2 : tie.Need-same-length-2 Inv-loop μ-loop
+same-length-2 c =
+    let s = c .before .before .before .before .before .before .before .before .before .before .before in
+    let g = c .before .loop .inv .1 .rows in
+    omega (arith, g .size, g .row .same, s .pre .0 .size, s .pre .0 .row .same)
+
+returns : tie.Need-returns Inv-loop μ-loop
+returns c =
+    let a = c .before .before .before .before .before .before .before .before .before .before .before .args in
+    let l = c .before .loop in
+    forced-all (now (a .order)) (matrixAt (a .w) (now (a .ones)) (now (a .twos))) (a .from) (l .i) (a .e) (a .ev) (tritAt (now (a .bo)) (now (a .bt))) (tritAt (now (a .co)) (now (a .ct))) (tritAt (now (a .uo)) (now (a .ut))) (a .g) (omega arith) (l .inv .1)
+
+pub supply-forced-spec : {M : Type 1} → statement M
+supply-forced-spec =
+    tie.close
+    (tie.spec
+    Inv-loop
+    μ-loop
+    loop-holds
+    mul-q
+    shared-slice-read-q
+    cast-q
+    sub-j
+    add-j
+    force-place-requires
+    add-i
+    loop-less
+    loop-again
+    same-length
+    same-length-2
+    returns)

@@ -1,0 +1,64 @@
+-- By what joining and weighing say of the two rows (`word-joined`).
+-- Assumes nothing.
+use native.Mathlib.Omega.{arith}
+use denote.Ref.{now}
+use Rattle.calls.specs.Lent.{halfWords}
+use Rattle.calls.proofs.Bounds.{bounds}
+use Rattle.draw_word.specs.Stages.{pairsOf}
+use Rattle.draw_word.proofs.Stages.{word-joined}
+use borrow.Author.Needs.{needs}
+use Rattle.draw_word.proofs.word.join_word.Statement.{statement}
+use Rattle.draw_word.proofs.word.join_word.Tie as tie
+
+add-w : tie.Need-add-w
+add-w c =
+    let s = c .before .before .before .before .before .before in let a = s .args in let b = bounds (a .z) (s .pre .0) in omega (arith, b .low, b .high, b .ku, b .kv, s .pre .1 .1 .1 .0)
+
+add-rows : tie.Need-add-rows
+add-rows c =
+    let s = c .before .before .before .before .before .before in let a = s .args in let b = bounds (a .z) (s .pre .0) in omega (arith, b .low, b .high, b .ku, b .kv, s .pre .1 .1 .1 .0)
+
+add-v : tie.Need-add-v
+add-v c =
+    let s = c .before .before .before .before .before .before in let a = s .args in let b = bounds (a .z) (s .pre .0) in omega (arith, b .low, b .high, b .ku, b .kv, s .pre .1 .1 .1 .0)
+
+add-u : tie.Need-add-u
+add-u c =
+    let s = c .before .before .before .before .before .before in let a = s .args in let b = bounds (a .z) (s .pre .0) in omega (arith, b .low, b .high, b .ku, b .kv, s .pre .1 .1 .1 .0)
+
+add-join-halves : tie.Need-add-join-halves
+add-join-halves c =
+    let s = c .before .before .before .before .before .before .before .before in let a = s .args in let b = bounds (a .z) (s .pre .0) in omega (arith, b .low, b .high, b .ku, b .kv, s .pre .1 .1 .1 .0)
+
+join-halves-requires : tie.Need-join-halves-requires
+join-halves-requires c κs =
+    let s = c .before .before .before .before .before .before .before .before in let a = s .args in let b = bounds (a .z) (s .pre .0) in let y = s .pre .1 .1 .0 in (s .pre .1 .1 .1 .1, (s .pre .1 .0, (omega arith, omega arith, omega arith, λ w. omega arith, λ w. omega arith, y .0, y .1)))
+
+pair-weight-requires : tie.Need-pair-weight-requires
+pair-weight-requires c κs =
+    let s = c .before .before .before .before .before .before .before .before .before .before .before .before .before .before .before in let a = s .args in let b = bounds (a .z) (s .pre .0) in (c .before .before .before .before .before .before .join-halves .ensures .rows, (omega (arith, s .pre .1 .1 .1 .0), omega (arith, b .high), omega arith, omega arith))
+
+same-length : tie.Need-same-length
+same-length c = search needs
+
+same-length-2 : tie.Need-same-length-2
+same-length-2 c = search needs
+
+returns : tie.Need-returns
+returns c =
+    let s = c .before .before .before .before .before .before .before .before .before .before .before .before .before .before .before .before in let a = s .args in let b = bounds (a .z) (s .pre .0) in (c .before .before .before .before .before .before .before .join-halves .ensures .rows, word-joined (a .l) (pairsOf (now (a .b-ones)) (now (a .b-twos)) (now (a .c-ones)) (now (a .c-twos))) (halfWords (a .z)) _ _ _ _ (c .before .before .before .before .before .before .before .join-halves .ensures), c .pair-weight .ensures)
+
+pub join-word-spec : {M : Type 1} → statement M
+join-word-spec =
+    tie.close
+    (tie.spec
+    add-w
+    add-rows
+    add-v
+    add-u
+    add-join-halves
+    join-halves-requires
+    pair-weight-requires
+    same-length
+    same-length-2
+    returns)

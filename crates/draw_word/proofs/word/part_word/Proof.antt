@@ -1,0 +1,70 @@
+-- The syndrome is placed in rows of 0, and its halves are parted (`word-parted`).
+-- Assumes nothing.
+use Prim.Native.Nat.{_+_}
+use native.Mathlib.Omega.{arith}
+use denote.Ref.{now}
+use Rattle.trits.specs.Planes.{tritAt}
+use Rattle.calls.specs.Lent.{halfWords}
+use Rattle.calls.proofs.Bounds.{bounds, prod}
+use Rattle.draw_word.specs.Stages.{pairsOf, startWord}
+use Rattle.draw_word.proofs.Stages.{space-rows, space-empty, word-parted}
+use borrow.Author.Needs.{needs}
+use Rattle.draw_word.proofs.word.part_word.Statement.{statement}
+use Rattle.draw_word.proofs.word.part_word.Tie as tie
+
+add-w : tie.Need-add-w
+add-w c =
+    let s = c .before .before .before .before .before .before .before .before .before in let a = s .args in let b = bounds (a .z) (s .pre .0) in omega (arith, b .low, b .high, b .ku, b .kv, s .pre .1 .1 .1 .1 .1 .0)
+
+sub-count : tie.Need-sub-count
+sub-count c =
+    let s = c .before .before .before .before .before .before .before .before .before in let a = s .args in let b = bounds (a .z) (s .pre .0) in omega (arith, b .low, b .high, b .ku, b .kv, s .pre .1 .1 .1 .1 .1 .0)
+
+sub-count-2 : tie.Need-sub-count-2
+sub-count-2 c =
+    let s = c .before .before .before .before .before .before .before .before .before in let a = s .args in let b = bounds (a .z) (s .pre .0) in omega (arith, b .low, b .high, b .ku, b .kv, s .pre .1 .1 .1 .1 .1 .0)
+
+add-count : tie.Need-add-count
+add-count c =
+    let s = c .before .before .before .before .before .before .before .before .before in let a = s .args in let b = bounds (a .z) (s .pre .0) in omega (arith, b .low, b .high, b .ku, b .kv, s .pre .1 .1 .1 .1 .1 .0)
+
+add-rows : tie.Need-add-rows
+add-rows c =
+    let s = c .before .before .before .before .before .before .before .before .before in let a = s .args in let b = bounds (a .z) (s .pre .0) in omega (arith, b .low, b .high, b .ku, b .kv, s .pre .1 .1 .1 .1 .1 .0)
+
+clear-requires : tie.Need-clear-requires
+clear-requires c κs = search needs
+
+place-syndrome-requires : tie.Need-place-syndrome-requires
+place-syndrome-requires c κs =
+    let s = c .before .before .before .before .before .before .before .before .before .before .before .before .before .before .before .before .before .before in let a = s .args in let b = bounds (a .z) (s .pre .0) in let m = s .pre .1 .1 .1 .1 .1 in let q = c .before .before .before .before .before .before .clear .ensures in let h = b .high in let big = prod (a .l + 5) (halfWords (a .z)) 8197 128 (omega (arith, m .0)) (omega (arith, h)) in let r = space-rows _ _ (a .l + 5) (halfWords (a .z)) (q .0) (q .1) (m .1) (m .2) in let y = s .pre .1 .1 .1 .1 .0 in (r, ((space-empty _ _ (a .l + 5) (halfWords (a .z)) (q .0) (q .1) (m .1) (m .2) (a .l), space-empty _ _ (a .l + 5) (halfWords (a .z)) (q .0) (q .1) (m .1) (m .2) (a .l + 1)), (s .pre .1 .1 .1 .0, ((omega (arith, r .size, big), omega arith, omega (arith, h)), (omega (arith, b .ku, b .kv), omega (arith, y .0), y .1)))))
+
+part-halves-requires : tie.Need-part-halves-requires
+part-halves-requires c κs =
+    let s = c .before .before .before .before .before .before .before .before .before .before .before .before .before .before .before .before .before .before .before .before .before .before .before .before .before in let a = s .args in let b = bounds (a .z) (s .pre .0) in (c .before .before .before .before .before .before .place-syndrome .ensures .rows, (s .pre .1 .0, (omega arith, s .pre .1 .1 .0 .0, s .pre .1 .1 .0 .1)))
+
+same-length : tie.Need-same-length
+same-length c = search needs
+
+same-length-2 : tie.Need-same-length-2
+same-length-2 c = search needs
+
+returns : tie.Need-returns
+returns c =
+    let s = c .before .before .before .before .before .before .before .before .before .before .before .before .before .before .before .before .before .before .before .before .before .before .before .before .before .before .before .before .before .before in let a = s .args in let b = bounds (a .z) (s .pre .0) in let m = s .pre .1 .1 .1 .1 .1 in let q = c .before .before .before .before .before .before .before .before .before .before .before .before .before .before .before .before .before .before .clear .ensures in (c .before .before .before .before .part-halves .ensures .rows, word-parted (a .z) (a .l) (pairsOf (now (a .b-ones)) (now (a .b-twos)) (now (a .c-ones)) (now (a .c-twos))) (startWord (a .z) (now (a .p)) (tritAt (now (a .y-ones)) (now (a .y-twos)))) (halfWords (a .z)) _ _ _ _ _ _ (space-empty _ _ (a .l + 5) (halfWords (a .z)) (q .0) (q .1) (m .1) (m .2)) (c .before .before .before .before .before .before .before .before .before .before .before .place-syndrome .ensures) (c .before .before .before .before .part-halves .ensures))
+
+pub part-word-spec : {M : Type 1} → statement M
+part-word-spec =
+    tie.close
+    (tie.spec
+    add-w
+    sub-count
+    sub-count-2
+    add-count
+    add-rows
+    clear-requires
+    place-syndrome-requires
+    part-halves-requires
+    same-length
+    same-length-2
+    returns)

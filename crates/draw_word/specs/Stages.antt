@@ -1,0 +1,63 @@
+-- The working space of a draw, stage after stage: rows of N places, the matrix under elimination below row l, then x_U, x_V, a row for products, e_V, e_U ("One draw"). No rule of the paper: code is tied to it. Assumes nothing.
+use mathlib.Core.Path.{_≡_}
+use mathlib.Core.List.{List}
+use Prim.Native.Nat.{ℕ, _+_}
+use lib.Dec.{eqb}
+use Rattle.trits.specs.Trit.{upTo}
+use Rattle.trits.specs.Planes.{tritAt}
+use Rattle.trits.specs.Refusal.{demand}
+use Rattle.matrix.specs.Linear.{Vector, Matrix, zeros, rank}
+use Rattle.scheme.specs.declared.sizes.Sizes.{Sizes}
+use Rattle.scheme.specs.Sizes.{half, ru, rv, codim}
+use Rattle.scheme.specs.Secret.{Secret, join, uOf, vOf, leftOf, rightOf}
+use Rattle.scheme.specs.Draw.{Choices, placed, firstV, firstU, drawV, drawU}
+use Rattle.calls.specs.Lent.{secretOf}
+use Rattle.calls.specs.DrawCall.{DrawCall, syndromeOf, choicesOf}
+
+-- b and c alone, with no matrices
+abbrev pub pairsOf : List ℕ → List ℕ → List ℕ → List ℕ → Secret
+pairsOf bo bt co ct = record { hu = λ i. zeros; hv = λ i. zeros; b = tritAt bo bt; c = tritAt co ct }
+
+-- the orders and the supplied trits
+abbrev pub choices : List ℕ → List ℕ → List ℕ → List ℕ → List ℕ → List ℕ → Choices
+choices ov vo vt ou uo ut = record { orderV = ov; tritsV = tritAt vo vt; orderU = ou; valuesU = tritAt uo ut }
+
+-- (y, 0...0) in secret places
+abbrev pub startWord : Sizes → List ℕ → Vector → Vector
+startWord z p y = placed p (join (codim z) y zeros)
+
+-- x is parted, and the rows of e_V and e_U hold 0
+pub record Parted (z : Sizes) (l : ℕ) (s : Secret) (x : Vector) (A : Matrix) : Type 0 where
+  pub left : A l ≡ upTo (half z) (uOf z s x)
+  pub right : A (l + 1) ≡ upTo (half z) (vOf z s x)
+  pub emptyV : A (l + 3) ≡ zeros
+  pub emptyU : A (l + 4) ≡ zeros
+
+-- 12 where the first part lacks rank in V, 13 where it does in U
+abbrev pub ranksRefusal : Sizes → Secret → Choices → ℕ → ℕ
+ranksRefusal z s ch rest =
+    demand (eqb (rank (rv z) (half z) (s .hv) (firstV z ch)) (rv z)) 12
+    (demand (eqb (rank (ru z) (half z) (s .hu) (firstU z ch)) (ru z)) 13
+    rest)
+
+-- where nothing is refused, the rows hold e_V and e_U for x_U and x_V
+pub record SolvedWhere (n : ℕ) (z : Sizes) (l : ℕ) (s : Secret) (ch : Choices) (xU xV : Vector) (A : Matrix) : Type 0 where
+  pub eV : n ≡ 0 → A (l + 3) ≡ drawV z s xV ch
+  pub eU : n ≡ 0 → A (l + 4) ≡ drawU z s xU (drawV z s xV ch) ch
+
+-- the rows of e_U and e_V become those of the left and the right half
+pub record Joined (l : ℕ) (s : Secret) (A B : Matrix) : Type 0 where
+  pub left : B (l + 4) ≡ leftOf s (A (l + 4)) (A (l + 3))
+  pub right : B (l + 3) ≡ rightOf s (A (l + 4)) (A (l + 3))
+
+-- e_V and e_U of a draw
+abbrev pub eVOf : Sizes → DrawCall → Vector
+eVOf z i = drawV z (secretOf z (i .secret)) (vOf z (secretOf z (i .secret)) (startWord z (i .p) (syndromeOf i))) (choicesOf i)
+
+abbrev pub eUOf : Sizes → DrawCall → Vector
+eUOf z i = drawU z (secretOf z (i .secret)) (uOf z (secretOf z (i .secret)) (startWord z (i .p) (syndromeOf i))) (eVOf z i) (choicesOf i)
+
+-- where nothing is refused, the rows hold the halves of the word
+pub record MadeWhere (n : ℕ) (z : Sizes) (l : ℕ) (i : DrawCall) (A : Matrix) : Type 0 where
+  pub left : n ≡ 0 → A (l + 4) ≡ leftOf (secretOf z (i .secret)) (eUOf z i) (eVOf z i)
+  pub right : n ≡ 0 → A (l + 3) ≡ rightOf (secretOf z (i .secret)) (eUOf z i) (eVOf z i)

@@ -1,0 +1,5 @@
+-- The laws: cells of a matrix in planes, row operations, one row lent or read.
+pub mod Cells
+pub mod Swaps
+pub mod Joins
+pub mod RowParts

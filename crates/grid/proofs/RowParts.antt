@@ -1,0 +1,158 @@
+-- One row of a matrix in planes: lent as a part and back, handed out, and read or put trit by trit. Assumes nothing.
+use mathlib.Core.Path.{_≡_, refl, sym, ap, ap₂, _∙_, subst, fun-ext}
+use mathlib.Core.Bool.{Bool, cond}
+use mathlib.Core.Logic.{_⊎_, inl, inr}
+use mathlib.Core.List.{List}
+use Prim.Native.Nat.{ℕ, _+_, _*_, _≤_, _<_}
+use native.Mathlib.Decide.{decLt, ℕ-discrete}
+use native.Mathlib.Omega.{arith}
+use borrow.Author.Tests.{eq-eqb, ne-eqb}
+use borrow.Rule.Slice.PartMut.{midOf, putMid}
+use lib.ListN.{length}
+use Rattle.trits.specs.Trit.{Trit, t0, t1, t2, number, tritOf, putV, upTo, zipAt}
+use Rattle.trits.specs.Planes.{tritAt, zeroWords, Row, Reads}
+use Rattle.trits.specs.Rows.{matrixAt, rowPart}
+use Rattle.trits.proofs.Reading.{read-past}
+use Rattle.trits.proofs.Ends.{upto-in, upto-out, upto-none, zeros-hold}
+use Rattle.trits.proofs.Lists.{length-zeros}
+use Rattle.trits.proofs.Parts.{part-back}
+use Rattle.trits.proofs.Matrix.{row-le, rows-apart, part-there, part-reads, part-length, part-trits}
+use Rattle.matrix.specs.Linear.{Vector, Matrix, zeros}
+use Rattle.grid.specs.Grid.{Rows, Grid, putRow}
+use Rattle.grid.proofs.Cells.{cell, cell-past, grid-by}
+use Rattle.grid.proofs.Joins.{row-op}
+
+-- planes after both were copied
+pub copied-row : {o t h k : List ℕ} → o ≡ h → t ≡ k → Row h k → Row o t
+copied-row {o} {t} {h} {k} p q r = subst (λ (l : List ℕ). Row l t) (sym p) (subst (λ (l : List ℕ). Row h l) (sym q) r)
+
+-- ---- a row that was handed out
+
+module _ {o t ho ht : List ℕ} (rows w i : ℕ) (g : Rows ho ht rows w) (h : i < rows) (e : o ≡ rowPart ho rows w i) (f : t ≡ rowPart ht rows w i) where
+  pub handed-row : Row o t
+  handed-row = copied-row e f (part-reads rows w i (g .row) (g .size) h)
+
+  pub handed-size : length o ≡ w
+  handed-size = ap length e ∙ part-length ho rows w i (g .size) h
+
+  pub handed-trits : tritAt o t ≡ matrixAt w ho ht i
+  handed-trits = ap₂ tritAt e f ∙ fun-ext (λ q. part-trits rows w i (g .row) (g .size) h q)
+
+-- ---- a row that a part came back with
+
+module _ {o₀ t₀ : List ℕ} {r : ℕ} (w j : ℕ) (g : Rows o₀ t₀ r w) (h : j < r) where
+  pub put-grid : {ys zs : List ℕ} {n : ℕ} {v : Vector} (k : ℕ) → k ≡ w → n ≡ k → Reads ys zs n v → ((q : ℕ) → 64 * w ≤ q → t0 ≡ v q)
+      → Grid (putMid (j * w) k o₀ ys) (putMid (j * w) k t₀ zs) r w (putRow j v (matrixAt w o₀ t₀))
+  put-grid {ys} {zs} {n} {v} k e f s past =
+      let le : j * w + w ≤ length o₀ = omega (arith, row-le w h, g .size) in
+      row-op g (λ a b. b) v j (putRow j v (matrixAt w o₀ t₀))
+      (subst (λ (n : ℕ). Reads (putMid (j * w) k o₀ ys) (putMid (j * w) k t₀ zs) (length o₀) (zipAt (λ a b. b) (tritAt o₀ t₀) v (j * w) n)) e
+      (part-back (g .row) (j * w) k (omega arith) (subst (λ (n : ℕ). Reads ys zs n v) f s)))
+      (λ n q d l. rw (eq-eqb n j d))
+      (λ n q f. rw (ne-eqb n j f))
+      (λ n q d l. past q l ∙ rw (eq-eqb n j d))
+
+-- a row has 0 past its words
+pub past-words : {o t : List ℕ} (w : ℕ) → Row o t → length o ≡ w → (q : ℕ) → 64 * w ≤ q → tritAt o t q ≡ t0
+past-words {o} {t} w r e q l = read-past o t w q e (r .same ∙ e) l
+
+-- a part that is lent holds the row's trits
+pub lent-trits : {o t : List ℕ} {r : ℕ} (w i k : ℕ) → Rows o t r w → i < r → k ≡ w → tritAt (midOf (i * w) k o) (midOf (i * w) k t) ≡ matrixAt w o t i
+lent-trits {o} {t} {r} w i k g h e =
+    ap (λ (n : ℕ). tritAt (midOf (i * w) n o) (midOf (i * w) n t)) e
+    ∙ ap₂ tritAt (part-there o r w i (g .size) h) (part-there t r w i (g .row .same ∙ g .size) h)
+    ∙ fun-ext (λ q. part-trits r w i (g .row) (g .size) h q)
+
+-- ---- planes made 0
+
+pub zeros-grid : {o t : List ℕ} {n k : ℕ} (r w : ℕ) → o ≡ zeroWords n → t ≡ zeroWords k → k ≡ n → n ≡ r * w → Grid o t r w (λ (i q : ℕ). t0)
+zeros-grid {o} {t} {n} r w p q e s =
+    let d = zeros-hold zeros p q e in
+    grid-by (record { row = d .row; size = ap length p ∙ length-zeros n ∙ s })
+    (λ i j h. ap (λ (v : Vector). v (64 * (i * w) + j)) (d .trits ∙ upto-none zeros))
+    (λ i j h. refl)
+
+-- ---- a matrix with another row
+
+module _ (j : ℕ) (v : Vector) (A : Matrix) (k : ℕ) where
+  pub put-here : k ≡ j → putRow j v A k ≡ v
+  put-here e = fun-ext (λ q. ap (λ (b : Bool). cond b (v q) (A k q)) (eq-eqb k j e))
+
+  pub put-else : (k ≡ j → ⊥) → putRow j v A k ≡ A k
+  put-else f = fun-ext (λ q. ap (λ (b : Bool). cond b (v q) (A k q)) (ne-eqb k j f))
+
+-- ---- one trit put into a row
+
+module _ {o₀ t₀ o t : List ℕ} {r w : ℕ} (i p : ℕ) (x : Trit) (g : Rows o₀ t₀ r w) (l : p < 64 * w) where
+  pub put-cell : Reads o t (length o₀) (putV (tritAt o₀ t₀) (64 * (i * w) + p) x) → Grid o t r w (putRow i (putV (matrixAt w o₀ t₀ i) p x) (matrixAt w o₀ t₀))
+  put-cell d =
+      grid-by (record { row = d .row; size = d .size ∙ g .size }) (λ k q h. ap (λ (u : Vector). u (64 * (k * w) + q)) (d .trits) ∙ at k q h (ℕ-discrete k i) (ℕ-discrete q p))
+      (λ k q h. past k q h (ℕ-discrete k i))
+    where
+      A : Matrix
+      A = matrixAt w o₀ t₀
+
+      else : (k q : ℕ) → (64 * (k * w) + q ≡ 64 * (i * w) + p → ⊥) → q < 64 * w → putV (tritAt o₀ t₀) (64 * (i * w) + p) x (64 * (k * w) + q) ≡ A k q
+      else k q f h = ap (λ (b : Bool). cond b x (tritAt o₀ t₀ (64 * (k * w) + q))) (ne-eqb (64 * (k * w) + q) (64 * (i * w) + p) f) ∙ sym (cell w o₀ t₀ k q h)
+
+      apart : (k q : ℕ) → q < 64 * w → (k * w + w ≤ i * w) ⊎ (i * w + w ≤ k * w) → 64 * (k * w) + q ≡ 64 * (i * w) + p → ⊥
+      apart k q h (inl m) e = omega arith
+      apart k q h (inr m) e = omega arith
+
+      at : (k q : ℕ) → q < 64 * w → Dec (k ≡ i) → Dec (q ≡ p) → putV (tritAt o₀ t₀) (64 * (i * w) + p) x (64 * (k * w) + q) ≡ putRow i (putV (A i) p x) A k q
+      at k q h (yes e) (yes f) =
+          ap (λ (b : Bool). cond b x (tritAt o₀ t₀ (64 * (k * w) + q))) (eq-eqb (64 * (k * w) + q) (64 * (i * w) + p) (ap₂ (λ (a b : ℕ). 64 * (a * w) + b) e f))
+          ∙ sym (ap (λ (u : Vector). u q) (put-here i (putV (A i) p x) A k e) ∙ ap (λ (b : Bool). cond b x (A i q)) (eq-eqb q p f))
+      at k q h (yes e) (no f) =
+          else k q (λ z. f (same z)) h ∙ ap (λ (n : ℕ). A n q) e
+          ∙ sym (ap (λ (u : Vector). u q) (put-here i (putV (A i) p x) A k e) ∙ ap (λ (b : Bool). cond b x (A i q)) (ne-eqb q p f))
+        where
+          same : 64 * (k * w) + q ≡ 64 * (i * w) + p → q ≡ p
+          same z = omega (arith, ap (λ (n : ℕ). n * w) e)
+      at k q h (no f) d = else k q (apart k q h (rows-apart k i w f)) h ∙ sym (ap (λ (u : Vector). u q) (put-else i (putV (A i) p x) A k f))
+
+      past : (k q : ℕ) → 64 * w ≤ q → Dec (k ≡ i) → t0 ≡ putRow i (putV (A i) p x) A k q
+      past k q h (yes e) =
+          sym (ap (λ (u : Vector). u q) (put-here i (putV (A i) p x) A k e) ∙ ap (λ (b : Bool). cond b x (A i q)) (ne-eqb q p (λ z. omega arith)) ∙ cell-past w o₀ t₀ i q h)
+      past k q h (no f) = sym (ap (λ (u : Vector). u q) (put-else i (putV (A i) p x) A k f) ∙ cell-past w o₀ t₀ k q h)
+
+-- ---- trits that are read and put one after another
+
+number-lt : (x : Trit) → number x < 3
+number-lt t0 = omega arith
+number-lt t1 = omega arith
+number-lt t2 = omega arith
+
+number-back : (x : Trit) → tritOf (number x) ≡ x
+number-back t0 = refl
+number-back t1 = refl
+number-back t2 = refl
+
+-- the number that was read of a trit
+pub read-trit : (t : Trit) (x : ℕ) → x ≡ number t → tritOf x ≡ t
+read-trit t x e = ap tritOf e ∙ number-back t
+
+pub trit-lt : (t : Trit) (x : ℕ) → x ≡ number t → x < 3
+trit-lt t x e = omega (arith, number-lt t, e)
+
+pub read-lt : (o t : List ℕ) (p x : ℕ) → x ≡ number (tritAt o t p) → x < 3
+read-lt o t p x e = trit-lt (tritAt o t p) x e
+
+pub read-column : (w : ℕ) (o t : List ℕ) (i q x : ℕ) → q < 64 * w → x ≡ number (tritAt o t (64 * (i * w) + q)) → tritOf x ≡ matrixAt w o t i q
+read-column w o t i q x h e = read-trit (tritAt o t (64 * (i * w) + q)) x e ∙ sym (cell w o t i q h)
+
+upto-more : (v : Vector) (i : ℕ) → putV (upTo i v) i (v i) ≡ upTo (i + 1) v
+upto-more v i = fun-ext (λ p. by p (ℕ-discrete p i) (decLt p i))
+  where
+    by : (p : ℕ) → Dec (p ≡ i) → Dec (p < i) → putV (upTo i v) i (v i) p ≡ upTo (i + 1) v p
+    by p (yes e) d = ap (λ (t : Bool). cond t (v i) (upTo i v p)) (eq-eqb p i e) ∙ ap v (sym e) ∙ sym (upto-in v (i + 1) p (omega arith))
+    by p (no f) (yes l) = ap (λ (t : Bool). cond t (v i) (upTo i v p)) (ne-eqb p i f) ∙ upto-in v i p l ∙ sym (upto-in v (i + 1) p (omega arith))
+    by p (no f) (no l) = ap (λ (t : Bool). cond t (v i) (upTo i v p)) (ne-eqb p i f) ∙ upto-out v i p (omega arith) ∙ sym (upto-out v (i + 1) p (omega arith))
+
+pub column-turn : {os ts o t : List ℕ} {n : ℕ} (v : Vector) (i x : ℕ) → Reads os ts n (upTo i v) → tritOf x ≡ v i → Reads o t (length os) (putV (tritAt os ts) i (tritOf x))
+    → Reads o t n (upTo (i + 1) v)
+column-turn v i x r e g = record {
+  row = g .row;
+  size = g .size ∙ r .size;
+  trits = g .trits ∙ ap₂ (λ (f : Vector) (y : Trit). putV f i y) (r .trits) e ∙ upto-more v i;
+}

@@ -1,0 +1,96 @@
+// Rows of one matrix: exchanged, added, subtracted, negated.
+ghost use mathlib.Core.Path.{_≡_};
+ghost use mathlib.Core.Logic.{_≢_};
+ghost use Prim.Native.Nat.{_*_, _<_};
+ghost use lib.ListN.{length};
+ghost use Rattle.trits.specs.Trit.{addT, subT, t2};
+ghost use Rattle.trits.specs.Rows.{matrixAt};
+ghost use Rattle.matrix.specs.Eliminate.{swapRows, scaleRow};
+ghost use Rattle.grid.specs.Grid.{Rows, Grid, Swapped, joinRow};
+
+// Rows a and b of one plane change places.
+pub fn swap_plane(plane: &mut [u64], rows: usize, w: usize, a: usize, b: usize)
+    requires { ⌜ length (now plane) ≡ rows * w ⌝ }
+    requires { ⌜ (a < rows) × (b < rows) ⌝ }
+    ensures { λ _. ⌜ Swapped a b w (now (plane .entry)) (now (plane .exit)) ⌝ }
+{
+    let at = a * w;
+    let from = b * w;
+    let mut j = 0;
+    while j < w {
+        let p = at + j;
+        let q = from + j;
+        let x = plane[p];
+        let y = plane[q];
+        plane[p] = y;
+        plane[q] = x;
+        j += 1;
+    }
+}
+
+// Rows a and b change places.
+pub fn swap_rows(ones: &mut [u64], twos: &mut [u64], rows: usize, w: usize, a: usize, b: usize)
+    requires { ⌜ Rows (now ones) (now twos) rows w ⌝ }
+    requires { ⌜ (a < rows) × (b < rows) ⌝ }
+    ensures { λ _. ⌜ Grid (now (ones .exit)) (now (twos .exit)) rows w (swapRows a b (matrixAt w (now (ones .entry)) (now (twos .entry)))) ⌝ }
+{
+    swap_plane(ones, rows, w, a, b);
+    swap_plane(twos, rows, w, a, b);
+}
+
+// Row j is added to row i.
+pub fn add_rows(ones: &mut [u64], twos: &mut [u64], rows: usize, w: usize, i: usize, j: usize)
+    requires { ⌜ Rows (now ones) (now twos) rows w ⌝ }
+    requires { ⌜ (i < rows) × (j < rows) × (i ≢ j) ⌝ }
+    ensures { λ _. ⌜ Grid (now (ones .exit)) (now (twos .exit)) rows w (joinRow addT i j (matrixAt w (now (ones .entry)) (now (twos .entry)))) ⌝ }
+{
+    let at = i * w;
+    let from = j * w;
+    let mut k = 0;
+    while k < w {
+        let p = at + k;
+        let q = from + k;
+        let a = ones[p];
+        let b = twos[p];
+        let c = ones[q];
+        let d = twos[q];
+        let t = (a | d) ^ (b | c);
+        ones[p] = (b | d) ^ t;
+        twos[p] = (a | c) ^ t;
+        k += 1;
+    }
+}
+
+// Row j is subtracted from row i.
+pub fn sub_rows(ones: &mut [u64], twos: &mut [u64], rows: usize, w: usize, i: usize, j: usize)
+    requires { ⌜ Rows (now ones) (now twos) rows w ⌝ }
+    requires { ⌜ (i < rows) × (j < rows) × (i ≢ j) ⌝ }
+    ensures { λ _. ⌜ Grid (now (ones .exit)) (now (twos .exit)) rows w (joinRow subT i j (matrixAt w (now (ones .entry)) (now (twos .entry)))) ⌝ }
+{
+    let at = i * w;
+    let from = j * w;
+    let mut k = 0;
+    while k < w {
+        let p = at + k;
+        let q = from + k;
+        let a = ones[p];
+        let b = twos[p];
+        let c = ones[q];
+        let d = twos[q];
+        let t = (a | c) ^ (b | d);
+        ones[p] = (b | c) ^ t;
+        twos[p] = (a | d) ^ t;
+        k += 1;
+    }
+}
+
+// Row i is negated: its part of the planes is lent to the function that exchanges them.
+pub fn negate(ones: &mut [u64], twos: &mut [u64], rows: usize, w: usize, i: usize)
+    requires { ⌜ Rows (now ones) (now twos) rows w ⌝ }
+    requires { ⌜ i < rows ⌝ }
+    ensures { λ _. ⌜ Grid (now (ones .exit)) (now (twos .exit)) rows w (scaleRow i t2 (matrixAt w (now (ones .entry)) (now (twos .entry)))) ⌝ }
+{
+    let a = i * w;
+    let e = a + w;
+    rows::negate_row(&mut ones[a..e], &mut twos[a..e]);
+}

@@ -1,0 +1,150 @@
+-- What is stored is what the check reads: the new row is the one offered, and the rows before it are as they were. Assumes nothing.
+use mathlib.Core.Path.{_≡_, refl, sym, ap, ap₂, _∙_}
+use mathlib.Core.Bool.{true}
+use mathlib.Core.List.{List}
+use Prim.Native.Nat.{ℕ, _+_, _*_, _≤_, _<_}
+use native.Mathlib.Omega.{arith}
+use lib.Dec.{eqb, leb}
+use lib.ListN.{length, getD}
+use borrow.Author.Tests.{le-leb}
+use borrow.Rule.Slice.PartMut.{midOf, putMid}
+use Rattle.trits.specs.Trit.{Trit}
+use Rattle.trits.specs.Planes.{tritAt, onesOf, twosOf}
+use Rattle.trits.specs.Rows.{putWords}
+use Rattle.trits.proofs.Lists.{tabulated}
+use Rattle.trits.proofs.Patches.{Patched}
+use Rattle.trits.proofs.Parts.{length-mid, getD-mid, put-patched}
+use Rattle.trits.proofs.Matrix.{row-le}
+use Rattle.trits.proofs.Reading.{length-ones, length-twos, holds-reads}
+use Rattle.packed.specs.Packed.{packedRow}
+use Rattle.held_key.specs.declared.state.Held.{Held}
+use Rattle.held_key.specs.Held.{numbersFit, sound, rowTrits, rowWords, keyWords, heldRow, heldKey}
+use Rattle.held_key.specs.Store.{storeRefusal, storePackedRefusal, nextHeld, storedPlane}
+use Rattle.held_key.proofs.Sizes.{and-both}
+use Rattle.held_key.proofs.Stretch.{row-there}
+use Rattle.packed.proofs.Digits.{packed-out}
+use Rattle.held_key.proofs.Room.{Room, stored-passed, stored-packed-passed}
+use Rattle.held_key.proofs.Storing.{put-words, plane-put}
+
+-- lists of n words that agree are the same
+same-list : (n : ℕ) (l r : List ℕ) → length l ≡ n → length r ≡ n → ((j : ℕ) → j < n → getD l j 0 ≡ getD r j 0) → l ≡ r
+same-list n l r p q e = tabulated n (λ j. getD r j 0) l p e ∙ sym (tabulated n (λ j. getD r j 0) r q (λ j h. refl))
+
+-- a plane of rows of w words, with new words for row r
+module _ (w r : ℕ) (plane new : List ℕ) (h : r * w + w ≤ length plane) (e : length new ≡ w) where
+  abbrev back : List ℕ
+  back = putMid (r * w) w plane new
+
+  p : Patched (λ j. getD new j 0) (r * w) w plane back
+  p = put-patched (r * w) w plane h new e
+
+  pub back-length : length (putMid (r * w) w plane new) ≡ length plane
+  back-length = p .kept
+
+  pub back-new : midOf (r * w) w (putMid (r * w) w plane new) ≡ new
+  back-new = same-list w (midOf (r * w) w back) new (length-mid (r * w) w back (omega (arith, back-length))) e
+      (λ j l. getD-mid (r * w) w back (omega (arith, back-length)) j l ∙ p .new j l)
+
+  pub back-old : (i : ℕ) → i < r → midOf (i * w) w (putMid (r * w) w plane new) ≡ midOf (i * w) w plane
+  back-old i l =
+      let g = row-le w {i = i} {m = r} l in
+      same-list w (midOf (i * w) w back) (midOf (i * w) w plane) (length-mid (i * w) w back (omega (arith, back-length))) (length-mid (i * w) w plane (omega arith))
+      (λ j b. getD-mid (i * w) w back (omega (arith, back-length)) j b ∙ p .below (i * w + j) (omega arith) ∙ sym (getD-mid (i * w) w plane (omega arith) j b))
+
+-- one row more is counted, and the state is still sound
+pub sound-after : {h : Held} {ones twos : ℕ} → Room h ones twos → sound (nextHeld h) ≡ true
+unfolding sound nextHeld
+sound-after {h} f =
+    let a = and-both (eqb (h .begun) 1) _ (f .is-sound) in
+    let z = and-both (numbersFit (h .number) (h .n) (h .k) (h .w)) (leb (h .rows) (h .k)) (a .1) in
+    rw (a .0, z .0, le-leb (h .rows + 1) (h .k) (omega (arith, f .more)))
+
+-- one plane: `new` is the row's words in it
+module _ {h : Held} {a b : ℕ} (f : Room h a b) (plane new : List ℕ) (size : length plane ≡ keyWords h) (n : length new ≡ rowWords h) where
+  within : h .rows * rowWords h + rowWords h ≤ length plane
+  within = omega (arith, f .within, size)
+
+  abbrev after : List ℕ
+  after = putMid (h .rows * rowWords h) (rowWords h) plane new
+
+  as-words : after ≡ putWords (h .rows * rowWords h) plane new
+  as-words = put-words (h .rows * rowWords h) (rowWords h) plane new new (sym n) refl
+
+  after-size : length after ≡ keyWords h
+  after-size = back-length (rowWords h) (h .rows) plane new within n ∙ size
+
+  pub put-size : length (putWords (h .rows * rowWords h) plane new) ≡ keyWords h
+  put-size = ap length (sym as-words) ∙ after-size
+
+  pub put-new : heldRow (nextHeld h) (putWords (h .rows * rowWords h) plane new) (h .rows) ≡ new
+  unfolding nextHeld
+  put-new =
+      ap (λ (l : List ℕ). heldRow (nextHeld h) l (h .rows)) (sym as-words)
+      ∙ sym (row-there (nextHeld h) after (h .rows) (sound-after f) after-size (omega arith) (omega (arith, f .more)))
+      ∙ back-new (rowWords h) (h .rows) plane new within n
+
+  pub put-old : (i : ℕ) → i < h .rows → heldRow (nextHeld h) (putWords (h .rows * rowWords h) plane new) i ≡ heldRow h plane i
+  unfolding nextHeld
+  put-old i l =
+      ap (λ (x : List ℕ). heldRow (nextHeld h) x i) (sym as-words)
+      ∙ sym (row-there (nextHeld h) after i (sound-after f) after-size (omega arith) (omega (arith, f .more)))
+      ∙ back-old (rowWords h) (h .rows) plane new within n i l
+      ∙ row-there h plane i (f .is-sound) size l (omega (arith, f .more))
+
+-- ---- a row in planes
+module _ (h : Held) (ones twos rowOnes rowTwos : List ℕ) (e : storeRefusal h ones twos rowOnes rowTwos ≡ 0) where
+  abbrev r : ℕ
+  r = storeRefusal h ones twos rowOnes rowTwos
+
+  -- the new row is the row offered
+  pub stored-new : heldKey (nextHeld h) (storedPlane (storeRefusal h ones twos rowOnes rowTwos) h ones rowOnes) (storedPlane (storeRefusal h ones twos rowOnes rowTwos) h twos rowTwos) (h .rows)
+      ≡ tritAt rowOnes rowTwos
+  unfolding heldKey
+  stored-new =
+      let p = stored-passed h ones twos rowOnes rowTwos e in
+      ap₂ tritAt
+      (ap (λ (l : List ℕ). heldRow (nextHeld h) l (h .rows)) (sym (plane-put h ones rowOnes e)) ∙ put-new (p .0) ones rowOnes (p .0 .ones-are) (p .1))
+      (ap (λ (l : List ℕ). heldRow (nextHeld h) l (h .rows)) (sym (plane-put h twos rowTwos e)) ∙ put-new (p .0) twos rowTwos (p .0 .twos-are) (p .2))
+
+  -- the rows before it are as they were
+  pub stored-old : (i : ℕ) → i < h .rows
+      → heldKey (nextHeld h) (storedPlane (storeRefusal h ones twos rowOnes rowTwos) h ones rowOnes) (storedPlane (storeRefusal h ones twos rowOnes rowTwos) h twos rowTwos) i ≡ heldKey h ones twos i
+  unfolding heldKey
+  stored-old i l =
+      let p = stored-passed h ones twos rowOnes rowTwos e in
+      ap₂ tritAt
+      (ap (λ (x : List ℕ). heldRow (nextHeld h) x i) (sym (plane-put h ones rowOnes e)) ∙ put-old (p .0) ones rowOnes (p .0 .ones-are) (p .1) i l)
+      (ap (λ (x : List ℕ). heldRow (nextHeld h) x i) (sym (plane-put h twos rowTwos e)) ∙ put-old (p .0) twos rowTwos (p .0 .twos-are) (p .2) i l)
+
+-- ---- a packed row
+module _ (h : Held) (ones twos row : List ℕ) (e : storePackedRefusal h ones twos row ≡ 0) where
+  abbrev v : ℕ → Trit
+  v = packedRow (rowTrits h) row
+
+  abbrev newOnes : List ℕ
+  newOnes = onesOf (packedRow (rowTrits h) row) (rowWords h)
+
+  abbrev newTwos : List ℕ
+  newTwos = twosOf (packedRow (rowTrits h) row) (rowWords h)
+
+  -- the new row is the row offered
+  pub packed-new : heldKey (nextHeld h) (storedPlane (storePackedRefusal h ones twos row) h ones (onesOf (packedRow (rowTrits h) row) (rowWords h)))
+      (storedPlane (storePackedRefusal h ones twos row) h twos (twosOf (packedRow (rowTrits h) row) (rowWords h))) (h .rows) ≡ packedRow (rowTrits h) row
+  unfolding heldKey
+  packed-new =
+      let p = stored-packed-passed h ones twos row e in
+      ap₂ tritAt
+      (ap (λ (l : List ℕ). heldRow (nextHeld h) l (h .rows)) (sym (plane-put h ones newOnes e)) ∙ put-new (p .0) ones newOnes (p .0 .ones-are) (length-ones v (rowWords h)))
+      (ap (λ (l : List ℕ). heldRow (nextHeld h) l (h .rows)) (sym (plane-put h twos newTwos e)) ∙ put-new (p .0) twos newTwos (p .0 .twos-are) (length-twos v (rowWords h)))
+      ∙ holds-reads newOnes newTwos (rowWords h) v (λ i l. packed-out row (rowTrits h) i (omega arith)) (record { ones-are = refl; twos-are = refl }) .trits
+
+  -- the rows before it are as they were
+  pub packed-old : (i : ℕ) → i < h .rows
+      → heldKey (nextHeld h) (storedPlane (storePackedRefusal h ones twos row) h ones (onesOf (packedRow (rowTrits h) row) (rowWords h)))
+      (storedPlane (storePackedRefusal h ones twos row) h twos (twosOf (packedRow (rowTrits h) row) (rowWords h))) i ≡ heldKey h ones twos i
+  unfolding heldKey
+  packed-old i l =
+      let p = stored-packed-passed h ones twos row e in
+      ap₂ tritAt
+      (ap (λ (x : List ℕ). heldRow (nextHeld h) x i) (sym (plane-put h ones newOnes e)) ∙ put-old (p .0) ones newOnes (p .0 .ones-are) (length-ones v (rowWords h)) i l)
+      (ap (λ (x : List ℕ). heldRow (nextHeld h) x i) (sym (plane-put h twos newTwos e)) ∙ put-old (p .0) twos newTwos (p .0 .twos-are) (length-twos v (rowWords h)) i l)

@@ -1,0 +1,58 @@
+-- What the tests of a row have shown where none of them applied. Assumes nothing.
+use mathlib.Core.Path.{_≡_}
+use mathlib.Core.Bool.{true}
+use mathlib.Core.List.{List}
+use mathlib.Core.Logic.{_≢_}
+use Prim.Native.Nat.{ℕ, _+_, _*_, _≤_, _<_}
+use native.Mathlib.Omega.{arith}
+use lib.Dec.{eqb, lit<}
+use lib.ListN.{length}
+use borrow.Author.Tests.{eqb-true, eqb-false}
+use Rattle.trits.specs.Refusal.{planesRefusal}
+use Rattle.trits.proofs.Refusals.{passed-refuse, passed-demand, passed-first}
+use Rattle.trits.proofs.Matrix.{row-le}
+use Rattle.packed.specs.Packed.{bytesFor, packedRefusal}
+use Rattle.held_key.specs.declared.state.Held.{Held}
+use Rattle.held_key.specs.Held.{sound, rowTrits, rowWords, keyWords}
+use Rattle.held_key.specs.Store.{rowRefusal, storeRefusal, storePackedRefusal}
+use Rattle.held_key.proofs.Sizes.{Sizes, sizes}
+
+pub record Room (h : Held) (ones twos : ℕ) : Type 0 where
+  pub is-sound : sound h ≡ true
+  pub all : Sizes h
+  pub more : h .rows < h .k
+  pub ones-are : ones ≡ keyWords h
+  pub twos-are : twos ≡ keyWords h
+  pub within : h .rows * rowWords h + rowWords h ≤ keyWords h
+
+pub room : (h : Held) (ones twos : ℕ) → rowRefusal h ones twos ≡ 0 → Room h ones twos
+unfolding rowRefusal
+room h ones twos e =
+    let a = passed-refuse (eqb (h .begun) 0) 20 _ (lit< tt) e in
+    let b = passed-demand (sound h) 1 _ (lit< tt) (a .1) in
+    let c = passed-refuse (eqb (h .rows) (h .k)) 21 _ (lit< tt) (b .1) in
+    let d = passed-demand (eqb ones (keyWords h)) 2 _ (lit< tt) (c .1) in
+    let f = passed-demand (eqb twos (keyWords h)) 2 0 (lit< tt) (d .1) in
+    let s = sizes h (b .0) in
+    let ne : h .rows ≢ h .k = eqb-false _ _ (c .0) in
+    let l : h .rows < h .k = omega (arith, s .counted) in
+    record { is-sound = b .0; all = s; more = l; ones-are = eqb-true _ _ (d .0); twos-are = eqb-true _ _ (f .0); within = row-le (rowWords h) {i = h .rows} {m = h .k} l }
+
+-- a row in planes passed
+pub stored-passed : (h : Held) (ones twos rowOnes rowTwos : List ℕ) → storeRefusal h ones twos rowOnes rowTwos ≡ 0
+    → Room h (length ones) (length twos) × (length rowOnes ≡ rowWords h) × (length rowTwos ≡ rowWords h) × (planesRefusal rowOnes rowTwos 1 (rowTrits h) ≡ 0)
+unfolding storeRefusal
+stored-passed h ones twos ro rt e =
+    let a = passed-first (rowRefusal h (length ones) (length twos)) _ e in
+    let b = passed-demand (eqb (length ro) (rowWords h)) 2 _ (lit< tt) (a .1) in
+    let c = passed-demand (eqb (length rt) (rowWords h)) 2 _ (lit< tt) (b .1) in
+    (room h (length ones) (length twos) (a .0), eqb-true _ _ (b .0), eqb-true _ _ (c .0), c .1)
+
+-- a packed row passed
+pub stored-packed-passed : (h : Held) (ones twos row : List ℕ) → storePackedRefusal h ones twos row ≡ 0
+    → Room h (length ones) (length twos) × (length row ≡ bytesFor (rowTrits h)) × (packedRefusal row ≡ 0)
+unfolding storePackedRefusal
+stored-packed-passed h ones twos row e =
+    let a = passed-first (rowRefusal h (length ones) (length twos)) _ e in
+    let b = passed-demand (eqb (length row) (bytesFor (rowTrits h))) 2 _ (lit< tt) (a .1) in
+    (room h (length ones) (length twos) (a .0), eqb-true _ _ (b .0), b .1)

@@ -1,0 +1,24 @@
+-- What the parts hold as a row is known word by word, since each word fits.
+-- Assumes nothing.
+use native.Mathlib.Omega.{arith}
+use borrow.Author.Needs.{needs}
+use Rattle.trits.proofs.Reading.{reads-words}
+use Rattle.held_key.proofs.key.write_part.Statement.{statement}
+use Rattle.held_key.proofs.key.write_part.Tie as tie
+
+write-packed-requires : tie.Need-write-packed-requires
+write-packed-requires c κs =
+    (omega arith, c .before .before .before .before .before .pre .1)
+
+same-length : tie.Need-same-length
+same-length c = search needs
+
+same-length-2 : tie.Need-same-length-2
+same-length-2 c = search needs
+
+returns : tie.Need-returns
+returns c =
+    reads-words (c .before .before .before .before .write-packed .ensures) (c .before .before .before .before .before .before .before .before .before .before .pre .0 .0) (λ j. c .before .before .slice-known3 .given j .fits) (λ j. c .slice-known4 .given j .fits)
+
+pub write-part-spec : {M : Type 1} → statement M
+write-part-spec = tie.close (tie.spec write-packed-requires same-length same-length-2 returns)

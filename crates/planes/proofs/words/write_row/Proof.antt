@@ -1,0 +1,73 @@
+-- Each turn copies one word: the part is the first words of the row, and then its own (`copy-turn`).
+-- Assumes nothing.
+use Prim.Native.Nat.{_+_, _-_, _≤_}
+use mathlib.Core.Path.{_≡_, refl, _∙_}
+use mathlib.Core.List.{_++_}
+use native.Mathlib.Omega.{arith}
+use borrow.Author.Needs.{needs}
+use lib.ListN.{length, take, drop, length-set}
+use denote.Ref.{now}
+use Rattle.trits.proofs.Lists.{copy-turn, copy-all}
+use Rattle.planes.proofs.words.write_row.Statement.{statement}
+use Rattle.planes.proofs.words.write_row.Tie as tie
+
+abbrev Inv-loop : tie.InvT-loop
+Inv-loop part₀ row i₀ part i =
+    (i ≤ length row) × (length part ≡ length part₀) × (part ≡ take i row ++ drop i part₀)
+
+abbrev μ-loop : tie.MeasureT-loop
+μ-loop part₀ row i₀ part i = length row - i
+
+loop-holds : tie.Need-loop-holds Inv-loop μ-loop
+loop-holds c =
+    (omega arith, refl, refl)
+
+mul-part : tie.Need-mul-part Inv-loop μ-loop
+mul-part c = search needs
+
+shared-slice-read-part : tie.Need-shared-slice-read-part Inv-loop μ-loop
+shared-slice-read-part c = search needs
+
+mul-part-2 : tie.Need-mul-part-2 Inv-loop μ-loop
+mul-part-2 c = search needs
+
+slice-write-part : tie.Need-slice-write-part Inv-loop μ-loop
+slice-write-part c = search needs
+
+add-i : tie.Need-add-i Inv-loop μ-loop
+add-i c = search needs
+
+loop-less : tie.Need-loop-less Inv-loop μ-loop
+loop-less c = search needs
+
+loop-again : tie.Need-loop-again Inv-loop μ-loop
+loop-again c =
+    let s = c .before .before in
+    let l = s .loop in
+    let a = s .before .args in
+    (omega arith, length-set (l .part) (l .i) _ ∙ l .inv .1, copy-turn (now (a .row)) (now (a .part)) (l .i) (omega arith) (omega arith) (l .inv .2))
+
+same-length : tie.Need-same-length Inv-loop μ-loop
+same-length c =
+    c .before .loop .inv .1
+
+returns : tie.Need-returns Inv-loop μ-loop
+returns c =
+    copy-all _ _ (c .before .loop .i) (omega arith) (c .before .loop .inv .2)
+
+pub write-row-spec : {M : Type 1} → statement M
+write-row-spec =
+    tie.close
+    (tie.spec
+    Inv-loop
+    μ-loop
+    loop-holds
+    mul-part
+    shared-slice-read-part
+    mul-part-2
+    slice-write-part
+    add-i
+    loop-less
+    loop-again
+    same-length
+    returns)

@@ -1,0 +1,33 @@
+-- The source with its planes exchanged is its negative (`read-exchanged`), so adding it subtracts.
+-- Assumes nothing.
+use Prim.Native.Nat.{ℕ}
+use mathlib.Core.Path.{ap, _∙_}
+use borrow.Author.Needs.{needs}
+use native.Mathlib.Omega.{arith}
+use denote.Ref.{now}
+use Rattle.trits.specs.Trit.{Trit, addT, zipV}
+use Rattle.trits.specs.Planes.{tritAt}
+use Rattle.trits.proofs.Reading.{row-exchanged, read-exchanged, reads-to}
+use Rattle.rows.proofs.sub_row.Statement.{statement}
+use Rattle.rows.proofs.sub_row.Tie as tie
+
+add-row-requires : tie.Need-add-row-requires
+add-row-requires c κs =
+    let s = c .before .before .before .before .before .before in
+    let r = row-exchanged (s .pre .1 .0) in
+    let e = s .pre .1 .0 .same in
+    (search needs, (search needs, omega arith))
+
+same-length : tie.Need-same-length
+same-length c = search needs
+
+same-length-2 : tie.Need-same-length-2
+same-length-2 c = search needs
+
+returns : tie.Need-returns
+returns c =
+    let s = c .before .before .before .before .before .before .before .before .before .before .before in
+    reads-to (c .before .before .before .before .add-row .ensures) (ap (λ (v : ℕ → Trit). zipV addT (tritAt (now (s .args .ones)) (now (s .args .twos))) v) (read-exchanged (s .pre .1 .0)))
+
+pub sub-row-spec : {M : Type 1} → statement M
+sub-row-spec = tie.close (tie.spec add-row-requires same-length same-length-2 returns)

@@ -1,0 +1,43 @@
+-- The sizes ("The two halves"). Assumes nothing.
+use mathlib.Core.Bool.{Bool, _&&_}
+use Prim.Native.Nat.{ℕ, _+_, _-_, _/_, _%_}
+use lib.Dec.{eqb, leb}
+pub use Rattle.scheme.specs.declared.sizes.Sizes.{Sizes}
+
+-- N, the number of pairs
+abbrev pub half : Sizes → ℕ
+half z = z .n / 2
+
+-- n again, as two for each pair
+abbrev pub places : Sizes → ℕ
+places z = half z + half z
+
+-- k, the trits of a signature
+abbrev pub dim : Sizes → ℕ
+dim z = z .ku + z .kv
+
+-- r_U, the rows of H_U
+abbrev pub ru : Sizes → ℕ
+ru z = half z - z .ku
+
+-- r_V, the rows of H_V
+abbrev pub rv : Sizes → ℕ
+rv z = half z - z .kv
+
+-- n-k, the rows of both: the trits of a syndrome and of a row of the key
+abbrev pub codim : Sizes → ℕ
+codim z = ru z + rv z
+
+-- the gap of V, read here alone
+abbrev pub gapV : Sizes → ℕ
+gapV z = z .g
+
+-- the gap of U, read here alone
+abbrev pub gapU : Sizes → ℕ
+gapU z = z .g
+
+-- whether n is even and from 4 to 16,384, k_U and k_V are from 1 to N-1, no gap is above its k, and w is from 1 to n
+unfoldable pub sizesFit : Sizes → Bool
+sizesFit z =
+    leb 4 (z .n) && (leb (z .n) 16384 && (eqb (z .n % 2) 0 && (leb 1 (z .ku) && (leb (z .ku) (half z - 1) && (leb 1 (z .kv) && (leb (z .kv) (half z - 1)
+    && (leb (gapU z) (z .ku) && (leb (gapV z) (z .kv) && (leb 1 (z .w) && leb (z .w) (z .n))))))))))

@@ -1,0 +1,46 @@
+-- The planes hold the digits' row (`offered`); a wrong count offers no words.
+-- Assumes nothing.
+use Prim.Native.Nat.{_+_, _/_}
+use mathlib.Core.Path.{_≡_, refl, sym, ap, _∙_}
+use native.Mathlib.Omega.{arith}
+use borrow.Author.Needs.{needs}
+use lib.ListN.{length}
+use denote.Ref.{now}
+use Rattle.text_line.proofs.Lent.{offered-none, offered}
+use Rattle.trits.specs.Planes.{zeroWords}
+use Rattle.trits.proofs.Lists.{length-zeros}
+use Rattle.text_line.proofs.offer.offer.Statement.{statement}
+use Rattle.text_line.proofs.offer.offer.Tie as tie
+
+returns : tie.Need-returns
+returns c =
+    let a = c .before .before .before .before .args in
+    let p = offered-none (a .m) (now (a .digits)) (c .if1 .taken) in
+    (omega arith, (p .0, p .1))
+
+put-digits-requires : tie.Need-put-digits-requires
+put-digits-requires c κs =
+    let s = c .before .before .before .before .before .before in
+    let e : length (now (s .args .ones)) ≡ 16 = ap length (s .pre .1 .1) ∙ length-zeros 16 in
+    (s .pre .0, (s .pre .1 .1 ∙ ap zeroWords (sym e), s .pre .1 .2 ∙ ap zeroWords (sym e), omega (arith, e, s .pre .1 .0)))
+
+add-result : tie.Need-add-result
+add-result c = search needs
+
+same-length : tie.Need-same-length
+same-length c = search needs
+
+same-length-2 : tie.Need-same-length-2
+same-length-2 c = search needs
+
+returns-2 : tie.Need-returns-2
+returns-2 c =
+    let s = c .before .before .before .before .before .before .before .before .before .before .before in
+    let e : length (now (s .args .ones)) ≡ 16 = ap length (s .pre .1 .1) ∙ length-zeros 16 in
+    let d = now (s .args .digits) in
+    let p = offered (s .args .m) d ((length d + 63) / 64) (c .before .before .before .before .before .before .before .if1 .left) refl (omega (arith, s .pre .1 .0)) (rw e at (c .before .before .before .before .put-digits .ensures)) (λ j. c .before .before .slice-known3 .given j .fits) (λ j. c .slice-known4 .given j .fits) in
+    (omega (arith, s .pre .1 .0), (p .0, p .1))
+
+pub offer-spec : {M : Type 1} → statement M
+offer-spec =
+    tie.close (tie.spec returns put-digits-requires add-result same-length same-length-2 returns-2)

@@ -1,0 +1,27 @@
+-- The verdict of `check_packed`, told in numbers.
+-- Assumes nothing.
+use mathlib.Core.Path.{_∙_}
+use borrow.Author.Needs.{needs}
+use Rattle.wave_checker.proofs.wave_check.Statement.{statement}
+use Rattle.wave_checker.proofs.wave_check.Tie as tie
+
+check-packed-requires : tie.Need-check-packed-requires
+check-packed-requires c κs = search needs
+
+tell-requires : tie.Need-tell-requires
+tell-requires c κs = search needs
+
+same-length : tie.Need-same-length
+same-length c = search needs
+
+same-length-2 : tie.Need-same-length-2
+same-length-2 c = search needs
+
+returns : tie.Need-returns
+returns c =
+    let e = c .before .before .before .before .before .check-packed .ensures in
+    (c .tell .ensures ∙ e .0, (e .1 .0, e .1 .1))
+
+pub wave-check-spec : {M : Type 1} → statement M
+wave-check-spec =
+    tie.close (tie.spec check-packed-requires tell-requires same-length same-length-2 returns)

@@ -1,0 +1,111 @@
+// The module's half for C: each call in numbers. Nothing but what a host needs is exported.
+ghost use mathlib.Core.Path.{_≡_};
+ghost use Rattle.trits.specs.Planes.{onesOf, twosOf};
+ghost use Rattle.packed.specs.Packed.{packedRow};
+ghost use Rattle.packed.specs.Calls.{packRefusal, packExit, unpackRefusal, unpackOnes, unpackTwos, streamRefusal, streamOnes, streamTwos};
+ghost use Rattle.held_key.specs.Held.{rowTrits, rowWords};
+ghost use Rattle.held_key.specs.Store.{beginRefusal, beginHeld, storePackedRefusal, storedHeld, storedPlane};
+ghost use Rattle.check_tests.specs.Check.{checkPackedRefusal, checkPackedAnswer, spaceAtExit};
+use check_tests::Checked;
+use held_key::state::Held;
+
+// A beginning or a row in numbers.
+#[repr(C)]
+pub struct StoredNumbers {
+    pub refusal: u64, // its number, or 0
+    pub held: Held, // the state after the call
+}
+
+// `begin` for C.
+#[no_mangle]
+pub extern "C" fn wave_begin(held: Held, number: u64, n: u64, k: u64, w: u64) -> StoredNumbers
+    ensures { λ r. ⌜ r .refusal ≡ beginRefusal number n k w ⌝ }
+    ensures { λ r. ⌜ r .held ≡ beginHeld held number n k w ⌝ }
+{
+    let stored = held_key::begin(held, number, n, k, w);
+    let outcome = stored.outcome;
+    let after = stored.held;
+    StoredNumbers {
+        refusal: trits::refusal::code(outcome), // of the beginning
+        held: after,
+    }
+}
+
+// `store_packed_row` for C.
+#[no_mangle]
+pub extern "C" fn wave_store_row(
+    held: Held,
+    ones: &mut [u64],
+    twos: &mut [u64],
+    row: &[u8],
+) -> StoredNumbers
+    ensures { λ r. ⌜ r .refusal ≡ storePackedRefusal held (now (ones .entry)) (now (twos .entry)) (now (row .entry)) ⌝ }
+    ensures { λ r. ⌜ r .held ≡ storedHeld (storePackedRefusal held (now (ones .entry)) (now (twos .entry)) (now (row .entry))) held ⌝ }
+    ensures { λ _. ⌜ now (ones .exit) ≡ storedPlane (storePackedRefusal held (now (ones .entry)) (now (twos .entry)) (now (row .entry))) held (now (ones .entry))
+        (onesOf (packedRow (rowTrits held) (now (row .entry))) (rowWords held)) ⌝ }
+    ensures { λ _. ⌜ now (twos .exit) ≡ storedPlane (storePackedRefusal held (now (ones .entry)) (now (twos .entry)) (now (row .entry))) held (now (twos .entry))
+        (twosOf (packedRow (rowTrits held) (now (row .entry))) (rowWords held)) ⌝ }
+{
+    let stored = held_key::store_packed_row(held, ones, twos, row);
+    let outcome = stored.outcome;
+    let after = stored.held;
+    StoredNumbers {
+        refusal: trits::refusal::code(outcome),
+        held: after, // one row more where it was stored
+    }
+}
+
+// `check_packed` for C.
+#[no_mangle]
+pub extern "C" fn wave_check(
+    held: Held,
+    number: u64,
+    ones: &[u64],
+    twos: &[u64],
+    y: &[u8],
+    s: &[u8],
+    work_ones: &mut [u64],
+    work_twos: &mut [u64],
+) -> Checked
+    ensures { λ r. ⌜ r ≡ checkPackedAnswer held number (now (ones .entry)) (now (twos .entry)) (now (y .entry)) (now (s .entry)) (now («work_ones» .entry)) (now («work_twos» .entry)) ⌝ }
+    ensures { λ _. ⌜ now («work_ones» .exit) ≡ spaceAtExit (checkPackedRefusal held number (now (ones .entry)) (now (twos .entry)) (now (y .entry)) (now (s .entry))
+        (now («work_ones» .entry)) (now («work_twos» .entry))) (now («work_ones» .entry)) ⌝ }
+    ensures { λ _. ⌜ now («work_twos» .exit) ≡ spaceAtExit (checkPackedRefusal held number (now (ones .entry)) (now (twos .entry)) (now (y .entry)) (now (s .entry))
+        (now («work_ones» .entry)) (now («work_twos» .entry))) (now («work_twos» .entry)) ⌝ }
+{
+    check_tests::tell(checker::check_packed(held, number, ones, twos, y, s, work_ones, work_twos))
+}
+
+// `pack` for C.
+#[no_mangle]
+pub extern "C" fn wave_pack(m: usize, ones: &[u64], twos: &[u64], bytes: &mut [u8]) -> u64
+    ensures { λ r. ⌜ r ≡ packRefusal m (now (ones .entry)) (now (twos .entry)) (now (bytes .entry)) ⌝ }
+    ensures { λ _. ⌜ now (bytes .exit) ≡ packExit m (now (ones .entry)) (now (twos .entry)) (now (bytes .entry)) ⌝ }
+{
+    trits::refusal::code(packing::pack(m, ones, twos, bytes))
+}
+
+// `unpack` for C.
+#[no_mangle]
+pub extern "C" fn wave_unpack(m: usize, bytes: &[u8], ones: &mut [u64], twos: &mut [u64]) -> u64
+    ensures { λ r. ⌜ r ≡ unpackRefusal m (now (bytes .entry)) (now (ones .entry)) (now (twos .entry)) ⌝ }
+    ensures { λ _. ⌜ now (ones .exit) ≡ unpackOnes m (now (bytes .entry)) (now (ones .entry)) (now (twos .entry)) ⌝ }
+    ensures { λ _. ⌜ now (twos .exit) ≡ unpackTwos m (now (bytes .entry)) (now (ones .entry)) (now (twos .entry)) ⌝ }
+{
+    trits::refusal::code(packing::unpack(m, bytes, ones, twos))
+}
+
+// `from_stream` for C.
+#[no_mangle]
+pub extern "C" fn wave_from_stream(
+    m: usize,
+    bytes: &[u8],
+    ones: &mut [u64],
+    twos: &mut [u64],
+) -> u64
+    ensures { λ r. ⌜ r ≡ streamRefusal m (now (bytes .entry)) (now (ones .entry)) (now (twos .entry)) ⌝ }
+    ensures { λ _. ⌜ now (ones .exit) ≡ streamOnes m (now (bytes .entry)) (now (ones .entry)) (now (twos .entry)) ⌝ }
+    ensures { λ _. ⌜ now (twos .exit) ≡ streamTwos m (now (bytes .entry)) (now (ones .entry)) (now (twos .entry)) ⌝ }
+{
+    trits::refusal::code(packing::from_stream(m, bytes, ones, twos))
+}

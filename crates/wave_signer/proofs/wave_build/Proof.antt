@@ -1,0 +1,44 @@
+-- The number of the outcome is what the outcome is told by.
+-- Assumes nothing.
+use mathlib.Core.Path.{_∙_}
+use borrow.Author.Needs.{needs}
+use Rattle.wave_signer.proofs.wave_build.Statement.{statement}
+use Rattle.wave_signer.proofs.wave_build.Tie as tie
+
+build-requires : tie.Need-build-requires
+build-requires c κs = search needs
+
+code-requires : tie.Need-code-requires
+code-requires c κs = search needs
+
+same-length : tie.Need-same-length
+same-length c = search needs
+
+same-length-2 : tie.Need-same-length-2
+same-length-2 c = search needs
+
+same-length-3 : tie.Need-same-length-3
+same-length-3 c = search needs
+
+same-length-4 : tie.Need-same-length-4
+same-length-4 c = search needs
+
+same-length-5 : tie.Need-same-length-5
+same-length-5 c = search needs
+
+returns : tie.Need-returns
+returns c =
+    let e = c .before .before .before .before .before .before .before .before .before .before .before .build .ensures in (c .code .ensures ∙ e .0, e .1, e .2, e .3, e .4, e .5)
+
+pub wave-build-spec : {M : Type 1} → statement M
+wave-build-spec =
+    tie.close
+    (tie.spec
+    build-requires
+    code-requires
+    same-length
+    same-length-2
+    same-length-3
+    same-length-4
+    same-length-5
+    returns)

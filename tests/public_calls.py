@@ -10,7 +10,7 @@ import os
 import re
 import sys
 
-ARCHIVES = ('checker', 'builder', 'drawing')
+ARCHIVES = ('wave_checker', 'wave_signer')
 NOT_OF_THE_PRODUCT = ('bench', 'bench_check')
 
 

@@ -25,8 +25,15 @@
 extern "C" {
 #endif
 
-/* The words of one plane, and the packed bytes, of a row of m trits. */
+/* The words of one plane of a row of m trits, and of a whole key; the header of the editor's half has the same. */
+#ifndef WAVE_WORDS
 #define WAVE_WORDS(m) (((size_t)(m) + 63) / 64)
+#endif
+#ifndef WAVE_KEY_WORDS
+#define WAVE_KEY_WORDS(n, k) ((size_t)(k) * WAVE_WORDS((size_t)(n) - (size_t)(k)))
+#endif
+
+/* The packed bytes of a row of m trits. */
 #define WAVE_BYTES(m) (((size_t)(m) + 4) / 5)
 
 /*
@@ -51,7 +58,7 @@ wave_stored wave_begin(wave_held held, uint64_t number, uint64_t n, uint64_t k, 
 
 /*
  * Stores a packed row of n-k trits as the next row of the key. ones and twos are the planes of the whole key, each of
- * k * WAVE_WORDS(n-k) words; row has WAVE_BYTES(n-k) bytes. The words of that row are filled in both planes, bits past
+ * WAVE_KEY_WORDS(n, k) words; row has WAVE_BYTES(n-k) bytes. The words of that row are filled in both planes, bits past
  * its length 0, and no other word changes.
  * Order of refusals: 20 (no key begun), 1 (a state out of its ranges), 21, 2, 5.
  */
@@ -63,8 +70,8 @@ wave_stored wave_store_row(wave_held held, uint64_t *ones, size_t ones_words, ui
  * its weight, and yes exactly when that is w. y has WAVE_BYTES(n-k) bytes, s has WAVE_BYTES(k) bytes, and ones and twos
  * are the planes of the whole key, as for wave_store_row. work_ones and work_twos are working space of WAVE_WORDS(n-k)
  * words each; they may hold anything, are untouched after a refusal, and are all zero after every verdict.
- * Order of refusals: 20 (no key begun), 1 (a state out of its ranges), 20 (rows missing), 22, 2, then the contents of the
- * key (3, then 4, each over all of it), of y (5) and of s (5).
+ * Order of refusals: 20 (no key begun), 1 (a state out of its ranges), 20 (rows missing), 22, 2, then the contents of
+ * the key (3, then 4, each over all of it), of y (5) and of s (5).
  */
 wave_checked wave_check(wave_held held, uint64_t number, const uint64_t *ones, size_t ones_words,
                         const uint64_t *twos, size_t twos_words, const uint8_t *y, size_t y_bytes,

@@ -1,47 +1,117 @@
-/* The editor's half for a host in C: the build of a key, and one draw. The archive of the crate `builder` has wave_build, that of `drawing` wave_draw; a host links either or both.
-   Each plane is a pointer and a count of 64-bit words, an order a pointer and a count of 16-bit numbers; ones come before twos. The counts must be exact.
-   A call answers 0, or the number of the refusal. It keeps nothing, and reads and writes only what it is lent; no two buffers may overlap where one of them is written to.
-   With N = n/2, r_U = N - ku, r_V = N - kv, k = ku + kv, and words(m) = (m + 63) / 64, a plane has
-       H_U r_U * words(N), H_V r_V * words(N), b and c words(N), y words(n-k), V trits words(kv), U values words(ku), the word words(n), s words(k), the key k * words(n-k) words;
-   the starting order and p have n numbers, the V order and the U order N. */
+/*
+ * The editor's half of the ternary Wave signatures: build a key from a secret, and draw signed words under it.
+ *
+ * Trits stand in two planes of 64-bit words, ones and twos, least significant bit first: trit 1 sets its bit in the
+ * ones plane, trit 2 in the twos plane. A row of m trits takes WAVE_WORDS(m) words in each plane; the rows of a matrix
+ * follow each other, each beginning a new word. An order is a list of places, 16-bit numbers from 0 on, each once.
+ *
+ * Every buffer is a pointer and its number of elements (64-bit words or 16-bit places, not the size in bytes); ones
+ * come before twos. Every length must be exactly what the sizes say. No two buffers of one call may overlap where one
+ * of them is written. The caller owns all memory; nothing is allocated or kept between calls.
+ *
+ * With N = n/2, r_U = N - ku, r_V = N - kv and k = ku + kv:
+ *
+ *   buffer            its trits or places           words of one plane, or places
+ *   hu                r_U rows of N trits           WAVE_HU_WORDS(n, ku)
+ *   hv                r_V rows of N trits           WAVE_HV_WORDS(n, kv)
+ *   b, c              N trits each                  WAVE_HALF_WORDS(n)
+ *   start, p          n places                      n
+ *   key               k rows of n-k trits           WAVE_KEY_WORDS(n, ku + kv)
+ *   y                 n-k trits                     WAVE_WORDS(n - k)
+ *   v_order, u_order  N places                      n / 2
+ *   v                 kv trits                      WAVE_WORDS(kv)
+ *   u                 ku trits                      WAVE_WORDS(ku)
+ *   word              n trits                       WAVE_WORDS(n)
+ *   s                 k trits                       WAVE_WORDS(k)
+ *   work of a build   working space                 WAVE_BUILD_WORDS(n, ku, kv)
+ *   work of a draw    working space                 WAVE_DRAW_WORDS(n, ku, kv)
+ *
+ * Both calls answer 0, or the number of a refusal: 1 a size outside its range, 2 a wrong length, 3 a bit set in both
+ * planes, 4 a bit set past a row's length, 7 an order that is no permutation, 8 a zero in c or in the U values from
+ * index g on, 9 hu lacks rank, 10 hv lacks rank, 12 the first r_V + g places of the V order lack rank in hv, 13 the
+ * first r_U + g places of the U order lack rank in hu, 14 the weight of the word is not w. A call tests in the order
+ * given with it and answers with the first refusal that applies; a refused call leaves every buffer as it was, but for
+ * the working space after 9 and above.
+ */
 #ifndef WAVE_SIGNER_H
 #define WAVE_SIGNER_H
+
 #include <stddef.h>
 #include <stdint.h>
 
-/* n even, 4 to 16384; ku and kv each 1 to n/2 - 1; g at most ku and kv; w from 1 to n */
+#ifdef __cplusplus
+extern "C" {
+#endif
+
+/* The words of one plane of a row of m trits, and of a whole key; the header of the module's half has the same. */
+#ifndef WAVE_WORDS
+#define WAVE_WORDS(m) (((size_t)(m) + 63) / 64)
+#endif
+#ifndef WAVE_KEY_WORDS
+#define WAVE_KEY_WORDS(n, k) ((size_t)(k) * WAVE_WORDS((size_t)(n) - (size_t)(k)))
+#endif
+
+/* The words of one plane of a row of n/2 trits, of hu, and of hv. */
+#define WAVE_HALF_WORDS(n) WAVE_WORDS((size_t)(n) / 2)
+#define WAVE_HU_WORDS(n, ku) (((size_t)(n) / 2 - (size_t)(ku)) * WAVE_HALF_WORDS(n))
+#define WAVE_HV_WORDS(n, kv) (((size_t)(n) / 2 - (size_t)(kv)) * WAVE_HALF_WORDS(n))
+
+/* The words of one working plane of a build: a row of two halves for each row of hu and of hv. */
+#define WAVE_BUILD_WORDS(n, ku, kv) (((size_t)(n) - (size_t)(ku) - (size_t)(kv)) * 2 * WAVE_HALF_WORDS(n))
+
+/* The words of one working plane of a draw: as many rows as the larger of hu and hv has, and five more. */
+#define WAVE_SMALLER(a, b) ((size_t)(a) < (size_t)(b) ? (size_t)(a) : (size_t)(b))
+#define WAVE_DRAW_WORDS(n, ku, kv) (((size_t)(n) / 2 - WAVE_SMALLER(ku, kv) + 5) * WAVE_HALF_WORDS(n))
+
+/* The sizes: n even, 4 to 16,384; ku and kv each 1 to n/2 - 1; g at most ku and at most kv; w from 1 to n. */
 typedef struct { uint64_t n, ku, kv, g, w; } wave_sizes;
 
-/* The key of a secret and a starting order: p is the final order, and the key has k rows of n-k trits.
-   Refused, in this order: 1 a size; 2 a length; the contents of H_U, H_V, b, c (3 a bit in both planes, then 4 a bit past the length, each over the whole buffer, then 8 a zero in c);
-   7 the starting order is no permutation; 9 H_U lacks rank; 10 H_V lacks rank. A refusal leaves p and the key as they were.
-   The working space may hold anything. It is untouched after 1 to 8, and all 0 after 9, 10 and success. */
-uint64_t wave_build(wave_sizes, const uint64_t *hu_ones, size_t, const uint64_t *hu_twos, size_t, const uint64_t *hv_ones, size_t, const uint64_t *hv_twos, size_t,
-                    const uint64_t *b_ones, size_t, const uint64_t *b_twos, size_t, const uint64_t *c_ones, size_t, const uint64_t *c_twos, size_t,
-                    const uint16_t *start, size_t, uint16_t *p, size_t, uint64_t *key_ones, size_t, uint64_t *key_twos, size_t,
-                    uint64_t *work_ones, size_t, uint64_t *work_twos, size_t);
+/*
+ * Builds the key of the secret (hu, hv, b, c) by the starting order start. p becomes the final order and the key its k
+ * rows of n-k trits, bits past a row's length 0; both are written whole, and what they held before means nothing.
+ * Order of refusals: 1, 2, then the contents of hu (3, then 4, each over all of it), of hv (3, 4), of b (3, 4), of c
+ * (3, 4, then 8 a zero in c) and of start (7), then 9, 10. p and the key stay after a refusal.
+ * The working space may hold anything; it is untouched after 1 to 8, and all zero after 9, 10 and 0.
+ * What is only read (the secret and start) stays after every call.
+ */
+uint64_t wave_build(wave_sizes sizes, const uint64_t *hu_ones, size_t hu_ones_words,
+                    const uint64_t *hu_twos, size_t hu_twos_words, const uint64_t *hv_ones, size_t hv_ones_words,
+                    const uint64_t *hv_twos, size_t hv_twos_words, const uint64_t *b_ones, size_t b_ones_words,
+                    const uint64_t *b_twos, size_t b_twos_words, const uint64_t *c_ones, size_t c_ones_words,
+                    const uint64_t *c_twos, size_t c_twos_words, const uint16_t *start, size_t start_places,
+                    uint16_t *p, size_t p_places, uint64_t *key_ones, size_t key_ones_words,
+                    uint64_t *key_twos, size_t key_twos_words, uint64_t *work_ones, size_t work_ones_words,
+                    uint64_t *work_twos, size_t work_twos_words);
 
-/* One draw under a secret and p for the syndrome y, by the supplied orders and trits: the word has n trits in public places, s its last k.
-   Refused, in this order: 1 a size; 2 a length; the contents of H_U, H_V, b, c (3, 4, and 8 a zero in c), p (7 no permutation), y (3, 4), the V order (7), the V trits (3, 4),
-   the U order (7), the U values (3, 4, and 8 a zero from index g on, used or not); 12 the first part lacks rank in V; 13 it does in U; 14 the weight is not w.
-   After 12, 13 and 14 another draw may succeed. A refusal leaves the word and s as they were.
-   The working space may hold anything. It is untouched after 1 to 8, and all 0 after 12, 13, 14 and success. */
-uint64_t wave_draw(wave_sizes, const uint64_t *hu_ones, size_t, const uint64_t *hu_twos, size_t, const uint64_t *hv_ones, size_t, const uint64_t *hv_twos, size_t,
-                   const uint64_t *b_ones, size_t, const uint64_t *b_twos, size_t, const uint64_t *c_ones, size_t, const uint64_t *c_twos, size_t,
-                   const uint16_t *p, size_t, const uint64_t *y_ones, size_t, const uint64_t *y_twos, size_t,
-                   const uint16_t *v_order, size_t, const uint64_t *v_ones, size_t, const uint64_t *v_twos, size_t,
-                   const uint16_t *u_order, size_t, const uint64_t *u_ones, size_t, const uint64_t *u_twos, size_t,
-                   uint64_t *word_ones, size_t, uint64_t *word_twos, size_t, uint64_t *s_ones, size_t, uint64_t *s_twos, size_t,
-                   uint64_t *work_ones, size_t, uint64_t *work_twos, size_t);
+/*
+ * One draw for the syndrome y under a secret and the p of its key, by supplied choices: an order and kv trits for V, an
+ * order and ku values for U, those from index g on not 0. word becomes the n trits of the word in public places, and s
+ * its last k trits, the signature; bits past their lengths are 0, and what they held before means nothing.
+ * Order of refusals: 1, 2, then the contents of hu, hv and b (3, then 4, each over all of the buffer), of c (3, 4, 8),
+ * of p (7), of y (3, 4), of v_order (7), of v (3, 4), of u_order (7) and of u (3, 4, then 8 a zero from index g on,
+ * used or not), then 12, 13, 14. word and s stay after a refusal. After 12, 13 and 14 other choices may succeed.
+ * The working space may hold anything; it is untouched after 1 to 8, and all zero after 12, 13, 14 and 0.
+ * What is only read (the secret, p, y and the choices) stays after every call.
+ */
+uint64_t wave_draw(wave_sizes sizes, const uint64_t *hu_ones, size_t hu_ones_words,
+                   const uint64_t *hu_twos, size_t hu_twos_words, const uint64_t *hv_ones, size_t hv_ones_words,
+                   const uint64_t *hv_twos, size_t hv_twos_words, const uint64_t *b_ones, size_t b_ones_words,
+                   const uint64_t *b_twos, size_t b_twos_words, const uint64_t *c_ones, size_t c_ones_words,
+                   const uint64_t *c_twos, size_t c_twos_words, const uint16_t *p, size_t p_places,
+                   const uint64_t *y_ones, size_t y_ones_words, const uint64_t *y_twos, size_t y_twos_words,
+                   const uint16_t *v_order, size_t v_order_places, const uint64_t *v_ones, size_t v_ones_words,
+                   const uint64_t *v_twos, size_t v_twos_words, const uint16_t *u_order, size_t u_order_places,
+                   const uint64_t *u_ones, size_t u_ones_words, const uint64_t *u_twos, size_t u_twos_words,
+                   uint64_t *word_ones, size_t word_ones_words, uint64_t *word_twos, size_t word_twos_words,
+                   uint64_t *s_ones, size_t s_ones_words, uint64_t *s_twos, size_t s_twos_words,
+                   uint64_t *work_ones, size_t work_ones_words, uint64_t *work_twos, size_t work_twos_words);
 
-/* words of ONE working plane of a build, for sizes in their ranges; both planes alike */
-static inline size_t wave_build_work(wave_sizes z) {
-    return (size_t)(z.n - z.ku - z.kv) * 2 * ((size_t)(z.n / 2 + 63) / 64);
+/* The words of one working plane of a build and of a draw at these sizes, which are in their ranges. */
+static inline size_t wave_build_work(wave_sizes z) { return WAVE_BUILD_WORDS(z.n, z.ku, z.kv); }
+static inline size_t wave_draw_work(wave_sizes z) { return WAVE_DRAW_WORDS(z.n, z.ku, z.kv); }
+
+#ifdef __cplusplus
 }
+#endif
 
-/* the same of a draw: as many rows as the larger of H_U and H_V has, and five more */
-static inline size_t wave_draw_work(wave_sizes z) {
-    uint64_t ru = z.n / 2 - z.ku, rv = z.n / 2 - z.kv;
-    return (size_t)((ru < rv ? rv : ru) + 5) * ((size_t)(z.n / 2 + 63) / 64);
-}
 #endif

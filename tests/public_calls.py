@@ -45,7 +45,7 @@ def test_calls(document):
     for crate, path in listed:
         *modules, name = path.split('::')
         file = 'crates/%s/src/%s.rt' % (crate, '/'.join(modules) or 'lib')
-        found = [head for f, _, head in heads(file) if f == name]
+        found = [head for f, _, head in heads(file) if f == name] if os.path.exists(file) else []
         if not found:
             yield '%s::%s is no public function' % (crate, path)
         for head in found:

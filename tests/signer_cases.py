@@ -4,9 +4,9 @@
 A plane is one whole number whose bit i is place i, cut into words of 64 bits; a row begins a new word. Each call tests in the paper's order: 1, every
 length (2), the contents buffer after buffer (3, 4, 8, 7), then 9 and 10, or 12, 13 and 14.
 
-signer_cases.py calls BUILDER DRAWING   runs each case by wave_build and wave_draw of the two shared objects and holds the answer and every buffer to the rules;
-                                        at n = 4 it runs all choices, and holds the words that were released to those that meet the terms of demand 3
-signer_cases.py sign                    prints what `sign_lines` must print"""
+signer_cases.py calls LIBRARY   runs each case by wave_build and wave_draw of this shared object and holds the answer and every buffer to the rules;
+                                at n = 4 it runs all choices, and holds the words that were released to those that meet the terms of demand 3
+signer_cases.py sign            prints what `sign_lines` must print"""
 import ctypes
 import itertools
 import os
@@ -517,7 +517,8 @@ if __name__ == "__main__":
     if sys.argv[1] == "sign":
         sign_lines()
     else:
-        BUILD, DRAW = (getattr(ctypes.CDLL(os.path.abspath(path)), name) for path, name in zip(sys.argv[2:4], ("wave_build", "wave_draw")))
+        library = ctypes.CDLL(os.path.abspath(sys.argv[2]))
+        BUILD, DRAW = library.wave_build, library.wave_draw
         BUILD.restype = DRAW.restype = ctypes.c_uint64
         build_cases()
         draw_cases()

@@ -26,7 +26,7 @@ use Rattle.scheme.specs.declared.sizes.Sizes.{Sizes}
 use Rattle.scheme.specs.Sizes.{half, ru, rv, gapU, gapV}
 use Rattle.scheme.specs.Secret.{Secret}
 use Rattle.scheme.specs.Draw.{Choices, pivotsV, suppliedV, drawV, pivotsU, suppliedU, drawU}
-use Rattle.scheme.proofs.Draws.{parts, first-below, last-in}
+use Rattle.scheme_laws.proofs.Draws.{parts, first-below, last-in}
 use Rattle.draw_reduce.specs.Walk.{over, taken, passed}
 use Rattle.draw_reduce.proofs.Walked.{first-taken, first-passed, order-taken, order-passed, taken-cong, over-row, over-rest, passed-over}
 use Rattle.scheme.specs.Draw.{forcedBy}

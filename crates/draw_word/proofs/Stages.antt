@@ -23,8 +23,8 @@ use Rattle.scheme.specs.declared.sizes.Sizes.{Sizes}
 use Rattle.scheme.specs.Sizes.{half, places, ru, rv, gapV, gapU}
 use Rattle.scheme.specs.Secret.{Secret, uOf, vOf, leftOf, rightOf}
 use Rattle.scheme.specs.Draw.{Choices, firstV, firstU, pivotsV, pivotsU, drawV, drawU, drawn, drawRefusal, ranksRefusal}
-use Rattle.scheme.proofs.Pairs.{no-zero}
-use Rattle.scheme.proofs.Draws.{Valid}
+use Rattle.scheme_laws.proofs.Pairs.{no-zero}
+use Rattle.scheme_laws.proofs.Draws.{Valid}
 use Rattle.draw_half.specs.Half.{Ends, Solved}
 use Rattle.draw_half.proofs.HalfWords.{word-drawV, word-drawU, upto-ends}
 use Rattle.draw_pairs.specs.Halves.{placedRows, partedRows, joinedRows}

@@ -20,7 +20,7 @@ use Rattle.matrix.proofs.Rank.{full-reaches}
 use Rattle.matrix.proofs.Steps.{has-row, has-none, step-has, step-none}
 use Rattle.grid.specs.Grid.{Rows, Grid}
 use Rattle.scheme.specs.Build.{swap, Arrangement, arranged}
-use Rattle.scheme.proofs.Build.{State, begin, turned, taken, left, finished, swap-length}
+use Rattle.scheme_laws.proofs.Build.{State, begin, turned, taken, left, finished, swap-length}
 use Rattle.build_matrix.specs.Work.{colOf, placedAt}
 use Rattle.build_key.specs.KeyRows.{Keyed}
 

@@ -22,8 +22,8 @@ use Rattle.scheme.specs.declared.sizes.Sizes.{Sizes}
 use Rattle.scheme.specs.Sizes.{half, places, dim, ru, rv, codim}
 use Rattle.scheme.specs.Secret.{Secret, secretMatrix}
 use Rattle.scheme.specs.Build.{arranged, rowOfR, keyOrder, buildRefusal}
-use Rattle.scheme.proofs.Pairs.{secret-reaches}
-use Rattle.scheme.proofs.Build.{arranged-good}
+use Rattle.scheme_laws.proofs.Pairs.{secret-reaches}
+use Rattle.scheme_laws.proofs.Build.{arranged-good}
 use Rattle.build_matrix.specs.Work.{placedAt, halvesIn, leftU, rightU, leftV}
 use Rattle.build_matrix.proofs.Placed.{rows-joined, placed-secret}
 use Rattle.build_key.specs.KeyRows.{Keyed, readDown, keyOnes, keyTwos}

@@ -15,7 +15,8 @@ use Rattle.trits.proofs.Tests.{any-cong, any-found, any-passed}
 use Rattle.matrix.specs.Linear.{Vector, elem}
 use Rattle.matrix.specs.Orders.{isOrder}
 use Rattle.matrix.proofs.Places.{elem-append}
-use Rattle.calls.specs.Lent.{flag, Marked, markPlace, allSet, hasZero}
+use Rattle.calls.specs.Lent.{flag, Marked, markPlace, allSet}
+use Rattle.scheme.specs.Secret.{hasZero}
 
 -- ---- marks
 

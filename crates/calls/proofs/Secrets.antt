@@ -18,9 +18,10 @@ use Rattle.matrix.specs.Linear.{Vector}
 use Rattle.matrix.proofs.Field.{not-false}
 use Rattle.scheme.specs.declared.sizes.Sizes.{Sizes}
 use Rattle.scheme.specs.Sizes.{half, ru, rv}
-use Rattle.calls.specs.Lent.{Planes, halfWords, pairDiffers, secretDiffers, hasZero, secretRefusal, Readable}
+use Rattle.calls.specs.Lent.{Planes, halfWords, pairDiffers, secretDiffers, secretRefusal, Readable}
 use Rattle.calls.proofs.Marks.{isZero}
 use Rattle.calls.proofs.Exits.{first-le, planes-le}
+use Rattle.scheme.specs.Secret.{hasZero}
 
 -- ---- lengths that do not differ
 

@@ -12,7 +12,8 @@ use Rattle.matrix.specs.Orders.{isOrder}
 use Rattle.scheme.specs.declared.sizes.Sizes.{Sizes}
 use Rattle.scheme.specs.Sizes.{half, places, dim, ru, rv, codim, gapU, sizesFit}
 use Rattle.scheme.specs.Draw.{Choices, drawn, drawRefusal, signature}
-use Rattle.calls.specs.Lent.{Planes, halfWords, secretOf, pairDiffers, secretDiffers, hasZero, secretRefusal, workExit}
+use Rattle.calls.specs.Lent.{Planes, halfWords, secretOf, pairDiffers, secretDiffers, secretRefusal, workExit}
+use Rattle.scheme.specs.Secret.{hasZero}
 
 -- ---- what is lent
 

@@ -5,15 +5,15 @@ use mathlib.Core.List.{List}
 use Prim.Native.Nat.{ℕ, _*_, _<_}
 use lib.Dec.{eqb, leb, ltb}
 use lib.ListN.{length, getD, set}
-use Rattle.trits.specs.Trit.{isSet, anyTo}
+use Rattle.trits.specs.Trit.{anyTo}
 use Rattle.trits.specs.Planes.{Row, tritAt, wordsFor, zeroWords}
 use Rattle.trits.specs.Rows.{matrixAt}
 use Rattle.trits.specs.Refusal.{refuse, first, planesRefusal}
-use Rattle.matrix.specs.Linear.{Vector, elem}
+use Rattle.matrix.specs.Linear.{elem}
 use Rattle.grid.specs.Grid.{Rows}
 use Rattle.scheme.specs.declared.sizes.Sizes.{Sizes}
 use Rattle.scheme.specs.Sizes.{half, ru, rv}
-use Rattle.scheme.specs.Secret.{Secret}
+use Rattle.scheme.specs.Secret.{Secret, hasZero}
 
 -- ---- the secret
 
@@ -59,10 +59,6 @@ secretDiffers z hu1 hu2 hv1 hv2 b1 b2 c1 c2 =
     || pairDiffers (halfWords z) c1 c2))
 
 -- ---- 3, 4 and 8: the contents, buffer after buffer
-
--- whether a trit below m is 0
-unfoldable pub hasZero : ℕ → Vector → Bool
-hasZero m v = anyTo (λ i. not (isSet (v i))) m
 
 -- H_U, H_V, b, c: 3 before 4 in each, and 8 for c
 unfoldable pub secretRefusal : Sizes → Planes → ℕ

@@ -6,10 +6,11 @@ ghost use lib.ListN.{length};
 ghost use Rattle.trits.specs.Planes.{tritAt};
 ghost use Rattle.trits.specs.Refusal.{codeOf};
 ghost use Rattle.scheme.specs.Sizes.{sizesFit, ru, rv};
-ghost use Rattle.calls.specs.Lent.{planes, halfWords, pairDiffers, secretDiffers, hasZero, secretRefusal};
+ghost use Rattle.calls.specs.Lent.{planes, halfWords, pairDiffers, secretDiffers, secretRefusal};
 use scheme::sizes::Sizes;
 use trits::refusal::Outcome;
 use trits::refusal::Refusal;
+ghost use Rattle.scheme.specs.Secret.{hasZero};
 
 // Whether one of two planes has another length than m.
 pub fn pair_differs(m: usize, ones: usize, twos: usize) -> bool

@@ -144,11 +144,11 @@ fn test_packed_contents(held: Held, ones: &[u64], twos: &[u64], y: &[u8], s: &[u
     if trits::refusal::code(rows) != 0 {
         return rows;
     }
-    let tested = packing::write::test_bytes(y);
+    let tested = packing::faults::test_bytes(y);
     if trits::refusal::code(tested) != 0 {
         return tested;
     }
-    packing::write::test_bytes(s)
+    packing::faults::test_bytes(s)
 }
 
 // Whether y and s in planes have their lengths.

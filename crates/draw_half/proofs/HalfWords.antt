@@ -26,10 +26,10 @@ use Rattle.scheme.specs.declared.sizes.Sizes.{Sizes}
 use Rattle.scheme.specs.Sizes.{half, ru, rv, gapU, gapV}
 use Rattle.scheme.specs.Secret.{Secret}
 use Rattle.scheme.specs.Draw.{Choices, pivotsV, suppliedV, drawV, pivotsU, suppliedU, drawU}
-use Rattle.scheme.proofs.Draws.{parts, first-below, last-in}
+use Rattle.scheme_laws.proofs.Draws.{parts, first-below, last-in}
 use Rattle.draw_reduce.specs.Walk.{over, taken, passed}
 use Rattle.draw_reduce.proofs.Walked.{first-taken, first-passed, order-taken, order-passed, taken-cong, over-row, over-rest, passed-over}
-use Rattle.draw_walk.specs.Forced.{forcedBy}
+use Rattle.scheme.specs.Draw.{forcedBy}
 use Rattle.draw_walk.proofs.Supplied.{fill-same, walk-length, put-here, put-else, put-again}
 use Rattle.draw_half.specs.Half.{Ends, halfPivots, wordV, wordU, Solved, SolvedWhere}
 

@@ -7,7 +7,7 @@ use Prim.Native.Nat.{ℕ, _+_, _≤_}
 use lib.ListN.{getD, take, drop}
 use Rattle.trits.specs.Trit.{t0}
 use Rattle.matrix.specs.Linear.{Vector, Matrix, zeros, times, solve, orZeros, pivots, without, fill}
-use Rattle.draw_walk.specs.Forced.{forcedBy}
+use Rattle.scheme.specs.Draw.{forcedBy}
 
 -- 0 from place n on
 pub record Ends (n : ℕ) (v : Vector) : Type 0 where

@@ -23,7 +23,7 @@ use Rattle.grid.proofs.Cells.{cell, grid-to}
 use Rattle.grid.proofs.RowParts.{put-here, put-else}
 use Rattle.scheme.specs.Secret.{join}
 use Rattle.scheme.specs.Draw.{placed}
-use Rattle.scheme.proofs.Pairs.{join-low}
+use Rattle.scheme_laws.proofs.Pairs.{join-low}
 use Rattle.draw_pairs.specs.Halves.{putPlace, placedRows, joinProduct, partedRows, joinedRows}
 use Rattle.draw_pairs.proofs.RowProducts.{product-at, product-else}
 

@@ -10,7 +10,7 @@ use Rattle.matrix.specs.Linear.{Vector}
 use Rattle.matrix.specs.Orders.{Order}
 use Rattle.matrix.proofs.Sums.{weight-order}
 use Rattle.scheme.specs.Secret.{join}
-use Rattle.scheme.proofs.Pairs.{join-low, join-high}
+use Rattle.scheme_laws.proofs.Pairs.{join-low, join-high}
 
 -- the weight of two stretches in one vector
 pub weight-join : (N : ℕ) (l r : Vector) → weightV (join N l r) (N + N) ≡ weightV l N + weightV r N

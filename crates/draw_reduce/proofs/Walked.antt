@@ -21,7 +21,7 @@ use Rattle.matrix.proofs.Greedy.{pivots-kept}
 use Rattle.matrix.proofs.Elimination.{Reduced, reduced-cong}
 use Rattle.matrix.proofs.Steps.{has-row, has-none, step-has, step-none}
 use Rattle.matrix.proofs.Kept.{tried-cells, tried-kept, tried-count, eliminate-pivots, eliminated-reduced}
-use Rattle.scheme.proofs.Draws.{parts, first-below}
+use Rattle.scheme_laws.proofs.Draws.{parts, first-below}
 use Rattle.draw_reduce.specs.Walk.{over, isNext, taken, passed}
 
 -- ---- what one step leaves of a column

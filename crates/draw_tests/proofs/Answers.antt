@@ -19,9 +19,9 @@ use Rattle.matrix.proofs.Field.{not-false}
 use Rattle.matrix.proofs.Orders.{order-test}
 use Rattle.scheme.specs.declared.sizes.Sizes.{Sizes}
 use Rattle.scheme.specs.Sizes.{half, places, dim, ru, rv, codim, gapU, sizesFit}
-use Rattle.scheme.specs.Secret.{Secret, noZero}
+use Rattle.scheme.specs.Secret.{Secret, noZero, hasZero}
 use Rattle.scheme.specs.Draw.{Choices, firstV, firstU, drawn, drawRefusal}
-use Rattle.calls.specs.Lent.{pairDiffers, secretDiffers, hasZero, secretRefusal, workExit, Readable}
+use Rattle.calls.specs.Lent.{pairDiffers, secretDiffers, secretRefusal, workExit, Readable}
 use Rattle.calls.specs.DrawCall.{DrawCall, drawWorkWords, choicesDiffer, drawLengthsDiffer, choicesRefusal, drawAnswer}
 use Rattle.calls.proofs.Exits.{planes-le, first-le, work-done, work-late}
 use Rattle.calls.proofs.Secrets.{or-none, pair-same, SecretLengths, secret-same, secret-le, row-of}

@@ -24,7 +24,7 @@ use Rattle.grid.specs.Grid.{Rows, Grid, putRow}
 use Rattle.grid.proofs.RowParts.{read-trit}
 use Rattle.grid.proofs.Cells.{cell, cell-past, grid-by, grid-to, read-set, read-unset}
 use Rattle.draw_reduce.specs.Walk.{isNext}
-use Rattle.draw_walk.specs.Forced.{forcedBy}
+use Rattle.scheme.specs.Draw.{forcedBy}
 
 -- ---- trits as numbers
 

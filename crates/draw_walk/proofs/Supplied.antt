@@ -24,7 +24,7 @@ use Rattle.grid.proofs.Cells.{grid-to}
 use Rattle.draw_reduce.specs.Walk.{isNext, taken, passed}
 use Rattle.draw_reduce.proofs.Walked.{taken-append, passed-append, taken-within, next-cong}
 use Rattle.draw_reduce.proofs.Fronts.{take-next}
-use Rattle.draw_walk.specs.Forced.{forcedBy}
+use Rattle.scheme.specs.Draw.{forcedBy}
 use Rattle.draw_walk.proofs.Puts.{put-own, next-lt}
 
 -- ---- words filled place by place

@@ -11,7 +11,7 @@ ghost use Rattle.matrix.specs.Linear.{times, fill};
 ghost use Rattle.matrix.specs.Orders.{Order};
 ghost use Rattle.grid.specs.Grid.{Rows, Grid, putRow};
 ghost use Rattle.draw_reduce.specs.Walk.{isNext, taken, passed};
-ghost use Rattle.draw_walk.specs.Forced.{forcedBy};
+ghost use Rattle.scheme.specs.Draw.{forcedBy};
 
 // Place q of row e takes trit j of another row.
 pub fn put_from(

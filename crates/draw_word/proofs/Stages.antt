@@ -22,9 +22,9 @@ use Rattle.grid.proofs.Cells.{cell, cell-past}
 use Rattle.scheme.specs.declared.sizes.Sizes.{Sizes}
 use Rattle.scheme.specs.Sizes.{half, places, ru, rv, gapV, gapU}
 use Rattle.scheme.specs.Secret.{Secret, uOf, vOf, leftOf, rightOf}
-use Rattle.scheme.specs.Draw.{Choices, firstV, firstU, pivotsV, pivotsU, drawV, drawU, drawn, drawRefusal}
-use Rattle.scheme.proofs.Pairs.{no-zero}
-use Rattle.scheme.proofs.Draws.{Valid}
+use Rattle.scheme.specs.Draw.{Choices, firstV, firstU, pivotsV, pivotsU, drawV, drawU, drawn, drawRefusal, ranksRefusal}
+use Rattle.scheme_laws.proofs.Pairs.{no-zero}
+use Rattle.scheme_laws.proofs.Draws.{Valid}
 use Rattle.draw_half.specs.Half.{Ends, Solved}
 use Rattle.draw_half.proofs.HalfWords.{word-drawV, word-drawU, upto-ends}
 use Rattle.draw_pairs.specs.Halves.{placedRows, partedRows, joinedRows}
@@ -32,7 +32,7 @@ use Rattle.draw_pairs.proofs.DrawRows.{placed-parted, joined-halves, drawV-half
 use Rattle.calls.specs.Lent.{secretOf}
 use Rattle.calls.specs.DrawCall.{DrawCall, syndromeOf, choicesOf}
 use Rattle.draw_tests.specs.Ready.{ending, Ready}
-use Rattle.draw_word.specs.Stages.{pairsOf, startWord, Parted, ranksRefusal, SolvedWhere, Joined, eVOf, eUOf, MadeWhere}
+use Rattle.draw_word.specs.Stages.{pairsOf, startWord, Parted, SolvedWhere, Joined, eVOf, eUOf, MadeWhere}
 
 -- ---- a working space of 0
 

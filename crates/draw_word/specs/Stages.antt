@@ -2,15 +2,13 @@
 use mathlib.Core.Path.{_≡_}
 use mathlib.Core.List.{List}
 use Prim.Native.Nat.{ℕ, _+_}
-use lib.Dec.{eqb}
 use Rattle.trits.specs.Trit.{upTo}
 use Rattle.trits.specs.Planes.{tritAt}
-use Rattle.trits.specs.Refusal.{demand}
-use Rattle.matrix.specs.Linear.{Vector, Matrix, zeros, rank}
+use Rattle.matrix.specs.Linear.{Vector, Matrix, zeros}
 use Rattle.scheme.specs.declared.sizes.Sizes.{Sizes}
-use Rattle.scheme.specs.Sizes.{half, ru, rv, codim}
+use Rattle.scheme.specs.Sizes.{half, codim}
 use Rattle.scheme.specs.Secret.{Secret, join, uOf, vOf, leftOf, rightOf}
-use Rattle.scheme.specs.Draw.{Choices, placed, firstV, firstU, drawV, drawU}
+use Rattle.scheme.specs.Draw.{Choices, placed, drawV, drawU}
 use Rattle.calls.specs.Lent.{secretOf}
 use Rattle.calls.specs.DrawCall.{DrawCall, syndromeOf, choicesOf}
 
@@ -32,13 +30,6 @@ pub record Parted (z : Sizes) (l : ℕ) (s : Secret) (x : Vector) (A : Matrix) :
   pub right : A (l + 1) ≡ upTo (half z) (vOf z s x)
   pub emptyV : A (l + 3) ≡ zeros
   pub emptyU : A (l + 4) ≡ zeros
-
--- 12 where the first part lacks rank in V, 13 where it does in U
-abbrev pub ranksRefusal : Sizes → Secret → Choices → ℕ → ℕ
-ranksRefusal z s ch rest =
-    demand (eqb (rank (rv z) (half z) (s .hv) (firstV z ch)) (rv z)) 12
-    (demand (eqb (rank (ru z) (half z) (s .hu) (firstU z ch)) (ru z)) 13
-    rest)
 
 -- where nothing is refused, the rows hold e_V and e_U for x_U and x_V
 pub record SolvedWhere (n : ℕ) (z : Sizes) (l : ℕ) (s : Secret) (ch : Choices) (xU xV : Vector) (A : Matrix) : Type 0 where

@@ -14,10 +14,11 @@ ghost use Rattle.scheme.specs.Sizes.{sizesFit, half, places, ru, rv, codim};
 ghost use Rattle.draw_half.specs.Half.{Ends};
 ghost use Rattle.calls.specs.Lent.{planes, halfWords, secretOf, Readable};
 ghost use Rattle.draw_tests.specs.Ready.{given, ending, Ready};
-ghost use Rattle.draw_word.specs.Stages.{pairsOf, choices, startWord, Parted, ranksRefusal, SolvedWhere, Joined, MadeWhere};
+ghost use Rattle.draw_word.specs.Stages.{pairsOf, choices, startWord, Parted, SolvedWhere, Joined, MadeWhere};
 use scheme::sizes::Sizes;
 use trits::refusal::Outcome;
 use trits::refusal::Refusal;
+ghost use Rattle.scheme.specs.Draw.{ranksRefusal};
 
 // The syndrome is placed and parted into x_U and x_V, in a working space made 0.
 pub fn part_word(

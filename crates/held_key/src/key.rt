@@ -83,7 +83,7 @@ pub fn test_packed_row(held: Held, ones: &[u64], twos: &[u64], row: &[u8]) -> Ou
     if row.len() != (super::state::row_trits(held) + 4) / 5 {
         return Outcome::Refused(Refusal::Length);
     }
-    packing::write::test_bytes(row)
+    packing::faults::test_bytes(row)
 }
 
 // The row writer: a packed row that passed its tests fills the parts that it is lent, which begin at its own start.

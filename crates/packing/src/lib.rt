@@ -1,5 +1,6 @@
 // Trits packed five to a byte, and trits of a byte stream: the calls.
 pub mod table; // the five trits of each byte
+pub mod faults; // the tests for 5 and 6
 pub mod write; // a row written from bytes
 pub mod read; // bytes made from a row
 
@@ -55,7 +56,7 @@ pub fn unpack(m: usize, bytes: &[u8], ones: &mut [u64], twos: &mut [u64]) -> Out
     if twos.len() != words {
         return Outcome::Refused(Refusal::Length);
     }
-    let tested = write::test_bytes(bytes);
+    let tested = faults::test_bytes(bytes);
     if trits::refusal::code(tested) != 0 {
         return tested;
     }
@@ -80,7 +81,7 @@ pub fn from_stream(m: usize, bytes: &[u8], ones: &mut [u64], twos: &mut [u64]) -
     if twos.len() != words {
         return Outcome::Refused(Refusal::Length);
     }
-    if write::too_short(m, bytes) {
+    if faults::too_short(m, bytes) {
         return Outcome::Refused(Refusal::StreamEnd);
     }
     write::write_stream(m, bytes, ones, twos);

@@ -9,7 +9,7 @@ use Rattle.matrix.specs.Linear.{agree, find, solve, inSpan, keep, pivots, rank,
 use Rattle.matrix.specs.Orders.{isOrder}
 use Rattle.trits.specs.InDigits.{vector, digits, matrix, digitRows}
 use Rattle.scheme.specs.Sizes.{Sizes, sizesFit}
-use Rattle.scheme.specs.Secret.{Secret, noZero, secretMatrix}
+use Rattle.scheme.specs.Secret.{Secret, noZero, hasZero, secretMatrix}
 use Rattle.scheme.specs.Build.{arrange, arranged, rowOfR, buildFits, buildRefusal, keyOrder, keyRow}
 use Rattle.scheme.specs.Draw.{Choices, choicesFit, pivotsV, suppliedV, drawV, pivotsU, suppliedU, drawU, drawn, drawRefusal}
 
@@ -51,7 +51,7 @@ pub record Cases6 : Type 0 where
   pub released-gap : drawRefusal (sizes6 1 5) secret6 order6 (vector (1 ∷ 2 ∷ 0 ∷ [])) choices6 ≡ 0
 
 pub cases6 : Cases6
-unfolding dotV anyTo sumTo tabulate agree find solve inSpan keep pivots rank without fill range isOrder digitRows sizesFit noZero secretMatrix arrange arranged rowOfR buildFits buildRefusal choicesFit pivotsV suppliedV drawV pivotsU suppliedU drawU drawn drawRefusal
+unfolding dotV anyTo sumTo tabulate agree find solve inSpan keep pivots rank without fill range isOrder digitRows sizesFit noZero hasZero secretMatrix arrange arranged rowOfR buildFits buildRefusal choicesFit pivotsV suppliedV drawV pivotsU suppliedU drawU drawn drawRefusal
 cases6 = record { given = refl; passed = refl; order = refl; rows = refl; fits = refl; draw = refl; released = refl; draw-gap = refl; released-gap = refl }
 
 -- ---- n = 8 with k = 3 and n-k = 5, and draws at g = 1
@@ -106,7 +106,7 @@ pub record Cases8 : Type 0 where
   pub draw-narrow : digits 8 (drawn (sizes8 0 7) secret8 order8 (vector y8) (choose goodV (2 ∷ []) goodU (1 ∷ 2 ∷ []))) ≡ 2 ∷ 1 ∷ 2 ∷ 0 ∷ 0 ∷ 2 ∷ 1 ∷ 2 ∷ []
 
 pub cases8 : Cases8
-unfolding dotV anyTo sumTo tabulate agree find solve inSpan keep pivots rank without fill range isOrder digitRows sizesFit noZero secretMatrix arrange arranged rowOfR buildFits buildRefusal choicesFit pivotsV suppliedV drawV pivotsU suppliedU drawU drawn drawRefusal
+unfolding dotV anyTo sumTo tabulate agree find solve inSpan keep pivots rank without fill range isOrder digitRows sizesFit noZero hasZero secretMatrix arrange arranged rowOfR buildFits buildRefusal choicesFit pivotsV suppliedV drawV pivotsU suppliedU drawU drawn drawRefusal
 cases8 = record {
   given = refl;
   passed = refl;

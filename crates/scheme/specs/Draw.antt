@@ -54,9 +54,12 @@ pivotsU z s ch = pivots (ru z) (half z) (s .hu) (firstU z ch)
 abbrev pub lastU : Sizes → Choices → List ℕ
 lastU z ch = drop (ru z + gapU z) (ch .orderU)
 
--- at a place of the last part: (c-b)·e_V where e_V is not 0, else the supplied value x
+-- at a place of the last part, with b and c of the secret: (c-b)·e_V where e_V is not 0, else the supplied value x
+abbrev pub forcedBy : Vector → Vector → Vector → ℕ → Trit → Trit
+forcedBy b c eV q x = cond (isSet (eV q)) (mulT (subT (c q) (b q)) (eV q)) x
+
 abbrev pub forced : Secret → Vector → ℕ → Trit → Trit
-forced s eV q x = cond (isSet (eV q)) (mulT (subT (s .c q) (s .b q)) (eV q)) x
+forced s = forcedBy (s .b) (s .c)
 
 -- the g places of the first part that are no pivot take the first g values, the last part the others, each in draw order
 unfoldable pub suppliedU : Sizes → Secret → Vector → Choices → Vector
@@ -75,13 +78,16 @@ drawn z s p y ch i =
     let eV = drawV z s (vOf z s x) ch in
     whole z s (drawU z s (uOf z s x) eV ch) eV (getD p i 0)
 
--- refused 12 where the first part lacks rank in V, 13 where it does in U, 14 where the weight is not w; 0 where the word is released
-unfoldable pub drawRefusal : Sizes → Secret → List ℕ → Vector → Choices → ℕ
-drawRefusal z s p y ch =
+-- refused 12 where the first part lacks rank in V, 13 where it does in U; else what follows decides
+abbrev pub ranksRefusal : Sizes → Secret → Choices → ℕ → ℕ
+ranksRefusal z s ch rest =
     demand (eqb (rank (rv z) (half z) (s .hv) (firstV z ch)) (rv z)) 12
     (demand (eqb (rank (ru z) (half z) (s .hu) (firstU z ch)) (ru z)) 13
-    (demand (eqb (weightV (drawn z s p y ch) (places z)) (z .w)) 14
-    0))
+    rest)
+
+-- then 14 where the weight is not w; 0 where the word is released
+unfoldable pub drawRefusal : Sizes → Secret → List ℕ → Vector → Choices → ℕ
+drawRefusal z s p y ch = ranksRefusal z s ch (demand (eqb (weightV (drawn z s p y ch) (places z)) (z .w)) 14 0)
 
 -- the signature: the last k trits of the word
 abbrev pub signature : Sizes → Vector → Vector

@@ -13,9 +13,13 @@ pub record Secret : Type 0 where
   pub b : Vector
   pub c : Vector
 
--- no trit below m is 0, which is asked of c below N
+-- some trit below m is 0 ("Turned back by the input", 8)
+unfoldable pub hasZero : ℕ → Vector → Bool
+hasZero m v = anyTo (λ i. not (isSet (v i))) m
+
+-- none is, which is asked of c below N
 unfoldable pub noZero : ℕ → Vector → Bool
-noZero m v = not (anyTo (λ i. not (isSet (v i))) m)
+noZero m v = not (hasZero m v)
 
 -- d is 1 + b·c at each place
 abbrev pub dOf : Secret → Vector

@@ -23,10 +23,10 @@ use Rattle.held_key.specs.Store.{beginRefusal, begunHeld, beginHeld, rowRefusal
 use Rattle.held_key.specs.Load.{offer, offerAll}
 use Rattle.check_tests.specs.Check.{callRefusal, packedLengths, packedContents, checkPackedRefusal, heldWeight, answered, checkPackedAnswer}
 use Rattle.scheme.specs.Sizes.{sizesFit}
-use Rattle.scheme.specs.Secret.{noZero, secretMatrix}
+use Rattle.scheme.specs.Secret.{noZero, secretMatrix, hasZero}
 use Rattle.scheme.specs.Build.{arrange, arranged, rowOfR, buildRefusal}
 use Rattle.scheme.specs.Draw.{choicesFit, placed, pivotsV, suppliedV, drawV, pivotsU, suppliedU, drawU, drawn, drawRefusal, signature}
-use Rattle.calls.specs.Lent.{secretDiffers, hasZero, secretRefusal, workExit}
+use Rattle.calls.specs.Lent.{secretDiffers, secretRefusal, workExit}
 use Rattle.calls.specs.BuildCall.{keyDiffers, buildLengthsDiffer, buildAnswer, orderExit, keyOnesOf, keyTwosOf, keyOnesExit, keyTwosExit, buildWorkOnesExit}
 use Rattle.calls.specs.DrawCall.{choicesDiffer, drawLengthsDiffer, choicesRefusal, drawAnswer, wordOf, wordOnesExit, wordTwosExit, sOnesExit, sTwosExit, drawWorkOnesExit}
 use Rattle.wave.specs.Terms.{Terms, builtKey, LentSyndrome, Under, HandsOut}

@@ -14,10 +14,10 @@ use Rattle.matrix.specs.Orders.{isOrder}
 use Rattle.matrix.proofs.Places.{or-false-left}
 use Rattle.scheme.specs.declared.sizes.Sizes.{Sizes}
 use Rattle.scheme.specs.Sizes.{half, places, dim, ru, rv, codim, gapU, sizesFit}
-use Rattle.scheme.specs.Secret.{noZero}
+use Rattle.scheme.specs.Secret.{noZero, hasZero}
 use Rattle.scheme.specs.Build.{buildFits, buildRefusal}
 use Rattle.scheme.specs.Draw.{choicesFit, drawRefusal}
-use Rattle.calls.specs.Lent.{Planes, secretOf, pairDiffers, secretDiffers, hasZero, secretRefusal}
+use Rattle.calls.specs.Lent.{Planes, secretOf, pairDiffers, secretDiffers, secretRefusal}
 use Rattle.calls.specs.BuildCall.{BuildCall, buildLengthsDiffer, buildAnswer}
 use Rattle.calls.specs.DrawCall.{DrawCall, syndromeOf, choicesOf, drawWorkWords, choicesDiffer, drawLengthsDiffer, choicesRefusal, drawAnswer}
 

@@ -25,9 +25,9 @@ use Rattle.scheme.specs.Sizes.{half, places, dim, codim, gapU, sizesFit}
 use Rattle.scheme.specs.Secret.{Secret, noZero}
 use Rattle.scheme.specs.Build.{keyOrder, keyRow}
 use Rattle.scheme.specs.Draw.{Choices, drawn, drawRefusal, signature}
-use Rattle.scheme.proofs.Pairs.{zero-no}
-use Rattle.scheme.proofs.Ranges.{sizes-fit}
-use Rattle.scheme.proofs.Draws.{Valid}
+use Rattle.scheme_laws.proofs.Pairs.{zero-no}
+use Rattle.scheme_laws.proofs.Ranges.{sizes-fit}
+use Rattle.scheme_laws.proofs.Draws.{Valid}
 use Rattle.calls.specs.Lent.{secretOf, secretDiffers, secretRefusal}
 use Rattle.calls.specs.BuildCall.{BuildCall, keyRowWords, orderExit, keyOnesOf, keyTwosOf, keyOnesExit, keyTwosExit}
 use Rattle.calls.specs.DrawCall.{DrawCall, choicesOf, drawWorkWords, drawLengthsDiffer, drawAnswer, wordOf, wordOnesExit, wordTwosExit, sOnesExit, sTwosExit}

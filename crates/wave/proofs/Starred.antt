@@ -21,10 +21,10 @@ use Rattle.verdict.specs.Verdict.{timesKey, fullWord, fullWeight, saysYes}
 use Rattle.held_key.specs.Held.{numbersFit, sound, heldRow, heldKey}
 use Rattle.check_tests.specs.Check.{callRefusal, packedLengths, packedContents, checkPackedRefusal, heldWeight, answered, checkPackedAnswer}
 use Rattle.scheme.specs.Sizes.{sizesFit}
-use Rattle.scheme.specs.Secret.{secretMatrix}
+use Rattle.scheme.specs.Secret.{secretMatrix, hasZero}
 use Rattle.scheme.specs.Build.{arrange, arranged, rowOfR, buildRefusal}
 use Rattle.scheme.specs.Draw.{placed, signature, pivotsV, suppliedV, drawV, pivotsU, suppliedU, drawU, drawn, drawRefusal}
-use Rattle.calls.specs.Lent.{secretDiffers, hasZero, secretRefusal, workExit}
+use Rattle.calls.specs.Lent.{secretDiffers, secretRefusal, workExit}
 use Rattle.calls.specs.BuildCall.{keyDiffers, buildLengthsDiffer, buildAnswer, orderExit, keyOnesOf, keyTwosOf, keyOnesExit, keyTwosExit, buildWorkOnesExit, buildWorkTwosExit}
 use Rattle.calls.specs.DrawCall.{DrawCall, choicesDiffer, drawLengthsDiffer, choicesRefusal, drawAnswer, wordOf, wordOnesExit, wordTwosExit, sOnesExit, sTwosExit, drawWorkOnesExit, drawWorkTwosExit}
 use Rattle.wave.specs.Terms.{Under}

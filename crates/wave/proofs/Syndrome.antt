@@ -19,8 +19,8 @@ use Rattle.verdict.specs.Verdict.{Key, timesKey, syndrome, HasSyndrome}
 use Rattle.scheme.specs.Secret.{join}
 use Rattle.scheme.specs.Build.{Arrangement, rowOfR}
 use Rattle.scheme.specs.Draw.{placed}
-use Rattle.scheme.proofs.Pairs.{join-low, join-high}
-use Rattle.scheme.proofs.Build.{Arranged, row-column}
+use Rattle.scheme_laws.proofs.Pairs.{join-low, join-high}
+use Rattle.scheme_laws.proofs.Build.{Arranged, row-column}
 
 module _ (m k n : ℕ) (H : Matrix) (a : Arrangement) (size : m + k ≡ n) (g : Arranged m n H a) where
   abbrev p : List ℕ

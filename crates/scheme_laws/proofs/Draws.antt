@@ -20,11 +20,12 @@ use Rattle.matrix.proofs.Counts.{Within, Disjoint, distinct-parts, without-out}
 use Rattle.matrix.proofs.Solutions.{solve-exists}
 use Rattle.matrix.proofs.Elimination.{Reduced}
 use Rattle.matrix.proofs.Values.{solve-by-rows}
-use Rattle.scheme.specs.Sizes.{Sizes, half, places, ru, rv, gapV, gapU}
+use Rattle.scheme.specs.declared.sizes.Sizes.{Sizes}
+use Rattle.scheme.specs.Sizes.{half, places, ru, rv, gapV, gapU}
 use Rattle.scheme.specs.Secret.{Secret, leftOf, rightOf}
 use Rattle.scheme.specs.Draw.{Choices, choicesFit, firstV, pivotsV, suppliedV, drawV, firstU, pivotsU, lastU, forced, suppliedU, drawU, drawn, drawRefusal}
-use Rattle.scheme.proofs.Pairs.{no-zero, zero-no, forced-pair}
-use Rattle.scheme.proofs.Ranges.{Ranges}
+use Rattle.scheme_laws.proofs.Pairs.{no-zero, zero-no, forced-pair}
+use Rattle.scheme_laws.proofs.Ranges.{Ranges}
 
 -- ---- parts of an order
 

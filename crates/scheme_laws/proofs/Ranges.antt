@@ -12,11 +12,12 @@ use Rattle.matrix.specs.Linear.{rank, range}
 use Rattle.matrix.specs.Orders.{Order}
 use Rattle.matrix.proofs.Orders.{order-test}
 use Rattle.matrix.proofs.Rank.{full-reaches}
-use Rattle.scheme.specs.Sizes.{Sizes, half, places, dim, ru, rv, codim, gapV, gapU, sizesFit}
+use Rattle.scheme.specs.declared.sizes.Sizes.{Sizes}
+use Rattle.scheme.specs.Sizes.{half, places, dim, ru, rv, codim, gapV, gapU, sizesFit}
 use Rattle.scheme.specs.Secret.{Secret, noZero, secretMatrix}
 use Rattle.scheme.specs.Build.{arranged, buildFits, buildRefusal}
-use Rattle.scheme.proofs.Pairs.{no-zero, secret-reaches}
-use Rattle.scheme.proofs.Build.{Arranged, arranged-good}
+use Rattle.scheme_laws.proofs.Pairs.{no-zero, secret-reaches}
+use Rattle.scheme_laws.proofs.Build.{Arranged, arranged-good}
 
 pub record Ranges (z : Sizes) : Type 0 where
   pub even : places z ≡ z .n

@@ -4,8 +4,8 @@ use Prim.Native.Nat.{_-_}
 use mathlib.Core.Path.{_≡_, _∙_}
 use native.Mathlib.Omega.{arith}
 use Rattle.packed.proofs.Keeping.{missing-skipped, missing-five}
-use Rattle.packing.proofs.write.count_byte.Statement.{statement}
-use Rattle.packing.proofs.write.count_byte.Tie as tie
+use Rattle.packing.proofs.faults.count_byte.Statement.{statement}
+use Rattle.packing.proofs.faults.count_byte.Tie as tie
 
 returns : tie.Need-returns
 returns c =

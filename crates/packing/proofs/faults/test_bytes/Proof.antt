@@ -3,8 +3,8 @@
 use mathlib.Core.Path.{sym, _∙_}
 use borrow.Author.Needs.{needs}
 use Rattle.packed.proofs.Turned.{bytes-bad, bytes-good}
-use Rattle.packing.proofs.write.test_bytes.Statement.{statement}
-use Rattle.packing.proofs.write.test_bytes.Tie as tie
+use Rattle.packing.proofs.faults.test_bytes.Statement.{statement}
+use Rattle.packing.proofs.faults.test_bytes.Tie as tie
 
 bad-byte-requires : tie.Need-bad-byte-requires
 bad-byte-requires c κs = search needs

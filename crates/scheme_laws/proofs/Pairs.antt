@@ -12,17 +12,18 @@ use Rattle.matrix.specs.Linear.{Vector, times}
 use Rattle.matrix.proofs.Field.{law4, test4, implied, not-true, not-false, sub-zero-eq, unset-zero}
 use Rattle.matrix.proofs.Dots.{dot-cong, dot-left, dot-right, dot-split, dot-add}
 use Rattle.matrix.proofs.Dimension.{Reaches}
-use Rattle.scheme.specs.Sizes.{Sizes, half, places, ru, rv, codim}
-use Rattle.scheme.specs.Secret.{Secret, noZero, dOf, uOf, vOf, leftOf, rightOf, join, whole, secretMatrix}
+use Rattle.scheme.specs.declared.sizes.Sizes.{Sizes}
+use Rattle.scheme.specs.Sizes.{half, places, ru, rv, codim}
+use Rattle.scheme.specs.Secret.{Secret, noZero, hasZero, dOf, uOf, vOf, leftOf, rightOf, join, whole, secretMatrix}
 use Rattle.scheme.specs.Draw.{forced}
 
 -- the test for zeros
 pub no-zero : (m : ℕ) (v : Vector) → noZero m v ≡ true → (i : ℕ) → i < m → isSet (v i) ≡ true
-unfolding noZero
+unfolding noZero hasZero
 no-zero m v h i l = not-false (isSet (v i)) (any-none m (λ i. not (isSet (v i))) (not-true (anyTo (λ i. not (isSet (v i))) m) h) i l)
 
 pub zero-no : (m : ℕ) (v : Vector) → ((i : ℕ) → i < m → isSet (v i) ≡ true) → noZero m v ≡ true
-unfolding noZero
+unfolding noZero hasZero
 zero-no m v h = ap not (none-any m (λ i. not (isSet (v i))) (λ i l. ap not (h i l)))
 
 -- ---- the pair map

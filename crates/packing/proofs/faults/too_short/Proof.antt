@@ -8,8 +8,8 @@ use lib.ListN.{length}
 use denote.Ref.{now}
 use Rattle.packed.proofs.Keeping.{given, missing-turn, long-enough, counted-out}
 use Rattle.packed.specs.Stream.{kept}
-use Rattle.packing.proofs.write.too_short.Statement.{statement}
-use Rattle.packing.proofs.write.too_short.Tie as tie
+use Rattle.packing.proofs.faults.too_short.Statement.{statement}
+use Rattle.packing.proofs.faults.too_short.Tie as tie
 
 abbrev Inv-loop : tie.InvT-loop
 Inv-loop m bytes left₀ i₀ left i =

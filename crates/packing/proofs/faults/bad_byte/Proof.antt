@@ -9,8 +9,8 @@ use denote.Ref.{now}
 use mathlib.Core.Bool.{false}
 use Rattle.trits.specs.Trit.{anyTo}
 use Rattle.packed.proofs.Keeping.{big, big-found, big-passed, big-all}
-use Rattle.packing.proofs.write.bad_byte.Statement.{statement}
-use Rattle.packing.proofs.write.bad_byte.Tie as tie
+use Rattle.packing.proofs.faults.bad_byte.Statement.{statement}
+use Rattle.packing.proofs.faults.bad_byte.Tie as tie
 
 abbrev Inv-loop : tie.InvT-loop
 Inv-loop bytes i₀ i =

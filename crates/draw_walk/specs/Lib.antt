@@ -1,2 +1,0 @@
--- The definitions that the contracts cite: what a place of the last part of U takes.
-pub mod Forced

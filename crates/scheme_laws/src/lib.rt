@@ -1,0 +1,1 @@
+// The laws of the build and of a draw: no code.

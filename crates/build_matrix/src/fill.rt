@@ -66,7 +66,7 @@ pub fn fill_v(
         let o = planes::words::row_part(ho, rv, w, i);
         let t = planes::words::row_part(ht, rv, w, i);
         halves::put_negative(ones, twos, rows, w, ru + i + (ru + i), o, t, co, ct);
-        halves::put_copy(ones, twos, rows, w, ru + i + (ru + i) + 1, o, t);
+        grid::one_row::put_copy(ones, twos, rows, w, ru + i + (ru + i) + 1, o, t);
         i += 1;
     }
 }

@@ -92,24 +92,3 @@ pub fn put_negative(
     let e = a + w;
     negative(&mut ones[a..e], &mut twos[a..e], ho, ht, vo, vt);
 }
-
-// Row j becomes h.
-pub fn put_copy(
-    ones: &mut [u64],
-    twos: &mut [u64],
-    rows: usize,
-    w: usize,
-    j: usize,
-    ho: &[u64],
-    ht: &[u64],
-)
-    requires { ⌜ Rows (now ones) (now twos) rows w ⌝ }
-    requires { ⌜ Row (now ho) (now ht) ⌝ }
-    requires { ⌜ (j < rows) × (length (now ho) ≡ w) ⌝ }
-    ensures { λ _. ⌜ Grid (now (ones .exit)) (now (twos .exit)) rows w (putRow j (tritAt (now (ho .entry)) (now (ht .entry))) (matrixAt w (now (ones .entry)) (now (twos .entry)))) ⌝ }
-{
-    let a = j * w;
-    let e = a + w;
-    planes::words::copy_words(&mut ones[a..e], ho);
-    planes::words::copy_words(&mut twos[a..e], ht);
-}

@@ -4,9 +4,9 @@ use mathlib.Core.List.{List}
 use Prim.Native.Nat.{ℕ, _+_, _-_}
 use lib.Dec.{ltb}
 use lib.ListN.{getD}
-use Rattle.trits.specs.Trit.{Trit, addT, subT, mulT, zipV, putV, upTo}
+use Rattle.trits.specs.Trit.{Trit, addT, subT, putV, upTo}
 use Rattle.matrix.specs.Linear.{Vector, Matrix}
-use Rattle.grid.specs.Grid.{putRow}
+use Rattle.grid.specs.Grid.{putRow, joinProduct}
 use Rattle.scheme.specs.Secret.{join}
 
 -- ---- placing
@@ -20,10 +20,6 @@ unfoldable pub placedRows : ℕ → ℕ → Vector → Matrix → Matrix
 placedRows l N x A = putRow (l + 1) (upTo N (λ q. x (N + q))) (putRow l (upTo N x) A)
 
 -- ---- parting and joining
-
--- row t becomes row i times v, and is joined to row a by an operation
-unfoldable pub joinProduct : (Trit → Trit → Trit) → ℕ → ℕ → ℕ → Vector → Matrix → Matrix
-joinProduct op a i t v A = putRow a (zipV op (A a) (zipV mulT (A i) v)) (putRow t (zipV mulT (A i) v) A)
 
 -- the halves in rows l and l + 1 parted: c·L is taken from R, then b·x_V from L; row l + 2 has the last product
 unfoldable pub partedRows : ℕ → Vector → Vector → Matrix → Matrix

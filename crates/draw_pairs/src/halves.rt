@@ -7,7 +7,6 @@ ghost use Rattle.trits.specs.Planes.{tritAt, Row};
 ghost use Rattle.trits.specs.Rows.{matrixAt};
 ghost use Rattle.grid.specs.Grid.{Rows, Grid};
 ghost use Rattle.draw_pairs.specs.Halves.{partedRows, joinedRows};
-use super::products;
 
 // Rows l and l + 1 become x_U and x_V: R - c·L, then L - b·x_V. Row l + 2 is used for the products.
 pub fn part_halves(
@@ -29,8 +28,8 @@ pub fn part_halves(
 {
     let r = l + 1;
     let t = l + 2;
-    products::sub_product(ones, twos, rows, w, r, l, t, co, ct);
-    products::sub_product(ones, twos, rows, w, l, r, t, bo, bt);
+    grid::products::sub_product(ones, twos, rows, w, r, l, t, co, ct);
+    grid::products::sub_product(ones, twos, rows, w, l, r, t, bo, bt);
 }
 
 // Rows u and v, which hold e_U and e_V, become the left and the right half: e_U + b·e_V, then e_V + c times that. Row t is used for the products.
@@ -53,6 +52,6 @@ pub fn join_halves(
     ensures { λ _. ⌜ Grid (now (ones .exit)) (now (twos .exit)) rows w
         (joinedRows u v t (tritAt (now (bo .entry)) (now (bt .entry))) (tritAt (now (co .entry)) (now (ct .entry))) (matrixAt w (now (ones .entry)) (now (twos .entry)))) ⌝ }
 {
-    products::add_product(ones, twos, rows, w, u, v, t, bo, bt);
-    products::add_product(ones, twos, rows, w, v, u, t, co, ct);
+    grid::products::add_product(ones, twos, rows, w, u, v, t, bo, bt);
+    grid::products::add_product(ones, twos, rows, w, v, u, t, co, ct);
 }

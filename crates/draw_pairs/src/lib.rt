@@ -1,5 +1,3 @@
-// The pairs of a draw, in rows of a grid: the syndrome placed, the halves parted and joined, the word weighed and written.
-pub mod products; // a row times a lent row
+// The pairs of a draw, in rows of a grid: the syndrome placed, the halves parted and joined, the word written.
 pub mod halves; // halves of a word in secret places, parted and joined
 pub mod places; // secret places in two rows: a syndrome put there, a word read from there
-pub mod weights; // the weight of two rows

@@ -1,13 +1,13 @@
 // Secret places in two rows of a grid: those below N in one, those from N on in the other.
 ghost use mathlib.Core.Path.{_≡_};
 ghost use Prim.Native.Nat.{_+_, _*_, _<_, _≤_};
-ghost use lib.ListN.{length, getD};
+ghost use lib.ListN.{length};
 ghost use Rattle.trits.specs.Trit.{number, tritOf, upTo};
 ghost use Rattle.trits.specs.Planes.{tritAt, Reads, onesOf, twosOf};
 ghost use Rattle.trits.specs.Rows.{matrixAt};
 ghost use Rattle.matrix.specs.Linear.{zeros};
 ghost use Rattle.matrix.specs.Orders.{Order};
-ghost use Rattle.grid.specs.Grid.{Rows, Grid, putRow};
+ghost use Rattle.grid.specs.Grid.{Rows, Grid};
 ghost use Rattle.scheme.specs.Secret.{join};
 ghost use Rattle.scheme.specs.Draw.{placed};
 ghost use Rattle.draw_pairs.specs.Halves.{putPlace, placedRows, writtenFrom};

@@ -1,3 +1,3 @@
--- The laws: one trit of a row written, and the walk place by place.
+-- The laws: one place of the walk, and the walk place by place.
 pub mod Puts
 pub mod Supplied

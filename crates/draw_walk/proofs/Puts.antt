@@ -1,5 +1,5 @@
--- One trit of a row of a matrix in planes: written there, read from elsewhere, or made of two rows. Assumes nothing.
-use mathlib.Core.Path.{_≡_, refl, sym, ap, ap₂, _∙_, subst, fun-ext}
+-- One place of the walk: the trits as numbers, the row that takes one, whether a pivot is next, and a forced place. Assumes nothing.
+use mathlib.Core.Path.{_≡_, refl, sym, ap, ap₂, _∙_, fun-ext}
 use mathlib.Core.Bool.{Bool, true, false, not, _&&_, cond, true≢false}
 use mathlib.Core.Logic.{_⊎_, inl, inr}
 use mathlib.Core.List.{List}
@@ -7,22 +7,17 @@ use Prim.Native.Nat.{ℕ, zero, suc, _+_, _-_, _*_, _%_, _≤_, _<_}
 use native.Mathlib.Decide.{decLt, ℕ-discrete}
 use native.Mathlib.Omega.{arith}
 use borrow.Author.Tests.{eq-eqb, ne-eqb, eqb-true, lt-ltb, le-ltb}
-use borrow.Rule.Slice.PartMut.{midOf}
 use lib.Dec.{T, eqb}
 use mir.Syntax.{w8}
 use mir.Val.{Fits}
-use lib.ListN.{length}
-use Rattle.trits.specs.Trit.{Trit, t0, t1, t2, subT, mulT, isSet, number, tritOf, putV, dotV}
-use Rattle.trits.specs.Planes.{tritAt, Row, Reads}
+use Rattle.trits.specs.Trit.{Trit, t0, t1, t2, subT, mulT, isSet, number, tritOf}
+use Rattle.trits.specs.Planes.{tritAt}
 use Rattle.trits.specs.Rows.{matrixAt}
 use Rattle.trits.proofs.Arithmetic.{at, every}
-use Rattle.trits.proofs.Reading.{read-past}
-use Rattle.trits.proofs.Parts.{part-row, part-trit, length-mid}
-use Rattle.trits.proofs.Matrix.{row-le, rows-apart}
 use Rattle.matrix.specs.Linear.{Vector, Matrix}
 use Rattle.grid.specs.Grid.{Rows, Grid, putRow}
 use Rattle.grid.proofs.RowParts.{read-trit}
-use Rattle.grid.proofs.Cells.{cell, cell-past, grid-by, grid-to, read-set, read-unset}
+use Rattle.grid.proofs.Cells.{cell, grid-to, read-set, read-unset}
 use Rattle.draw_reduce.specs.Walk.{isNext}
 use Rattle.scheme.specs.Draw.{forcedBy}
 
@@ -66,11 +61,7 @@ small-product {x} {v} h k = by v k
     by (suc (suc zero)) l = omega arith
     by (suc (suc (suc n))) l = absurd (omega arith)
 
--- ---- a trit put in row e
-
--- a trit known by its number
-pub put-number : {o t : List ℕ} {r w : ℕ} (A : Matrix) (e q n : ℕ) (x : Trit) → n ≡ number x → Grid o t r w (putRow e (putV (A e) q (tritOf n)) A) → Grid o t r w (putRow e (putV (A e) q x) A)
-put-number A e q n x d g = grid-to g (ap (λ (y : Trit). putRow e (putV (A e) q y) A) (read-trit x n d))
+-- ---- the word that row e takes
 
 -- row e stays as it is
 pub put-own : (e : ℕ) (A : Matrix) → A ≡ putRow e (A e) A
@@ -117,36 +108,6 @@ next-lt r A c q e = by (decLt c r)
 pub other-case : {b : Bool} {X : Type 0} → (b ≡ true) ⊎ X → b ≡ false → X
 other-case (inl f) e = absurd (true≢false (sym f ∙ e))
 other-case (inr x) e = x
-
--- ---- the product of two rows
-
-pub record Part (o t : List ℕ) (w i k : ℕ) : Type 0 where
-  pub row : Row (midOf (i * w) k o) (midOf (i * w) k t)
-  pub size : length (midOf (i * w) k o) ≡ w
-  pub trits : tritAt (midOf (i * w) k o) (midOf (i * w) k t) ≡ matrixAt w o t i
-
-pub row-part : {o t : List ℕ} {r w : ℕ} → Rows o t r w → (i : ℕ) → i < r → (k : ℕ) → w ≡ k → Part o t w i k
-row-part {o} {t} {r} {w} g i h k e =
-    subst (λ (x : ℕ). Part o t w i x) e (record { row = part-row (g .row) (i * w) w fits; size = length-mid (i * w) w o fits; trits = fun-ext (λ q. by q (decLt q (64 * w))) })
-  where
-    fits : i * w + w ≤ length o
-    fits = omega (arith, row-le w h, g .size)
-
-    fits-two : i * w + w ≤ length t
-    fits-two = omega (arith, g .row .same, row-le w h, g .size)
-
-    by : (q : ℕ) → Dec (q < 64 * w) → tritAt (midOf (i * w) w o) (midOf (i * w) w t) q ≡ matrixAt w o t i q
-    by q (yes l) = part-trit o t (i * w) w fits fits-two q l ∙ sym (cell w o t i q l)
-    by q (no l) =
-        read-past (midOf (i * w) w o) (midOf (i * w) w t) w q (length-mid (i * w) w o fits) (length-mid (i * w) w t fits-two) (omega arith)
-        ∙ sym (cell-past w o t i q (omega arith))
-
-pub rows-product : {o t : List ℕ} {w i j k l n : ℕ} (a : Part o t w i k) (b : Part o t w j l)
-    → n ≡ number (dotV (tritAt (midOf (i * w) k o) (midOf (i * w) k t)) (tritAt (midOf (j * w) l o) (midOf (j * w) l t)) (64 * length (midOf (i * w) k o)))
-    → n ≡ number (dotV (matrixAt w o t i) (matrixAt w o t j) (64 * w))
-rows-product {o} {t} {w} {i} {j} {k} {l} a b d =
-    d ∙ ap₂ (λ (u v : Vector). number (dotV u v (64 * length (midOf (i * w) k o)))) (a .trits) (b .trits)
-    ∙ ap (λ (m : ℕ). number (dotV (matrixAt w o t i) (matrixAt w o t j) (64 * m))) (a .size)
 
 -- ---- a forced place
 

@@ -13,28 +13,6 @@ ghost use Rattle.grid.specs.Grid.{Rows, Grid, putRow};
 ghost use Rattle.draw_reduce.specs.Walk.{isNext, taken, passed};
 ghost use Rattle.scheme.specs.Draw.{forcedBy};
 
-// Place q of row e takes trit j of another row.
-pub fn put_from(
-    ones: &mut [u64],
-    twos: &mut [u64],
-    rows: usize,
-    w: usize,
-    e: usize,
-    q: usize,
-    vo: &[u64],
-    vt: &[u64],
-    j: usize,
-)
-    requires { ⌜ Rows (now ones) (now twos) rows w ⌝ }
-    requires { ⌜ Row (now vo) (now vt) ⌝ }
-    requires { ⌜ (length (now ones) ≤ 4294967296) × (q < 64 * w) × (e < rows) × (j < 64 * length (now vo)) ⌝ }
-    ensures { λ _. ⌜ Grid (now (ones .exit)) (now (twos .exit)) rows w
-        (putRow e (putV (matrixAt w (now (ones .entry)) (now (twos .entry)) e) q (tritAt (now (vo .entry)) (now (vt .entry)) j)) (matrixAt w (now (ones .entry)) (now (twos .entry)))) ⌝ }
-{
-    let t = planes::places::trit_at(vo, vt, j);
-    grid::places::put_at(ones, twos, rows, w, e, q, t);
-}
-
 // Whether place q has the next pivot, c of the r rows having theirs.
 pub fn is_next(
     ones: &[u64],
@@ -81,7 +59,7 @@ pub fn supply_place(
     if is_next(ones, twos, rows, w, r, c, q) {
         return c + 1;
     }
-    put_from(ones, twos, rows, w, e, q, vo, vt, j);
+    grid::places::put_from(ones, twos, rows, w, e, q, vo, vt, j);
     c
 }
 
@@ -151,7 +129,7 @@ pub fn force_place(
 {
     let v = planes::places::trit_at(ones, twos, 64 * (ev * w) + q);
     if v == 0 {
-        put_from(ones, twos, rows, w, e, q, uo, ut, j);
+        grid::places::put_from(ones, twos, rows, w, e, q, uo, ut, j);
         return;
     }
     let b = planes::places::trit_at(bo, bt, q);
@@ -198,19 +176,6 @@ pub fn supply_forced(
     }
 }
 
-// The product of rows i and j.
-pub fn row_dot(ones: &[u64], twos: &[u64], rows: usize, w: usize, i: usize, j: usize) -> u8
-    requires { ⌜ Rows (now ones) (now twos) rows w ⌝ }
-    requires { ⌜ (w ≤ 65536) × (i < rows) × (j < rows) ⌝ }
-    ensures { λ t. ⌜ t ≡ number (dotV (matrixAt w (now (ones .entry)) (now (twos .entry)) i) (matrixAt w (now (ones .entry)) (now (twos .entry)) j) (64 * w)) ⌝ }
-{
-    let a = i * w;
-    let b = a + w;
-    let c = j * w;
-    let d = c + w;
-    rows::dot(&ones[a..b], &twos[a..b], &ones[c..d], &twos[c..d])
-}
-
 // One place of the walk that solves: the pivot of row c takes the product of row c and row x into row e.
 pub fn solve_place(
     ones: &mut [u64],
@@ -233,7 +198,7 @@ pub fn solve_place(
         (matrixAt w (now (ones .entry)) (now (twos .entry)) e)) (matrixAt w (now (ones .entry)) (now (twos .entry)))) ⌝ }
 {
     if is_next(ones, twos, rows, w, r, c, q) {
-        let t = row_dot(ones, twos, rows, w, c, x);
+        let t = grid::two_rows::row_dot(ones, twos, rows, w, c, x);
         grid::places::put_at(ones, twos, rows, w, e, q, t);
         return c + 1;
     }

@@ -201,7 +201,7 @@ pub fn join_word(
         c_ones,
         c_twos,
     );
-    draw_pairs::weights::pair_weight(work_ones, work_twos, rows, w, u, v)
+    grid::weights::pair_weight(work_ones, work_twos, rows, w, u, v)
 }
 
 // The halves of the word in the rows of e_U and e_V; 12, 13, and 14 where its weight is not w.

@@ -8,6 +8,7 @@ ghost use Rattle.trits.specs.Trit.{isSet};
 ghost use Rattle.trits.specs.Rows.{matrixAt};
 ghost use Rattle.matrix.specs.Eliminate.{pivotRow, hasPivot, stepOf, scaleRow, takeOut};
 ghost use Rattle.grid.specs.Grid.{Rows, Grid, clearRow, takenOut};
+use grid::one_row;
 use grid::two_rows;
 
 // The first row from `at` on whose trit at column c is not 0; `rows` where there is none.
@@ -35,7 +36,7 @@ pub fn scale_row(ones: &mut [u64], twos: &mut [u64], rows: usize, w: usize, c: u
         (scaleRow at (matrixAt w (now (ones .entry)) (now (twos .entry)) at c) (matrixAt w (now (ones .entry)) (now (twos .entry)))) ⌝ }
 {
     if planes::places::trit_at(ones, twos, 64 * (at * w) + c) == 2 {
-        two_rows::negate(ones, twos, rows, w, at);
+        one_row::negate(ones, twos, rows, w, at);
     }
 }
 

@@ -9,17 +9,17 @@ use native.Mathlib.Omega.{arith}
 use borrow.Author.Tests.{eq-eqb, ne-eqb}
 use borrow.Rule.Slice.PartMut.{midOf, putMid}
 use lib.ListN.{length}
-use Rattle.trits.specs.Trit.{Trit, t0, t1, t2, number, tritOf, putV, upTo, zipAt}
+use Rattle.trits.specs.Trit.{Trit, t0, t1, t2, number, tritOf, putV, upTo, zipAt, dotV}
 use Rattle.trits.specs.Planes.{tritAt, zeroWords, Row, Reads}
 use Rattle.trits.specs.Rows.{matrixAt, rowPart}
-use Rattle.trits.proofs.Reading.{read-past}
+use Rattle.trits.proofs.Reading.{read-past, reads-to}
 use Rattle.trits.proofs.Ends.{upto-in, upto-out, upto-none, zeros-hold}
 use Rattle.trits.proofs.Lists.{length-zeros}
-use Rattle.trits.proofs.Parts.{part-back}
+use Rattle.trits.proofs.Parts.{part-back, part-row, length-mid}
 use Rattle.trits.proofs.Matrix.{row-le, rows-apart, part-there, part-reads, part-length, part-trits}
 use Rattle.matrix.specs.Linear.{Vector, Matrix, zeros}
 use Rattle.grid.specs.Grid.{Rows, Grid, putRow}
-use Rattle.grid.proofs.Cells.{cell, cell-past, grid-by}
+use Rattle.grid.proofs.Cells.{cell, cell-past, grid-by, grid-to}
 use Rattle.grid.proofs.Joins.{row-op}
 
 -- planes after both were copied
@@ -52,6 +52,12 @@ module _ {o₀ t₀ : List ℕ} {r : ℕ} (w j : ℕ) (g : Rows o₀ t₀ r w) (
       (λ n q f. rw (ne-eqb n j f))
       (λ n q d l. past q l ∙ rw (eq-eqb n j d))
 
+  -- made 0
+  pub zero-grid : {ys zs : List ℕ} {n m : ℕ} (k : ℕ) → k ≡ w → n ≡ k → m ≡ k → ys ≡ zeroWords n → zs ≡ zeroWords m
+      → Grid (putMid (j * w) k o₀ ys) (putMid (j * w) k t₀ zs) r w (putRow j zeros (matrixAt w o₀ t₀))
+  zero-grid {ys} {zs} {n} {m} k e f d p q =
+      put-grid k e (ap length p ∙ length-zeros n ∙ f) (reads-to (zeros-hold zeros p q (d ∙ sym f)) (upto-none zeros)) (λ q l. refl)
+
 -- a row has 0 past its words
 pub past-words : {o t : List ℕ} (w : ℕ) → Row o t → length o ≡ w → (q : ℕ) → 64 * w ≤ q → tritAt o t q ≡ t0
 past-words {o} {t} w r e q l = read-past o t w q e (r .same ∙ e) l
@@ -62,6 +68,25 @@ lent-trits {o} {t} {r} w i k g h e =
     ap (λ (n : ℕ). tritAt (midOf (i * w) n o) (midOf (i * w) n t)) e
     ∙ ap₂ tritAt (part-there o r w i (g .size) h) (part-there t r w i (g .row .same ∙ g .size) h)
     ∙ fun-ext (λ q. part-trits r w i (g .row) (g .size) h q)
+
+-- and is a row of its own
+pub record Part (o t : List ℕ) (w i k : ℕ) : Type 0 where
+  pub row : Row (midOf (i * w) k o) (midOf (i * w) k t)
+  pub size : length (midOf (i * w) k o) ≡ w
+  pub trits : tritAt (midOf (i * w) k o) (midOf (i * w) k t) ≡ matrixAt w o t i
+
+pub lent-part : {o t : List ℕ} {r w : ℕ} → Rows o t r w → (i : ℕ) → i < r → (k : ℕ) → k ≡ w → Part o t w i k
+lent-part {o} {t} {r} {w} g i h k e =
+    let fits : i * w + k ≤ length o = omega (arith, row-le w h, g .size) in
+    record { row = part-row (g .row) (i * w) k fits; size = length-mid (i * w) k o fits ∙ e; trits = lent-trits w i k g h e }
+
+-- the dot product of two rows that are lent
+pub rows-product : {o t : List ℕ} {w i j k l n : ℕ} (a : Part o t w i k) (b : Part o t w j l)
+    → n ≡ number (dotV (tritAt (midOf (i * w) k o) (midOf (i * w) k t)) (tritAt (midOf (j * w) l o) (midOf (j * w) l t)) (64 * length (midOf (i * w) k o)))
+    → n ≡ number (dotV (matrixAt w o t i) (matrixAt w o t j) (64 * w))
+rows-product {o} {t} {w} {i} {j} {k} {l} a b d =
+    d ∙ ap₂ (λ (u v : Vector). number (dotV u v (64 * length (midOf (i * w) k o)))) (a .trits) (b .trits)
+    ∙ ap (λ (m : ℕ). number (dotV (matrixAt w o t i) (matrixAt w o t j) (64 * m))) (a .size)
 
 -- ---- planes made 0
 
@@ -131,6 +156,10 @@ number-back t2 = refl
 -- the number that was read of a trit
 pub read-trit : (t : Trit) (x : ℕ) → x ≡ number t → tritOf x ≡ t
 read-trit t x e = ap tritOf e ∙ number-back t
+
+-- a trit known by its number, put in row e
+pub put-number : {o t : List ℕ} {r w : ℕ} (A : Matrix) (e q n : ℕ) (x : Trit) → n ≡ number x → Grid o t r w (putRow e (putV (A e) q (tritOf n)) A) → Grid o t r w (putRow e (putV (A e) q x) A)
+put-number A e q n x d g = grid-to g (ap (λ (y : Trit). putRow e (putV (A e) q y) A) (read-trit x n d))
 
 pub trit-lt : (t : Trit) (x : ℕ) → x ≡ number t → x < 3
 trit-lt t x e = omega (arith, number-lt t, e)

@@ -1,11 +1,11 @@
--- Matrices held in two planes, row after row, and the row operations of elimination. No rule of the paper: code is tied to it. Assumes nothing.
+-- Matrices held in two planes, row after row, and the operations on their rows. No rule of the paper: code is tied to it. Assumes nothing.
 use mathlib.Core.Path.{_≡_}
 use mathlib.Core.Bool.{_&&_, cond}
 use mathlib.Core.List.{List}
 use Prim.Native.Nat.{ℕ, _+_, _*_, _<_}
 use lib.Dec.{eqb, leb, ltb}
 use lib.ListN.{length, getD}
-use Rattle.trits.specs.Trit.{Trit, subT, mulT}
+use Rattle.trits.specs.Trit.{Trit, subT, mulT, zipV}
 use Rattle.trits.specs.Planes.{Row}
 use Rattle.trits.specs.Rows.{matrixAt}
 use Rattle.matrix.specs.Linear.{Vector, Matrix}
@@ -37,6 +37,10 @@ pub record Swapped (a b w : ℕ) (l₀ l : List ℕ) : Type 0 where
 -- row j is joined to row i by an operation
 abbrev pub joinRow : (Trit → Trit → Trit) → ℕ → ℕ → Matrix → Matrix
 joinRow op i j A k t = cond (eqb k i) (op (A k t) (A j t)) (A k t)
+
+-- row t becomes row i times v, and is joined to row a by an operation
+unfoldable pub joinProduct : (Trit → Trit → Trit) → ℕ → ℕ → ℕ → Vector → Matrix → Matrix
+joinProduct op a i t v A = putRow a (zipV op (A a) (zipV mulT (A i) v)) (putRow t (zipV mulT (A i) v) A)
 
 -- row j is taken from row i as often as the trit of row i at q says
 abbrev pub clearRow : ℕ → ℕ → ℕ → Matrix → Matrix

@@ -1,11 +1,11 @@
-// Rows of one matrix: exchanged, added, subtracted, negated.
+// Two rows of one matrix: exchanged, added, subtracted, and their dot product.
 ghost use mathlib.Core.Path.{_≡_};
 ghost use mathlib.Core.Logic.{_≢_};
-ghost use Prim.Native.Nat.{_*_, _<_};
+ghost use Prim.Native.Nat.{_*_, _<_, _≤_};
 ghost use lib.ListN.{length};
-ghost use Rattle.trits.specs.Trit.{addT, subT, t2};
+ghost use Rattle.trits.specs.Trit.{addT, subT, number, dotV};
 ghost use Rattle.trits.specs.Rows.{matrixAt};
-ghost use Rattle.matrix.specs.Eliminate.{swapRows, scaleRow};
+ghost use Rattle.matrix.specs.Eliminate.{swapRows};
 ghost use Rattle.grid.specs.Grid.{Rows, Grid, Swapped, joinRow};
 
 // Rows a and b of one plane change places.
@@ -84,13 +84,15 @@ pub fn sub_rows(ones: &mut [u64], twos: &mut [u64], rows: usize, w: usize, i: us
     }
 }
 
-// Row i is negated: its part of the planes is lent to the function that exchanges them.
-pub fn negate(ones: &mut [u64], twos: &mut [u64], rows: usize, w: usize, i: usize)
+// The dot product of rows i and j.
+pub fn row_dot(ones: &[u64], twos: &[u64], rows: usize, w: usize, i: usize, j: usize) -> u8
     requires { ⌜ Rows (now ones) (now twos) rows w ⌝ }
-    requires { ⌜ i < rows ⌝ }
-    ensures { λ _. ⌜ Grid (now (ones .exit)) (now (twos .exit)) rows w (scaleRow i t2 (matrixAt w (now (ones .entry)) (now (twos .entry)))) ⌝ }
+    requires { ⌜ (w ≤ 65536) × (i < rows) × (j < rows) ⌝ }
+    ensures { λ t. ⌜ t ≡ number (dotV (matrixAt w (now (ones .entry)) (now (twos .entry)) i) (matrixAt w (now (ones .entry)) (now (twos .entry)) j) (64 * w)) ⌝ }
 {
     let a = i * w;
-    let e = a + w;
-    rows::negate_row(&mut ones[a..e], &mut twos[a..e]);
+    let b = a + w;
+    let c = j * w;
+    let d = c + w;
+    rows::dot(&ones[a..b], &twos[a..b], &ones[c..d], &twos[c..d])
 }

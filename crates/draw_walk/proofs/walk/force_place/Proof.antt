@@ -1,8 +1,8 @@
 -- Row ev is 0 at the place, and the value is put as it is (`forced-none`), or it is not, and the product is put (`forced-some`).
 -- Assumes nothing.
 use borrow.Author.Needs.{needs}
-use Rattle.grid.proofs.RowParts.{trit-lt}
-use Rattle.draw_walk.proofs.Puts.{put-number, grid-row, forced-none, forced-some}
+use Rattle.grid.proofs.RowParts.{trit-lt, put-number}
+use Rattle.draw_walk.proofs.Puts.{grid-row, forced-none, forced-some}
 use Rattle.trits.proofs.Matrix.{row-le}
 use Rattle.trits.specs.Rows.{matrixAt}
 use Rattle.trits.specs.Planes.{tritAt}

@@ -1,8 +1,8 @@
 -- Where the place has the next pivot it takes the product of row c and row x; else nothing changes.
 -- Assumes nothing.
 use borrow.Author.Needs.{needs}
-use Rattle.grid.proofs.RowParts.{trit-lt}
-use Rattle.draw_walk.proofs.Puts.{next-lt, put-number, pick-first, pick-second, grid-row, grid-own}
+use Rattle.grid.proofs.RowParts.{trit-lt, put-number}
+use Rattle.draw_walk.proofs.Puts.{next-lt, pick-first, pick-second, grid-row, grid-own}
 use Rattle.elimination.proofs.Went.{yes-count, no-count}
 use Rattle.trits.specs.Rows.{matrixAt}
 use Rattle.trits.specs.Trit.{dotV}

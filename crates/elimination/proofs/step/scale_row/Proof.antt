@@ -11,7 +11,7 @@ use Rattle.elimination.proofs.step.scale_row.Statement.{statement}
 use Rattle.elimination.proofs.step.scale_row.Tie as tie
 use Rattle.elimination.proofs.step.scale_row.Reads as reads
 use Rattle.elimination.proofs.step.scale_row.Lts as lts
-use Rattle.grid.proofs.two_rows.negate.Reads as negate-reads
+use Rattle.grid.proofs.one_row.negate.Reads as negate-reads
 use Rattle.planes.proofs.places.trit_at.Reads as trit-at-reads
 
 mul-trit-at : tie.Need-mul-trit-at

@@ -6,8 +6,8 @@ use native.Mathlib.Omega.{arith}
 use denote.Ref.{now}
 use Rattle.trits.specs.Rows.{matrixAt}
 use Rattle.trits.proofs.Counts.{weight-le}
-use Rattle.draw_pairs.proofs.weights.pair_weight.Statement.{statement}
-use Rattle.draw_pairs.proofs.weights.pair_weight.Tie as tie
+use Rattle.grid.proofs.weights.pair_weight.Statement.{statement}
+use Rattle.grid.proofs.weights.pair_weight.Tie as tie
 
 row-weight-requires : tie.Need-row-weight-requires
 row-weight-requires c κs =

@@ -7,10 +7,10 @@ use denote.Ref.{now}
 use Rattle.trits.proofs.Matrix.{row-le}
 use Rattle.trits.proofs.Parts.{length-mid, part-row}
 use Rattle.grid.proofs.Joins.{negated-grid}
-use Rattle.grid.proofs.two_rows.negate.Statement.{statement}
-use Rattle.grid.proofs.two_rows.negate.Tie as tie
-use Rattle.grid.proofs.two_rows.negate.Reads as reads
-use Rattle.grid.proofs.two_rows.negate.Lts as lts
+use Rattle.grid.proofs.one_row.negate.Statement.{statement}
+use Rattle.grid.proofs.one_row.negate.Tie as tie
+use Rattle.grid.proofs.one_row.negate.Reads as reads
+use Rattle.grid.proofs.one_row.negate.Lts as lts
 use Rattle.rows.proofs.negate_row.Reads as negate-row-reads
 
 mul-a : tie.Need-mul-a

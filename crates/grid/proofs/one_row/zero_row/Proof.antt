@@ -6,9 +6,9 @@ use borrow.Author.Needs.{needs}
 use denote.Ref.{now}
 use Rattle.trits.proofs.Parts.{length-mid}
 use Rattle.trits.proofs.Matrix.{row-le}
-use Rattle.draw_pairs.proofs.RowProducts.{zero-grid}
-use Rattle.draw_pairs.proofs.products.zero_row.Statement.{statement}
-use Rattle.draw_pairs.proofs.products.zero_row.Tie as tie
+use Rattle.grid.proofs.RowParts.{zero-grid}
+use Rattle.grid.proofs.one_row.zero_row.Statement.{statement}
+use Rattle.grid.proofs.one_row.zero_row.Tie as tie
 
 mul-a : tie.Need-mul-a
 mul-a c =

@@ -5,9 +5,9 @@ use mathlib.Core.Path.{ap₂, _∙_}
 use native.Mathlib.Omega.{arith}
 use Rattle.trits.specs.Trit.{weightV}
 use Rattle.matrix.specs.Linear.{Vector}
 use Rattle.grid.proofs.RowParts.{handed-row, handed-size, handed-trits}
-use Rattle.draw_pairs.proofs.weights.row_weight.Statement.{statement}
-use Rattle.draw_pairs.proofs.weights.row_weight.Tie as tie
+use Rattle.grid.proofs.weights.row_weight.Statement.{statement}
+use Rattle.grid.proofs.weights.row_weight.Tie as tie
 
 row-part-requires : tie.Need-row-part-requires
 row-part-requires c κs =

@@ -3,9 +3,9 @@
 use borrow.Author.Needs.{needs}
 use denote.Ref.{now}
 use Rattle.trits.specs.Planes.{tritAt}
-use Rattle.draw_pairs.proofs.RowProducts.{made-grid}
-use Rattle.draw_pairs.proofs.products.put_product.Statement.{statement}
-use Rattle.draw_pairs.proofs.products.put_product.Tie as tie
+use Rattle.grid.proofs.RowProducts.{made-grid}
+use Rattle.grid.proofs.products.put_product.Statement.{statement}
+use Rattle.grid.proofs.products.put_product.Tie as tie
 
 zero-row-requires : tie.Need-zero-row-requires
 zero-row-requires c κs =

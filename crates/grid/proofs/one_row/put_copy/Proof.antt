@@ -9,9 +9,9 @@ use denote.Ref.{now}
 use Rattle.trits.specs.Planes.{tritAt}
 use Rattle.trits.proofs.Matrix.{row-le}
 use Rattle.trits.proofs.Parts.{length-mid}
 use Rattle.grid.proofs.RowParts.{put-grid, past-words, copied-row}
-use Rattle.build_matrix.proofs.halves.put_copy.Statement.{statement}
-use Rattle.build_matrix.proofs.halves.put_copy.Tie as tie
+use Rattle.grid.proofs.one_row.put_copy.Statement.{statement}
+use Rattle.grid.proofs.one_row.put_copy.Tie as tie
 
 mul-a : tie.Need-mul-a
 mul-a c =

@@ -1,9 +1,9 @@
-// The weight of a word whose halves stand in two rows.
+// The weight of a row, and of two rows together.
 ghost use mathlib.Core.Path.{_≡_};
 ghost use Prim.Native.Nat.{_+_, _*_, _<_, _≤_};
 ghost use Rattle.trits.specs.Trit.{weightV};
 ghost use Rattle.trits.specs.Rows.{matrixAt};
 ghost use Rattle.grid.specs.Grid.{Rows};
 
 // The weight of row i.
 pub fn row_weight(ones: &[u64], twos: &[u64], rows: usize, w: usize, i: usize) -> u64

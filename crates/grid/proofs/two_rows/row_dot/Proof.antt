@@ -1,13 +1,13 @@
--- Each part that is lent is a row of the matrix (`row-part`), and the product is over its words (`rows-product`).
+-- Each part that is lent is a row of the matrix (`lent-part`), and the product is over its words (`rows-product`).
 -- Assumes nothing.
 use borrow.Author.Needs.{needs}
-use Rattle.draw_walk.proofs.Puts.{row-part, rows-product}
+use Rattle.grid.proofs.RowParts.{lent-part, rows-product}
 use Rattle.trits.proofs.Matrix.{row-le}
 use native.Mathlib.Omega.{arith}
 use mathlib.Core.Path.{sym, _∙_}
 use Prim.Native.Nat.{_+_, _-_, _*_}
-use Rattle.draw_walk.proofs.walk.row_dot.Statement.{statement}
-use Rattle.draw_walk.proofs.walk.row_dot.Tie as tie
+use Rattle.grid.proofs.two_rows.row_dot.Statement.{statement}
+use Rattle.grid.proofs.two_rows.row_dot.Tie as tie
 
 mul-a : tie.Need-mul-a
 mul-a c =
@@ -133,15 +133,15 @@ dot-requires : tie.Need-dot-requires
 dot-requires c κs =
     let s = c .before .before .before .before .before .before in
     let a = s .args in
-    let x = row-part (s .pre .0) (a .i) (omega arith) (a .i * a .w + a .w - a .i * a .w) (omega arith) in
-    let y = row-part (s .pre .0) (a .j) (omega arith) (a .j * a .w + a .w - a .j * a .w) (omega arith) in
+    let x = lent-part (s .pre .0) (a .i) (omega arith) (a .i * a .w + a .w - a .i * a .w) (omega arith) in
+    let y = lent-part (s .pre .0) (a .j) (omega arith) (a .j * a .w + a .w - a .j * a .w) (omega arith) in
     (x .row, (y .row, (y .size ∙ sym (x .size), omega (arith, x .size))))
 
 returns : tie.Need-returns
 returns c =
     let s = c .before .before .before .before .before .before .before in
     let a = s .args in
-    rows-product (row-part (s .pre .0) (a .i) (omega arith) (a .i * a .w + a .w - a .i * a .w) (omega arith)) (row-part (s .pre .0) (a .j) (omega arith) (a .j * a .w + a .w - a .j * a .w) (omega arith)) (c .dot .ensures)
+    rows-product (lent-part (s .pre .0) (a .i) (omega arith) (a .i * a .w + a .w - a .i * a .w) (omega arith)) (lent-part (s .pre .0) (a .j) (omega arith) (a .j * a .w + a .w - a .j * a .w) (omega arith)) (c .dot .ensures)
 
 pub row-dot-spec : {M : Type 1} → statement M
 row-dot-spec =

@@ -7,9 +7,9 @@ use denote.Ref.{now}
 use Rattle.trits.specs.Planes.{tritAt}
 use Rattle.trits.proofs.Parts.{length-mid, part-row}
 use Rattle.trits.proofs.Matrix.{row-le}
-use Rattle.draw_pairs.proofs.RowProducts.{mul-grid}
-use Rattle.draw_pairs.proofs.products.mul_by.Statement.{statement}
-use Rattle.draw_pairs.proofs.products.mul_by.Tie as tie
+use Rattle.grid.proofs.RowProducts.{mul-grid}
+use Rattle.grid.proofs.products.mul_by.Statement.{statement}
+use Rattle.grid.proofs.products.mul_by.Tie as tie
 
 mul-a : tie.Need-mul-a
 mul-a c =

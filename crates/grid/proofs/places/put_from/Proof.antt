@@ -1,13 +1,12 @@
 -- The trit read is put as it is (`put-number`).
 -- Assumes nothing.
 use borrow.Author.Needs.{needs}
-use Rattle.grid.proofs.RowParts.{trit-lt}
-use Rattle.draw_walk.proofs.Puts.{put-number}
+use Rattle.grid.proofs.RowParts.{trit-lt, put-number}
 use Rattle.trits.specs.Rows.{matrixAt}
 use Rattle.trits.specs.Planes.{tritAt}
 use denote.Ref.{now}
-use Rattle.draw_walk.proofs.walk.put_from.Statement.{statement}
-use Rattle.draw_walk.proofs.walk.put_from.Tie as tie
+use Rattle.grid.proofs.places.put_from.Statement.{statement}
+use Rattle.grid.proofs.places.put_from.Tie as tie
 
 trit-at-requires : tie.Need-trit-at-requires
 trit-at-requires c κs =

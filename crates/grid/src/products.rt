@@ -6,21 +6,9 @@ ghost use lib.ListN.{length};
 ghost use Rattle.trits.specs.Trit.{addT, subT, mulT, zipV};
 ghost use Rattle.trits.specs.Planes.{tritAt, Row};
 ghost use Rattle.trits.specs.Rows.{matrixAt};
-ghost use Rattle.matrix.specs.Linear.{zeros};
-ghost use Rattle.grid.specs.Grid.{Rows, Grid, putRow};
-ghost use Rattle.draw_pairs.specs.Halves.{joinProduct};
-
-// Row i becomes 0.
-pub fn zero_row(ones: &mut [u64], twos: &mut [u64], rows: usize, w: usize, i: usize)
-    requires { ⌜ Rows (now ones) (now twos) rows w ⌝ }
-    requires { ⌜ i < rows ⌝ }
-    ensures { λ _. ⌜ Grid (now (ones .exit)) (now (twos .exit)) rows w (putRow i zeros (matrixAt w (now (ones .entry)) (now (twos .entry)))) ⌝ }
-{
-    let a = i * w;
-    let e = a + w;
-    planes::words::zero_words(&mut ones[a..e]);
-    planes::words::zero_words(&mut twos[a..e]);
-}
+ghost use Rattle.grid.specs.Grid.{Rows, Grid, putRow, joinProduct};
+use super::one_row;
+use super::two_rows;
 
 // Row i is multiplied by the source: its part of the planes is lent.
 pub fn mul_by(
@@ -60,8 +48,8 @@ pub fn put_product(
     ensures { λ _. ⌜ Grid (now (ones .exit)) (now (twos .exit)) rows w
         (putRow t (zipV mulT (matrixAt w (now (ones .entry)) (now (twos .entry)) i) (tritAt (now (so .entry)) (now (st .entry)))) (matrixAt w (now (ones .entry)) (now (twos .entry)))) ⌝ }
 {
-    zero_row(ones, twos, rows, w, t);
-    grid::two_rows::add_rows(ones, twos, rows, w, t, i);
+    one_row::zero_row(ones, twos, rows, w, t);
+    two_rows::add_rows(ones, twos, rows, w, t, i);
     mul_by(ones, twos, rows, w, t, so, st);
 }
 
@@ -84,7 +72,7 @@ pub fn add_product(
         (joinProduct addT a i t (tritAt (now (so .entry)) (now (st .entry))) (matrixAt w (now (ones .entry)) (now (twos .entry)))) ⌝ }
 {
     put_product(ones, twos, rows, w, t, i, so, st);
-    grid::two_rows::add_rows(ones, twos, rows, w, a, t);
+    two_rows::add_rows(ones, twos, rows, w, a, t);
 }
 
 // Row i times the source is subtracted from row a, through row t.
@@ -106,5 +94,5 @@ pub fn sub_product(
         (joinProduct subT a i t (tritAt (now (so .entry)) (now (st .entry))) (matrixAt w (now (ones .entry)) (now (twos .entry)))) ⌝ }
 {
     put_product(ones, twos, rows, w, t, i, so, st);
-    grid::two_rows::sub_rows(ones, twos, rows, w, a, t);
+    two_rows::sub_rows(ones, twos, rows, w, a, t);
 }

@@ -7,25 +7,17 @@ use native.Mathlib.Decide.{ℕ-discrete}
 use borrow.Author.Tests.{eq-eqb, ne-eqb}
 use borrow.Rule.Slice.PartMut.{midOf, putMid}
 use Rattle.trits.specs.Trit.{Trit, addT, mulT, zipV}
-use Rattle.trits.specs.Planes.{tritAt, zeroWords, Reads}
+use Rattle.trits.specs.Planes.{tritAt, Reads}
 use Rattle.trits.specs.Rows.{matrixAt}
-use Rattle.trits.proofs.Ends.{zeros-hold, upto-none}
-use Rattle.trits.proofs.Lists.{length-zeros}
 use Rattle.trits.proofs.Reading.{reads-to}
 use Rattle.matrix.specs.Linear.{Vector, Matrix, zeros}
-use Rattle.grid.specs.Grid.{Rows, Grid, putRow, joinRow}
+use Rattle.grid.specs.Grid.{Rows, Grid, putRow, joinRow, joinProduct}
 use Rattle.grid.proofs.Cells.{cell-past, grid-to}
 use Rattle.grid.proofs.RowParts.{put-grid, lent-trits, put-here, put-else}
-use Rattle.draw_pairs.specs.Halves.{joinProduct}
 
--- ---- one row made 0, and one row multiplied
+-- ---- one row multiplied
 
 module _ {o₀ t₀ : List ℕ} {r : ℕ} (w i : ℕ) (g : Rows o₀ t₀ r w) (h : i < r) where
-  pub zero-grid : {ys zs : List ℕ} {n m : ℕ} (k : ℕ) → k ≡ w → n ≡ k → m ≡ k → ys ≡ zeroWords n → zs ≡ zeroWords m
-      → Grid (putMid (i * w) k o₀ ys) (putMid (i * w) k t₀ zs) r w (putRow i zeros (matrixAt w o₀ t₀))
-  zero-grid {ys} {zs} {n} {m} k e f d p q =
-      put-grid w i g h k e (ap lib.ListN.length p ∙ length-zeros n ∙ f) (reads-to (zeros-hold zeros p q (d ∙ sym f)) (upto-none zeros)) (λ q l. refl)
-
   pub mul-grid : {ys zs : List ℕ} {n : ℕ} (k : ℕ) (v : Vector) → k ≡ w → n ≡ k → Reads ys zs n (zipV mulT (tritAt (midOf (i * w) k o₀) (midOf (i * w) k t₀)) v)
       → Grid (putMid (i * w) k o₀ ys) (putMid (i * w) k t₀ zs) r w (putRow i (zipV mulT (matrixAt w o₀ t₀ i) v) (matrixAt w o₀ t₀))
   mul-grid k v e f d =

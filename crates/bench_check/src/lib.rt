@@ -4,7 +4,9 @@ ghost use lib.ListN.{length};
 ghost use Rattle.trits.specs.Planes.{tritAt};
 ghost use Rattle.packed.specs.Packed.{packedRow};
 ghost use Rattle.held_key.specs.Held.{rowTrits, rowWords};
-ghost use Rattle.check_tests.specs.Check.{planesLengths, planesContents, packedLengths, packedContents, checkRefusal, checkPackedRefusal, heldWeight, checkAnswer, answered, spaceAtExit};
+ghost use Rattle.check_tests.specs.Check.{planesLengths, planesContents, packedLengths, packedContents, heldWeight, answered};
+ghost use Rattle.check_tests.specs.Check.{checkOf, checkRefusal, checkWeight, checkAnswer, checkWorkOnes, checkWorkTwos};
+ghost use Rattle.check_tests.specs.Check.{packedCheckOf, checkPackedRefusal, checkPackedWeight, checkPackedWorkOnes, checkPackedWorkTwos};
 ghost use Rattle.held_key.specs.Steps.{Whole};
 ghost use Rattle.bench_check.specs.{after};
 use check_tests::Checked;
@@ -24,12 +26,9 @@ pub extern "C" fn bench_check(
     work_ones: &mut [u64],
     work_twos: &mut [u64],
 ) -> Checked
-    ensures { λ r. ⌜ r ≡ checkAnswer held number (now (ones .entry)) (now (twos .entry)) (now («y_ones» .entry)) (now («y_twos» .entry)) (now («s_ones» .entry)) (now («s_twos» .entry))
-        (now («work_ones» .entry)) (now («work_twos» .entry)) ⌝ }
-    ensures { λ _. ⌜ now («work_ones» .exit) ≡ spaceAtExit (checkRefusal held number (now (ones .entry)) (now (twos .entry)) (now («y_ones» .entry)) (now («y_twos» .entry))
-        (now («s_ones» .entry)) (now («s_twos» .entry)) (now («work_ones» .entry)) (now («work_twos» .entry))) (now («work_ones» .entry)) ⌝ }
-    ensures { λ _. ⌜ now («work_twos» .exit) ≡ spaceAtExit (checkRefusal held number (now (ones .entry)) (now (twos .entry)) (now («y_ones» .entry)) (now («y_twos» .entry))
-        (now («s_ones» .entry)) (now («s_twos» .entry)) (now («work_ones» .entry)) (now («work_twos» .entry))) (now («work_twos» .entry)) ⌝ }
+    ensures { λ r. ⌜ (let c = checkOf held number (now (ones .entry)) (now (twos .entry)) (now («y_ones» .entry)) (now («y_twos» .entry))
+        (now («s_ones» .entry)) (now («s_twos» .entry)) (now («work_ones» .entry)) (now («work_twos» .entry)) in
+        (r ≡ checkAnswer c) × (now («work_ones» .exit) ≡ checkWorkOnes c) × (now («work_twos» .exit) ≡ checkWorkTwos c)) ⌝ }
 {
     let verdict = checker::check(
         held,
@@ -99,13 +98,9 @@ pub extern "C" fn bench_weigh(
     work_twos: &mut [u64],
     times: usize,
 ) -> Checked
-    ensures { λ r. ⌜ r ≡ answered (checkRefusal held number (now (ones .entry)) (now (twos .entry)) (now («y_ones» .entry)) (now («y_twos» .entry)) (now («s_ones» .entry)) (now («s_twos» .entry))
-        (now («work_ones» .entry)) (now («work_twos» .entry)))
-        (after times (heldWeight held (now (ones .entry)) (now (twos .entry)) (tritAt (now («y_ones» .entry)) (now («y_twos» .entry))) (tritAt (now («s_ones» .entry)) (now («s_twos» .entry))))) (held .w) ⌝ }
-    ensures { λ _. ⌜ now («work_ones» .exit) ≡ spaceAtExit (checkRefusal held number (now (ones .entry)) (now (twos .entry)) (now («y_ones» .entry)) (now («y_twos» .entry))
-        (now («s_ones» .entry)) (now («s_twos» .entry)) (now («work_ones» .entry)) (now («work_twos» .entry))) (now («work_ones» .entry)) ⌝ }
-    ensures { λ _. ⌜ now («work_twos» .exit) ≡ spaceAtExit (checkRefusal held number (now (ones .entry)) (now (twos .entry)) (now («y_ones» .entry)) (now («y_twos» .entry))
-        (now («s_ones» .entry)) (now («s_twos» .entry)) (now («work_ones» .entry)) (now («work_twos» .entry))) (now («work_twos» .entry)) ⌝ }
+    ensures { λ r. ⌜ (let c = checkOf held number (now (ones .entry)) (now (twos .entry)) (now («y_ones» .entry)) (now («y_twos» .entry))
+        (now («s_ones» .entry)) (now («s_twos» .entry)) (now («work_ones» .entry)) (now («work_twos» .entry)) in
+        (r ≡ answered (checkRefusal c) (after times (checkWeight c)) (held .w)) × (now («work_ones» .exit) ≡ checkWorkOnes c) × (now («work_twos» .exit) ≡ checkWorkTwos c)) ⌝ }
 {
     let tested = check_tests::test_check(
         held,
@@ -178,12 +173,9 @@ pub extern "C" fn bench_weigh_packed(
     work_twos: &mut [u64],
     times: usize,
 ) -> Checked
-    ensures { λ r. ⌜ r ≡ answered (checkPackedRefusal held number (now (ones .entry)) (now (twos .entry)) (now (y .entry)) (now (s .entry)) (now («work_ones» .entry)) (now («work_twos» .entry)))
-        (after times (heldWeight held (now (ones .entry)) (now (twos .entry)) (packedRow (rowTrits held) (now (y .entry))) (packedRow (held .k) (now (s .entry))))) (held .w) ⌝ }
-    ensures { λ _. ⌜ now («work_ones» .exit) ≡ spaceAtExit (checkPackedRefusal held number (now (ones .entry)) (now (twos .entry)) (now (y .entry)) (now (s .entry))
-        (now («work_ones» .entry)) (now («work_twos» .entry))) (now («work_ones» .entry)) ⌝ }
-    ensures { λ _. ⌜ now («work_twos» .exit) ≡ spaceAtExit (checkPackedRefusal held number (now (ones .entry)) (now (twos .entry)) (now (y .entry)) (now (s .entry))
-        (now («work_ones» .entry)) (now («work_twos» .entry))) (now («work_twos» .entry)) ⌝ }
+    ensures { λ r. ⌜ (let c = packedCheckOf held number (now (ones .entry)) (now (twos .entry)) (now (y .entry)) (now (s .entry))
+        (now («work_ones» .entry)) (now («work_twos» .entry)) in
+        (r ≡ answered (checkPackedRefusal c) (after times (checkPackedWeight c)) (held .w)) × (now («work_ones» .exit) ≡ checkPackedWorkOnes c) × (now («work_twos» .exit) ≡ checkPackedWorkTwos c)) ⌝ }
 {
     let tested = check_tests::test_packed_check(
         held,

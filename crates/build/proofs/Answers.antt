@@ -7,8 +7,8 @@ use native.Mathlib.Omega.{arith}
 use lib.Dec.{eqb, lit<}
 use lib.ListN.{length}
 use Rattle.trits.specs.Planes.{zeroWords}
-use Rattle.trits.specs.Refusal.{demand, first}
-use Rattle.trits.proofs.Refusals.{passed-first, passed-demand}
+use Rattle.trits.specs.Refusal.{demand, first, spaceExit}
+use Rattle.trits.proofs.Refusals.{passed-first, passed-demand, space-zero}
 use Rattle.matrix.specs.Linear.{rank, range}
 use Rattle.matrix.specs.Orders.{Order, isOrder}
 use Rattle.matrix.proofs.Orders.{order-test}
@@ -16,9 +16,9 @@ use Rattle.scheme.specs.declared.sizes.Sizes.{Sizes}
 use Rattle.scheme.specs.Sizes.{half, places, dim, ru, rv, sizesFit}
 use Rattle.scheme.specs.Secret.{Secret}
 use Rattle.scheme.specs.Build.{buildRefusal}
-use Rattle.calls.specs.Lent.{secretOf, pairDiffers, secretDiffers, secretRefusal, workExit}
+use Rattle.calls.specs.Lent.{secretOf, pairDiffers, secretDiffers, secretRefusal}
 use Rattle.calls.specs.BuildCall.{BuildCall, keyRowWords, buildWorkWords, keyDiffers, buildLengthsDiffer, buildAnswer}
-use Rattle.calls.proofs.Exits.{first-le, work-done, work-late}
+use Rattle.calls.proofs.Exits.{first-le}
 use Rattle.calls.proofs.Secrets.{or-none, pair-same, SecretLengths, secret-same, secret-le}
 
 -- ---- the answer
@@ -71,14 +71,14 @@ contents-le z i = first-le _ _ (secret-le z (i .secret)) (by (isOrder (places z)
 
 -- ---- the working space
 
-pub work-ended : (z : Sizes) (s : Secret) (w : List ℕ) → zeroWords (length w) ≡ workExit (buildRefusal z s) w
+pub work-ended : (z : Sizes) (s : Secret) (w : List ℕ) → zeroWords (length w) ≡ spaceExit (buildRefusal z s) w
 unfolding buildRefusal
 work-ended z s w = by (eqb (rank (ru z) (half z) (s .hu) (range (half z))) (ru z)) (eqb (rank (rv z) (half z) (s .hv) (range (half z))) (rv z))
   where
-    by : (a b : Bool) → zeroWords (length w) ≡ workExit (demand a 9 (demand b 10 0)) w
-    by true true = work-done w refl
-    by true false = work-late w {k = 10} refl (omega arith)
-    by false b = work-late w {k = 9} refl (omega arith)
+    by : (a b : Bool) → zeroWords (length w) ≡ spaceExit (demand a 9 (demand b 10 0)) w
+    by true true = space-zero w {k = 0} refl refl
+    by true false = space-zero w {k = 10} refl refl
+    by false b = space-zero w {k = 9} refl refl
 
 -- ---- lengths that do not differ
 

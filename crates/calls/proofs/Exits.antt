@@ -1,17 +1,16 @@
 -- Refusals of contents are at most 8, and the working space at exit. Assumes nothing.
-use mathlib.Core.Path.{_≡_, sym, ap, ap₂}
+use mathlib.Core.Path.{_≡_}
 use mathlib.Core.Logic.{_≢_}
-use mathlib.Core.Bool.{Bool, true, false, _&&_, cond}
+use mathlib.Core.Bool.{Bool, true, false, cond}
 use mathlib.Core.List.{List}
 use Prim.Native.Nat.{ℕ, _≤_, _<_}
 use native.Mathlib.Omega.{arith}
-use borrow.Author.Tests.{le-leb, lt-leb}
-use lib.Dec.{eqb, leb}
-use lib.ListN.{length}
-use Rattle.trits.specs.Planes.{zeroWords, bothSet}
+use borrow.Author.Tests.{le-leb}
+use lib.Dec.{eqb}
+use Rattle.trits.specs.Planes.{bothSet}
 use Rattle.trits.specs.Rows.{rowsPastEnd}
-use Rattle.trits.specs.Refusal.{refuse, first, planesRefusal}
-use Rattle.calls.specs.Lent.{workExit}
+use Rattle.trits.specs.Refusal.{refuse, first, spaceStays, spaceExit, planesRefusal}
+use Rattle.trits.proofs.Refusals.{space-kept}
 
 pub positive : (x : ℕ) → (x ≡ 0 → ⊥) → 0 < x
 positive x f = let n : x ≢ 0 = f in omega arith
@@ -33,17 +32,9 @@ first-le r s h g = by (eqb r 0)
     by true = g
     by false = h
 
--- 1 to 8: as it was
-pub work-kept : (w : List ℕ) {k r : ℕ} → k ≡ r → 0 < k → k ≤ 8 → w ≡ workExit r w
-unfolding workExit
-work-kept w {k} {r} e h g = sym (ap₂ (λ (s t : Bool). cond (s && t) w (zeroWords (length w))) (le-leb 1 r (omega arith)) (le-leb r 8 (omega arith)))
+-- 1 to 8 leave the working space
+low-stays : (k : ℕ) → 0 < k → k ≤ 8 → spaceStays k ≡ true
+low-stays k h g = rw (le-leb 1 k h, le-leb k 8 g)
 
--- success: zero
-pub work-done : (w : List ℕ) {r : ℕ} → r ≡ 0 → zeroWords (length w) ≡ workExit r w
-unfolding workExit
-work-done w {r} e = ap (λ (x : ℕ). cond (leb 1 x && leb x 8) w (zeroWords (length w))) (sym e)
-
--- every later refusal: zero
-pub work-late : (w : List ℕ) {k r : ℕ} → k ≡ r → 8 < k → zeroWords (length w) ≡ workExit r w
-unfolding workExit
-work-late w {k} {r} e h = sym (ap₂ (λ (s t : Bool). cond (s && t) w (zeroWords (length w))) (le-leb 1 r (omega arith)) (lt-leb r 8 (omega arith)))
+pub work-kept : (w : List ℕ) {k r : ℕ} → k ≡ r → 0 < k → k ≤ 8 → w ≡ spaceExit r w
+work-kept w {k} e h g = space-kept w e (low-stays k h g)

@@ -6,13 +6,13 @@ use lib.ListN.{length}
 use Rattle.trits.specs.Trit.{upTo}
 use Rattle.trits.specs.Planes.{wordsFor, onesOf, twosOf}
 use Rattle.trits.specs.Rows.{rowsOf}
-use Rattle.trits.specs.Refusal.{refuse, demand, first, atExit}
+use Rattle.trits.specs.Refusal.{refuse, demand, first, atExit, spaceExit}
 use Rattle.matrix.specs.Orders.{isOrder}
 use Rattle.scheme.specs.declared.sizes.Sizes.{Sizes}
 use Rattle.scheme.specs.Sizes.{places, dim, codim, sizesFit}
 use Rattle.scheme.specs.Secret.{Secret}
 use Rattle.scheme.specs.Build.{buildRefusal, keyOrder, keyRow}
-use Rattle.calls.specs.Lent.{Planes, halfWords, secretOf, pairDiffers, secretDiffers, secretRefusal, workExit}
+use Rattle.calls.specs.Lent.{Planes, halfWords, secretOf, pairDiffers, secretDiffers, secretRefusal}
 
 -- ---- what is lent
 
@@ -79,7 +79,7 @@ keyTwosExit z i = atExit (buildAnswer z i) (keyTwosOf z (secretOf z (i .secret))
 
 -- the working space
 unfoldable pub buildWorkOnesExit : Sizes → BuildCall → List ℕ
-buildWorkOnesExit z i = workExit (buildAnswer z i) (i .workOnes)
+buildWorkOnesExit z i = spaceExit (buildAnswer z i) (i .workOnes)
 
 unfoldable pub buildWorkTwosExit : Sizes → BuildCall → List ℕ
-buildWorkTwosExit z i = workExit (buildAnswer z i) (i .workTwos)
+buildWorkTwosExit z i = spaceExit (buildAnswer z i) (i .workTwos)

@@ -6,13 +6,13 @@ use lib.Dec.{eqb, ltb}
 use lib.ListN.{length}
 use Rattle.trits.specs.Trit.{upTo}
 use Rattle.trits.specs.Planes.{tritAt, wordsFor, onesOf, twosOf}
-use Rattle.trits.specs.Refusal.{refuse, demand, first, atExit, planesRefusal}
+use Rattle.trits.specs.Refusal.{refuse, demand, first, atExit, spaceExit, planesRefusal}
 use Rattle.matrix.specs.Linear.{Vector}
 use Rattle.matrix.specs.Orders.{isOrder}
 use Rattle.scheme.specs.declared.sizes.Sizes.{Sizes}
 use Rattle.scheme.specs.Sizes.{half, places, dim, ru, rv, codim, gapU, sizesFit}
 use Rattle.scheme.specs.Draw.{Choices, drawn, drawRefusal, signature}
-use Rattle.calls.specs.Lent.{Planes, halfWords, secretOf, pairDiffers, secretDiffers, secretRefusal, workExit}
+use Rattle.calls.specs.Lent.{Planes, halfWords, secretOf, pairDiffers, secretDiffers, secretRefusal}
 use Rattle.scheme.specs.Secret.{hasZero}
 
 -- ---- what is lent
@@ -138,7 +138,7 @@ sTwosExit z i = atExit (drawAnswer z i) (twosOf (upTo (dim z) (signature z (word
 
 -- the working space
 unfoldable pub drawWorkOnesExit : Sizes → DrawCall → List ℕ
-drawWorkOnesExit z i = workExit (drawAnswer z i) (i .workOnes)
+drawWorkOnesExit z i = spaceExit (drawAnswer z i) (i .workOnes)
 
 unfoldable pub drawWorkTwosExit : Sizes → DrawCall → List ℕ
-drawWorkTwosExit z i = workExit (drawAnswer z i) (i .workTwos)
+drawWorkTwosExit z i = spaceExit (drawAnswer z i) (i .workTwos)

@@ -1,12 +1,12 @@
 -- What both calls of the editor's half are lent: the secret in planes ("The secret pairs"), its lengths and its contents, and orders ("Turned back by the input"). Assumes nothing.
 use mathlib.Core.Path.{_≡_}
-use mathlib.Core.Bool.{Bool, not, _&&_, _||_, cond}
+use mathlib.Core.Bool.{Bool, not, _||_, cond}
 use mathlib.Core.List.{List}
 use Prim.Native.Nat.{ℕ, _*_, _<_}
-use lib.Dec.{eqb, leb, ltb}
+use lib.Dec.{eqb, ltb}
 use lib.ListN.{length, getD, set}
 use Rattle.trits.specs.Trit.{anyTo}
-use Rattle.trits.specs.Planes.{Row, tritAt, wordsFor, zeroWords}
+use Rattle.trits.specs.Planes.{Row, tritAt, wordsFor}
 use Rattle.trits.specs.Rows.{matrixAt}
 use Rattle.trits.specs.Refusal.{refuse, first, planesRefusal}
 use Rattle.matrix.specs.Linear.{elem}
@@ -78,12 +78,6 @@ pub record Readable (z : Sizes) (i : Planes) : Type 0 where
   pub c : Row (i .cOnes) (i .cTwos)
   pub bSize : length (i .bOnes) ≡ halfWords z
   pub cSize : length (i .cOnes) ≡ halfWords z
-
--- ---- the working space at exit
-
--- "working space is untouched after 1 to 8 and all zero after every other end"
-unfoldable pub workExit : ℕ → List ℕ → List ℕ
-workExit answer w = cond (leb 1 answer && leb answer 8) w (zeroWords (length w))
 
 -- ---- 7: the test of an order, by a flag for each place
 

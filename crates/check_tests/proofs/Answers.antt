@@ -1,16 +1,22 @@
 -- What a call answers and leaves, from the number of its refusal. Assumes nothing.
-use mathlib.Core.Path.{_≡_, ap, ap₂, _∙_}
+use mathlib.Core.Path.{_≡_, refl, sym, ap, ap₂, _∙_}
 use mathlib.Core.List.{List}
 use Prim.Native.Nat.{ℕ, _<_}
 use native.Mathlib.Omega.{arith}
 use borrow.Author.Tests.{eq-eqb, ne-eqb}
+use lib.Dec.{eqb}
 use lib.ListN.{length}
-use Rattle.trits.specs.Planes.{zeroWords}
-use Rattle.trits.specs.Refusal.{numberOf}
+use Rattle.trits.specs.Planes.{wordsFor, zeroWords}
+use Rattle.trits.specs.Refusal.{numberOf, spaceExit}
 use Rattle.trits.specs.declared.refusal.Refusal.{Refusal}
-use Rattle.trits.proofs.Refusals.{number-positive, exit-kept, exit-new}
+use Rattle.trits.proofs.Refusals.{number-positive, space-kept, space-zero}
+use Rattle.trits.proofs.Refusals.{Leaves, leaves-none, leaves-refuse, leaves-demand, leaves-first, leaves-planes}
+use Rattle.packed.specs.Packed.{bytesFor, badByte, packedRefusal}
+use Rattle.held_key.specs.declared.state.Held.{Held}
+use Rattle.held_key.specs.Held.{sound, rowTrits, rowWords, keyWords}
 use Rattle.check_tests.specs.declared.Checked.{Checked}
-use Rattle.check_tests.specs.Check.{answered, spaceAtExit}
+use Rattle.check_tests.specs.Check.{Check, PackedCheck, callRefusal, planesLengths, planesContents, packedLengths, packedContents}
+use Rattle.check_tests.specs.Check.{checkRefusal, checkPackedRefusal, answered}
 
 -- ---- the verdict
 
@@ -38,13 +44,53 @@ refused-alike {r} a b w l = rw (ne-eqb r 0 (λ z. omega arith))
 
 -- ---- the working space
 
-pub space-kept : (plane : List ℕ) {r k : ℕ} → k ≡ r → 0 < k → plane ≡ spaceAtExit r plane
-unfolding spaceAtExit
-space-kept plane e l = exit-kept _ _ e l
+-- every refusal of a check leaves it
+leaves-call : (h : Held) (number a b d e : ℕ) → Leaves (callRefusal h number a b d e)
+unfolding callRefusal
+leaves-call h number a b d e =
+    leaves-refuse (eqb (h .begun) 0) 20 _ refl
+    (leaves-demand (sound h) 1 _ refl
+    (leaves-demand (eqb (h .rows) (h .k)) 20 _ refl
+    (leaves-demand (eqb number (h .number)) 22 _ refl
+    (leaves-demand (eqb a (keyWords h)) 2 _ refl
+    (leaves-demand (eqb b (keyWords h)) 2 _ refl
+    (leaves-demand (eqb d (rowWords h)) 2 _ refl
+    (leaves-demand (eqb e (rowWords h)) 2 0 refl
+    leaves-none)))))))
 
-pub space-zero : (plane : List ℕ) {p : List ℕ} {r n : ℕ} → r ≡ 0 → n ≡ length plane → p ≡ zeroWords n → p ≡ spaceAtExit r plane
-unfolding spaceAtExit
-space-zero plane z l e = e ∙ ap zeroWords l ∙ exit-new _ _ z
+pub leaves-check : (c : Check) → Leaves (checkRefusal c)
+unfolding checkRefusal planesLengths planesContents
+leaves-check c =
+    let h = c .held in
+    leaves-first _ _ (leaves-call h (c .number) (length (c .ones)) (length (c .twos)) (length (c .workOnes)) (length (c .workTwos)))
+    (leaves-first _ _
+    (leaves-demand (eqb (length (c .yOnes)) (rowWords h)) 2 _ refl
+    (leaves-demand (eqb (length (c .yTwos)) (rowWords h)) 2 _ refl
+    (leaves-demand (eqb (length (c .sOnes)) (wordsFor (h .k))) 2 _ refl
+    (leaves-demand (eqb (length (c .sTwos)) (wordsFor (h .k))) 2 0 refl
+    leaves-none))))
+    (leaves-first _ _ (leaves-planes (c .ones) (c .twos) (h .k) (rowTrits h))
+    (leaves-first _ _ (leaves-planes (c .yOnes) (c .yTwos) 1 (rowTrits h)) (leaves-planes (c .sOnes) (c .sTwos) 1 (h .k)))))
+
+pub leaves-packed-check : (c : PackedCheck) → Leaves (checkPackedRefusal c)
+unfolding checkPackedRefusal packedLengths packedContents packedRefusal
+leaves-packed-check c =
+    let h = c .held in
+    leaves-first _ _ (leaves-call h (c .number) (length (c .ones)) (length (c .twos)) (length (c .workOnes)) (length (c .workTwos)))
+    (leaves-first _ _
+    (leaves-demand (eqb (length (c .y)) (bytesFor (rowTrits h))) 2 _ refl
+    (leaves-demand (eqb (length (c .s)) (bytesFor (h .k))) 2 0 refl
+    leaves-none))
+    (leaves-first _ _ (leaves-planes (c .ones) (c .twos) (h .k) (rowTrits h))
+    (leaves-first _ _ (leaves-refuse (badByte (c .y)) 5 0 refl leaves-none) (leaves-refuse (badByte (c .s)) 5 0 refl leaves-none))))
+
+-- told by k
+pub left-kept : (plane : List ℕ) {r k : ℕ} → k ≡ r → 0 < k → Leaves r → plane ≡ spaceExit r plane
+left-kept plane {r} e l h = space-kept plane {k = r} refl (h .stays (λ z. omega arith))
+
+-- a plane that was zeroed after a check that passed
+pub left-zero : (plane : List ℕ) {p : List ℕ} {r n : ℕ} → r ≡ 0 → n ≡ length plane → p ≡ zeroWords n → p ≡ spaceExit r plane
+left-zero plane z l e = e ∙ ap zeroWords l ∙ space-zero plane {k = 0} (sym z) refl
 
 -- ---- what a check answers, from a refusal, and from a weight
 

@@ -12,7 +12,7 @@ use Rattle.trits.proofs.Refusals.{passed-refuse, passed-demand, passed-first}
 use Rattle.packed.specs.Packed.{bytesFor, packedRefusal}
 use Rattle.held_key.specs.declared.state.Held.{Held}
 use Rattle.held_key.specs.Held.{sound, rowTrits, rowWords, keyWords}
-use Rattle.check_tests.specs.Check.{callRefusal, planesLengths, planesContents, packedLengths, packedContents, checkRefusal, checkPackedRefusal}
+use Rattle.check_tests.specs.Check.{Check, PackedCheck, callRefusal, planesLengths, planesContents, packedLengths, packedContents, checkRefusal, checkPackedRefusal}
 use Rattle.held_key.specs.Steps.{Whole}
 
 pub record Called (h : Held) (number ones twos workOnes workTwos : ℕ) : Type 0 where
@@ -82,20 +82,24 @@ packed-contents h ones twos y s e =
     (a .0, b .0, b .1)
 
 -- a check in planes passed
-pub check-passed : (h : Held) (number : ℕ) (ones twos yOnes yTwos sOnes sTwos workOnes workTwos : List ℕ) → checkRefusal h number ones twos yOnes yTwos sOnes sTwos workOnes workTwos ≡ 0
-    → Called h number (length ones) (length twos) (length workOnes) (length workTwos) × (planesLengths h (length yOnes) (length yTwos) (length sOnes) (length sTwos) ≡ 0)
-    × (planesContents h ones twos yOnes yTwos sOnes sTwos ≡ 0)
+pub check-passed : (c : Check) → checkRefusal c ≡ 0 → let h = c .held in
+    Called h (c .number) (length (c .ones)) (length (c .twos)) (length (c .workOnes)) (length (c .workTwos))
+    × (planesLengths h (length (c .yOnes)) (length (c .yTwos)) (length (c .sOnes)) (length (c .sTwos)) ≡ 0)
+    × (planesContents h (c .ones) (c .twos) (c .yOnes) (c .yTwos) (c .sOnes) (c .sTwos) ≡ 0)
 unfolding checkRefusal
-check-passed h number ones twos yo yt so st wo wt e =
-    let a = passed-first (callRefusal h number (length ones) (length twos) (length wo) (length wt)) _ e in
-    let b = passed-first (planesLengths h (length yo) (length yt) (length so) (length st)) (planesContents h ones twos yo yt so st) (a .1) in
-    (called h number (length ones) (length twos) (length wo) (length wt) (a .0), b .0, b .1)
+check-passed c e =
+    let h = c .held in
+    let a = passed-first (callRefusal h (c .number) (length (c .ones)) (length (c .twos)) (length (c .workOnes)) (length (c .workTwos))) _ e in
+    let b = passed-first (planesLengths h (length (c .yOnes)) (length (c .yTwos)) (length (c .sOnes)) (length (c .sTwos))) _ (a .1) in
+    (called h (c .number) (length (c .ones)) (length (c .twos)) (length (c .workOnes)) (length (c .workTwos)) (a .0), b .0, b .1)
 
 -- a packed check passed
-pub check-packed-passed : (h : Held) (number : ℕ) (ones twos y s workOnes workTwos : List ℕ) → checkPackedRefusal h number ones twos y s workOnes workTwos ≡ 0
-    → Called h number (length ones) (length twos) (length workOnes) (length workTwos) × (packedLengths h (length y) (length s) ≡ 0) × (packedContents h ones twos y s ≡ 0)
+pub check-packed-passed : (c : PackedCheck) → checkPackedRefusal c ≡ 0 → let h = c .held in
+    Called h (c .number) (length (c .ones)) (length (c .twos)) (length (c .workOnes)) (length (c .workTwos))
+    × (packedLengths h (length (c .y)) (length (c .s)) ≡ 0) × (packedContents h (c .ones) (c .twos) (c .y) (c .s) ≡ 0)
 unfolding checkPackedRefusal
-check-packed-passed h number ones twos y s wo wt e =
-    let a = passed-first (callRefusal h number (length ones) (length twos) (length wo) (length wt)) _ e in
-    let b = passed-first (packedLengths h (length y) (length s)) (packedContents h ones twos y s) (a .1) in
-    (called h number (length ones) (length twos) (length wo) (length wt) (a .0), b .0, b .1)
+check-packed-passed c e =
+    let h = c .held in
+    let a = passed-first (callRefusal h (c .number) (length (c .ones)) (length (c .twos)) (length (c .workOnes)) (length (c .workTwos))) _ e in
+    let b = passed-first (packedLengths h (length (c .y)) (length (c .s))) _ (a .1) in
+    (called h (c .number) (length (c .ones)) (length (c .twos)) (length (c .workOnes)) (length (c .workTwos)) (a .0), b .0, b .1)

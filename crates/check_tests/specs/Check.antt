@@ -5,8 +5,8 @@ use Prim.Native.Nat.{ℕ}
 use lib.Dec.{eqb}
 use lib.ListN.{length}
 use Rattle.trits.specs.Trit.{Trit}
-use Rattle.trits.specs.Planes.{tritAt, wordsFor, zeroWords}
-use Rattle.trits.specs.Refusal.{numberOf, refuse, demand, first, atExit, planesRefusal}
+use Rattle.trits.specs.Planes.{tritAt, wordsFor}
+use Rattle.trits.specs.Refusal.{numberOf, refuse, demand, first, spaceExit, planesRefusal}
 use Rattle.packed.specs.Packed.{bytesFor, packedRow, packedRefusal}
 use Rattle.held_key.specs.declared.state.Held.{Held}
 use Rattle.check_tests.specs.declared.Checked.{Checked}
@@ -14,6 +14,49 @@ use Rattle.check_tests.specs.declared.Verdict.{Verdict}
 use Rattle.check_tests.specs.declared.Verdict.the-variants.{Yes, No, Refused}
 use Rattle.verdict.specs.Verdict.{fullWeight}
 use Rattle.held_key.specs.Held.{sound, rowTrits, rowWords, keyWords, heldKey}
+
+-- ---- what is lent
+
+-- the held state, the key number asked for, the planes of the key, y and s in planes, and the working space as it is at entry
+pub record Check : Type 0 where
+  pub held : Held
+  pub number : ℕ
+  pub ones : List ℕ
+  pub twos : List ℕ
+  pub yOnes : List ℕ
+  pub yTwos : List ℕ
+  pub sOnes : List ℕ
+  pub sTwos : List ℕ
+  pub workOnes : List ℕ
+  pub workTwos : List ℕ
+
+abbrev pub checkOf : Held → ℕ → List ℕ → List ℕ → List ℕ → List ℕ → List ℕ → List ℕ → List ℕ → List ℕ → Check
+checkOf h number ones twos yo yt so st wo wt = record {
+  held = h;
+  number = number;
+  ones = ones;
+  twos = twos;
+  yOnes = yo;
+  yTwos = yt;
+  sOnes = so;
+  sTwos = st;
+  workOnes = wo;
+  workTwos = wt;
+}
+
+-- the same with packed y and s
+pub record PackedCheck : Type 0 where
+  pub held : Held
+  pub number : ℕ
+  pub ones : List ℕ
+  pub twos : List ℕ
+  pub y : List ℕ
+  pub s : List ℕ
+  pub workOnes : List ℕ
+  pub workTwos : List ℕ
+
+abbrev pub packedCheckOf : Held → ℕ → List ℕ → List ℕ → List ℕ → List ℕ → List ℕ → List ℕ → PackedCheck
+packedCheckOf h number ones twos y s wo wt = record { held = h; number = number; ones = ones; twos = twos; y = y; s = s; workOnes = wo; workTwos = wt }
 
 -- ---- refusals
 
@@ -61,18 +104,20 @@ packedContents h ones twos y s =
     (packedRefusal s))
 
 -- the check of y and s in planes
-unfoldable pub checkRefusal : Held → ℕ → List ℕ → List ℕ → List ℕ → List ℕ → List ℕ → List ℕ → List ℕ → List ℕ → ℕ
-checkRefusal h number ones twos yOnes yTwos sOnes sTwos workOnes workTwos =
-    first (callRefusal h number (length ones) (length twos) (length workOnes) (length workTwos))
-    (first (planesLengths h (length yOnes) (length yTwos) (length sOnes) (length sTwos))
-    (planesContents h ones twos yOnes yTwos sOnes sTwos))
+unfoldable pub checkRefusal : Check → ℕ
+checkRefusal c =
+    let h = c .held in
+    first (callRefusal h (c .number) (length (c .ones)) (length (c .twos)) (length (c .workOnes)) (length (c .workTwos)))
+    (first (planesLengths h (length (c .yOnes)) (length (c .yTwos)) (length (c .sOnes)) (length (c .sTwos)))
+    (planesContents h (c .ones) (c .twos) (c .yOnes) (c .yTwos) (c .sOnes) (c .sTwos)))
 
 -- the check of packed y and s
-unfoldable pub checkPackedRefusal : Held → ℕ → List ℕ → List ℕ → List ℕ → List ℕ → List ℕ → List ℕ → ℕ
-checkPackedRefusal h number ones twos y s workOnes workTwos =
-    first (callRefusal h number (length ones) (length twos) (length workOnes) (length workTwos))
-    (first (packedLengths h (length y) (length s))
-    (packedContents h ones twos y s))
+unfoldable pub checkPackedRefusal : PackedCheck → ℕ
+checkPackedRefusal c =
+    let h = c .held in
+    first (callRefusal h (c .number) (length (c .ones)) (length (c .twos)) (length (c .workOnes)) (length (c .workTwos)))
+    (first (packedLengths h (length (c .y)) (length (c .s)))
+    (packedContents h (c .ones) (c .twos) (c .y) (c .s)))
 
 -- ---- the answer
 
@@ -93,16 +138,30 @@ answered refusal weight w =
     (record { refusal = 0; yes = cond (eqb weight w) 1 0; weight = weight })
     (record { refusal = refusal; yes = 0; weight = 0 })
 
--- what the check of y and s in planes answers
-unfoldable pub checkAnswer : Held → ℕ → List ℕ → List ℕ → List ℕ → List ℕ → List ℕ → List ℕ → List ℕ → List ℕ → Checked
-checkAnswer h number ones twos yOnes yTwos sOnes sTwos workOnes workTwos =
-    answered (checkRefusal h number ones twos yOnes yTwos sOnes sTwos workOnes workTwos) (heldWeight h ones twos (tritAt yOnes yTwos) (tritAt sOnes sTwos)) (h .w)
+-- what the check of y and s in planes weighs and answers
+abbrev pub checkWeight : Check → ℕ
+checkWeight c = heldWeight (c .held) (c .ones) (c .twos) (tritAt (c .yOnes) (c .yTwos)) (tritAt (c .sOnes) (c .sTwos))
 
--- what the check of packed y and s answers
-unfoldable pub checkPackedAnswer : Held → ℕ → List ℕ → List ℕ → List ℕ → List ℕ → List ℕ → List ℕ → Checked
-checkPackedAnswer h number ones twos y s workOnes workTwos =
-    answered (checkPackedRefusal h number ones twos y s workOnes workTwos) (heldWeight h ones twos (packedRow (rowTrits h) y) (packedRow (h .k) s)) (h .w)
+unfoldable pub checkAnswer : Check → Checked
+checkAnswer c = answered (checkRefusal c) (checkWeight c) (c .held .w)
 
--- a plane of the working space at exit: untouched after a refusal, all zero after a verdict
-unfoldable pub spaceAtExit : ℕ → List ℕ → List ℕ
-spaceAtExit refusal plane = atExit refusal (zeroWords (length plane)) plane
+-- what the check of packed y and s weighs and answers
+abbrev pub checkPackedWeight : PackedCheck → ℕ
+checkPackedWeight c = heldWeight (c .held) (c .ones) (c .twos) (packedRow (rowTrits (c .held)) (c .y)) (packedRow (c .held .k) (c .s))
+
+unfoldable pub checkPackedAnswer : PackedCheck → Checked
+checkPackedAnswer c = answered (checkPackedRefusal c) (checkPackedWeight c) (c .held .w)
+
+-- ---- the working space at exit
+
+abbrev pub checkWorkOnes : Check → List ℕ
+checkWorkOnes c = spaceExit (checkRefusal c) (c .workOnes)
+
+abbrev pub checkWorkTwos : Check → List ℕ
+checkWorkTwos c = spaceExit (checkRefusal c) (c .workTwos)
+
+abbrev pub checkPackedWorkOnes : PackedCheck → List ℕ
+checkPackedWorkOnes c = spaceExit (checkPackedRefusal c) (c .workOnes)
+
+abbrev pub checkPackedWorkTwos : PackedCheck → List ℕ
+checkPackedWorkTwos c = spaceExit (checkPackedRefusal c) (c .workTwos)

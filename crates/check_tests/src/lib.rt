@@ -5,7 +5,8 @@ ghost use lib.ListN.{length};
 ghost use Rattle.trits.specs.Refusal.{codeOf};
 ghost use Rattle.held_key.specs.Held.{sound};
 ghost use Rattle.held_key.specs.Steps.{Whole};
-ghost use Rattle.check_tests.specs.Check.{callRefusal, planesLengths, planesContents, packedLengths, packedContents, checkRefusal, checkPackedRefusal, told, answered};
+ghost use Rattle.check_tests.specs.Check.{callRefusal, planesLengths, planesContents, packedLengths, packedContents};
+ghost use Rattle.check_tests.specs.Check.{checkOf, checkRefusal, packedCheckOf, checkPackedRefusal, told, answered};
 use held_key::state::Held;
 use trits::refusal::Outcome;
 use trits::refusal::Refusal;
@@ -200,8 +201,8 @@ pub fn test_check(
     work_ones: &[u64],
     work_twos: &[u64],
 ) -> Outcome
-    ensures { λ r. ⌜ codeOf r ≡ checkRefusal held number (now (ones .entry)) (now (twos .entry)) (now («y_ones» .entry)) (now («y_twos» .entry)) (now («s_ones» .entry)) (now («s_twos» .entry))
-        (now («work_ones» .entry)) (now («work_twos» .entry)) ⌝ }
+    ensures { λ r. ⌜ codeOf r ≡ checkRefusal (checkOf held number (now (ones .entry)) (now (twos .entry)) (now («y_ones» .entry)) (now («y_twos» .entry)) (now («s_ones» .entry)) (now («s_twos» .entry))
+        (now («work_ones» .entry)) (now («work_twos» .entry))) ⌝ }
 {
     let called = test_call(
         held,
@@ -232,7 +233,8 @@ pub fn test_packed_check(
     work_ones: &[u64],
     work_twos: &[u64],
 ) -> Outcome
-    ensures { λ r. ⌜ codeOf r ≡ checkPackedRefusal held number (now (ones .entry)) (now (twos .entry)) (now (y .entry)) (now (s .entry)) (now («work_ones» .entry)) (now («work_twos» .entry)) ⌝ }
+    ensures { λ r. ⌜ codeOf r ≡ checkPackedRefusal (packedCheckOf held number (now (ones .entry)) (now (twos .entry)) (now (y .entry)) (now (s .entry))
+        (now («work_ones» .entry)) (now («work_twos» .entry))) ⌝ }
 {
     let called = test_call(
         held,

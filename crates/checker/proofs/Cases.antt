@@ -7,14 +7,14 @@ use lib.Dec.{eqb}
 use Rattle.trits.specs.Trit.{sumTo, dotV, anyTo, upTo}
 use Rattle.trits.specs.Planes.{bit, bitAt, tritAt, fromBits, tabulate, onesOf, twosOf, bothSet, pastEnd, zeroWords}
 use Rattle.trits.specs.Rows.{rowPart, putWords, rowsPastEnd}
-use Rattle.trits.specs.Refusal.{first, planesRefusal}
+use Rattle.trits.specs.Refusal.{first, spaceExit, planesRefusal}
 use Rattle.packed.specs.Packed.{digitOf, packedAt, packedRow, badByte, packedRefusal}
 use Rattle.held_key.specs.declared.state.Held.{Held}
 use Rattle.verdict.specs.Verdict.{timesKey, fullWord, fullWeight}
 use Rattle.held_key.specs.Held.{numbersFit, sound, heldRow, heldKey}
-use Rattle.held_key.specs.Store.{beginRefusal, begunHeld, beginHeld, rowRefusal, storePackedRefusal, nextHeld, storedHeld, storedPlane}
+use Rattle.held_key.specs.Store.{beginRefusal, begunHeld, beginHeld, packedStoreOf, rowRefusal, storePackedRefusal, nextHeld, storedHeld, storedPlane}
 use Rattle.held_key.specs.Load.{offer, offerAll}
-use Rattle.check_tests.specs.Check.{callRefusal, planesLengths, planesContents, packedLengths, packedContents, checkRefusal, checkPackedRefusal, heldWeight, answered, checkAnswer, checkPackedAnswer, spaceAtExit}
+use Rattle.check_tests.specs.Check.{checkOf, packedCheckOf, callRefusal, planesLengths, planesContents, packedLengths, packedContents, checkRefusal, checkPackedRefusal, heldWeight, answered, checkAnswer, checkPackedAnswer, checkPackedWorkOnes, checkPackedWorkTwos}
 
 -- P 7 4 2 4, over a state of any numbers
 abbrev held : ℕ → Held
@@ -58,69 +58,69 @@ unfolding offerAll offer storedHeld storedPlane storePackedRefusal first rowRefu
 loaded = refl
 
 -- a third row is 21
-third : storePackedRefusal (held 2) (0 ∷ 0 ∷ []) (2 ∷ 3 ∷ []) (243 ∷ []) ≡ 21
+third : storePackedRefusal (packedStoreOf (held 2) (0 ∷ 0 ∷ []) (2 ∷ 3 ∷ []) (243 ∷ [])) ≡ 21
 unfolding storePackedRefusal first rowRefusal sound numbersFit
 third = refl
 
 -- S 7 12 12 11: weight 4, yes
-line-1 : checkPackedAnswer (held 2) 7 (0 ∷ 0 ∷ []) (2 ∷ 3 ∷ []) (7 ∷ []) (4 ∷ []) (5 ∷ []) (5 ∷ []) ≡ record { refusal = 0; yes = 1; weight = 4 }
+line-1 : checkPackedAnswer (packedCheckOf (held 2) 7 (0 ∷ 0 ∷ []) (2 ∷ 3 ∷ []) (7 ∷ []) (4 ∷ []) (5 ∷ []) (5 ∷ [])) ≡ record { refusal = 0; yes = 1; weight = 4 }
 unfolding checkPackedAnswer answered checkPackedRefusal first callRefusal sound numbersFit packedLengths packedContents planesRefusal bothSet anyTo bitAt bit rowsPastEnd rowPart heldRow pastEnd tritAt packedRefusal badByte heldWeight fullWeight sumTo fullWord timesKey dotV heldKey packedRow packedAt digitOf upTo
 line-1 = refl
 
 -- S 7 13 12 12: weight 3, no
-line-2 : checkPackedAnswer (held 2) 7 (0 ∷ 0 ∷ []) (2 ∷ 3 ∷ []) (7 ∷ []) (7 ∷ []) (5 ∷ []) (5 ∷ []) ≡ record { refusal = 0; yes = 0; weight = 3 }
+line-2 : checkPackedAnswer (packedCheckOf (held 2) 7 (0 ∷ 0 ∷ []) (2 ∷ 3 ∷ []) (7 ∷ []) (7 ∷ []) (5 ∷ []) (5 ∷ [])) ≡ record { refusal = 0; yes = 0; weight = 3 }
 unfolding checkPackedAnswer answered checkPackedRefusal first callRefusal sound numbersFit packedLengths packedContents planesRefusal bothSet anyTo bitAt bit rowsPastEnd rowPart heldRow pastEnd tritAt packedRefusal badByte heldWeight fullWeight sumTo fullWord timesKey dotV heldKey packedRow packedAt digitOf upTo
 line-2 = refl
 
 -- S 8 14 12 11: 22
-line-3 : checkPackedAnswer (held 2) 8 (0 ∷ 0 ∷ []) (2 ∷ 3 ∷ []) (7 ∷ []) (4 ∷ []) (5 ∷ []) (5 ∷ []) ≡ record { refusal = 22; yes = 0; weight = 0 }
+line-3 : checkPackedAnswer (packedCheckOf (held 2) 8 (0 ∷ 0 ∷ []) (2 ∷ 3 ∷ []) (7 ∷ []) (4 ∷ []) (5 ∷ []) (5 ∷ [])) ≡ record { refusal = 22; yes = 0; weight = 0 }
 unfolding checkPackedAnswer answered checkPackedRefusal first callRefusal sound numbersFit
 line-3 = refl
 
 -- the first of them in planes
-line-1-planes : checkAnswer (held 2) 7 (0 ∷ 0 ∷ []) (2 ∷ 3 ∷ []) (1 ∷ []) (2 ∷ []) (3 ∷ []) (0 ∷ []) (5 ∷ []) (5 ∷ []) ≡ record { refusal = 0; yes = 1; weight = 4 }
+line-1-planes : checkAnswer (checkOf (held 2) 7 (0 ∷ 0 ∷ []) (2 ∷ 3 ∷ []) (1 ∷ []) (2 ∷ []) (3 ∷ []) (0 ∷ []) (5 ∷ []) (5 ∷ [])) ≡ record { refusal = 0; yes = 1; weight = 4 }
 unfolding checkAnswer answered checkRefusal first callRefusal sound numbersFit planesLengths planesContents planesRefusal bothSet anyTo bitAt bit rowsPastEnd rowPart heldRow pastEnd tritAt heldWeight fullWeight sumTo fullWord timesKey dotV heldKey
 line-1-planes = refl
 
 -- no key begun before all else; a state out of its ranges before missing rows; these before another key number; that before a length
-none : checkPackedRefusal (record { begun = 0; number = 256; n = 5; k = 9; w = 0; rows = 99 }) 8 [] [] [] [] [] [] ≡ 20
+none : checkPackedRefusal (packedCheckOf (record { begun = 0; number = 256; n = 5; k = 9; w = 0; rows = 99 }) 8 [] [] [] [] [] []) ≡ 20
 unfolding checkPackedRefusal first callRefusal
 none = refl
 
-corrupt : checkPackedRefusal (record { begun = 2; number = 7; n = 4; k = 2; w = 4; rows = 1 }) 8 [] [] [] [] [] [] ≡ 1
+corrupt : checkPackedRefusal (packedCheckOf (record { begun = 2; number = 7; n = 4; k = 2; w = 4; rows = 1 }) 8 [] [] [] [] [] []) ≡ 1
 unfolding checkPackedRefusal first callRefusal sound
 corrupt = refl
 
-missing : checkPackedRefusal (held 1) 8 [] [] [] [] [] [] ≡ 20
+missing : checkPackedRefusal (packedCheckOf (held 1) 8 [] [] [] [] [] []) ≡ 20
 unfolding checkPackedRefusal first callRefusal sound numbersFit
 missing = refl
 
-other : checkPackedRefusal (held 2) 8 [] [] [] [] [] [] ≡ 22
+other : checkPackedRefusal (packedCheckOf (held 2) 8 [] [] [] [] [] []) ≡ 22
 unfolding checkPackedRefusal first callRefusal sound numbersFit
 other = refl
 
 -- a length before the contents; 3 in the last row before 4 in the first; 4 before 5
-short : checkPackedRefusal (held 2) 7 (4 ∷ 4 ∷ []) (4 ∷ 4 ∷ []) (243 ∷ []) (243 ∷ []) (5 ∷ []) [] ≡ 2
+short : checkPackedRefusal (packedCheckOf (held 2) 7 (4 ∷ 4 ∷ []) (4 ∷ 4 ∷ []) (243 ∷ []) (243 ∷ []) (5 ∷ []) []) ≡ 2
 unfolding checkPackedRefusal first callRefusal sound numbersFit
 short = refl
 
-both : checkPackedRefusal (held 2) 7 (4 ∷ 1 ∷ []) (2 ∷ 3 ∷ []) (243 ∷ []) (4 ∷ []) (5 ∷ []) (5 ∷ []) ≡ 3
+both : checkPackedRefusal (packedCheckOf (held 2) 7 (4 ∷ 1 ∷ []) (2 ∷ 3 ∷ []) (243 ∷ []) (4 ∷ []) (5 ∷ []) (5 ∷ [])) ≡ 3
 unfolding checkPackedRefusal first callRefusal sound numbersFit packedLengths packedContents planesRefusal bothSet anyTo bitAt bit
 both = refl
 
-past : checkPackedRefusal (held 2) 7 (4 ∷ 0 ∷ []) (2 ∷ 3 ∷ []) (243 ∷ []) (4 ∷ []) (5 ∷ []) (5 ∷ []) ≡ 4
+past : checkPackedRefusal (packedCheckOf (held 2) 7 (4 ∷ 0 ∷ []) (2 ∷ 3 ∷ []) (243 ∷ []) (4 ∷ []) (5 ∷ []) (5 ∷ [])) ≡ 4
 unfolding checkPackedRefusal first callRefusal sound numbersFit packedLengths packedContents planesRefusal bothSet anyTo bitAt bit rowsPastEnd rowPart pastEnd
 past = refl
 
-large : checkPackedRefusal (held 2) 7 (0 ∷ 0 ∷ []) (2 ∷ 3 ∷ []) (243 ∷ []) (4 ∷ []) (5 ∷ []) (5 ∷ []) ≡ 5
+large : checkPackedRefusal (packedCheckOf (held 2) 7 (0 ∷ 0 ∷ []) (2 ∷ 3 ∷ []) (243 ∷ []) (4 ∷ []) (5 ∷ []) (5 ∷ [])) ≡ 5
 unfolding checkPackedRefusal first callRefusal sound numbersFit packedLengths packedContents planesRefusal bothSet anyTo bitAt bit rowsPastEnd rowPart pastEnd packedRefusal badByte
 large = refl
 
 -- the working space: zero after a verdict, as it was after a refusal
-cleared : spaceAtExit 0 (5 ∷ 6 ∷ []) ≡ (0 ∷ 0 ∷ [])
-unfolding spaceAtExit zeroWords tabulate
+cleared : checkPackedWorkOnes (packedCheckOf (held 2) 7 (0 ∷ 0 ∷ []) (2 ∷ 3 ∷ []) (7 ∷ []) (4 ∷ []) (5 ∷ []) (6 ∷ [])) ≡ 0 ∷ []
+unfolding spaceExit checkPackedRefusal first callRefusal sound numbersFit packedLengths packedContents planesRefusal bothSet anyTo bitAt bit rowsPastEnd rowPart pastEnd packedRefusal badByte zeroWords tabulate
 cleared = refl
 
-kept : spaceAtExit 22 (5 ∷ 6 ∷ []) ≡ (5 ∷ 6 ∷ [])
-unfolding spaceAtExit
+kept : checkPackedWorkTwos (packedCheckOf (held 2) 8 (0 ∷ 0 ∷ []) (2 ∷ 3 ∷ []) (7 ∷ []) (4 ∷ []) (5 ∷ []) (6 ∷ [])) ≡ 6 ∷ []
+unfolding spaceExit checkPackedRefusal first callRefusal sound numbersFit
 kept = refl

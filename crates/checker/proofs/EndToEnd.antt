@@ -10,20 +10,19 @@ use lib.ListN.{length}
 use borrow.Author.Tests.{eq-eqb, ne-eqb, le-leb}
 use Rattle.trits.specs.Trit.{Trit}
 use Rattle.trits.specs.Planes.{onesOf, twosOf, wordsFor}
-use Rattle.trits.proofs.Refusals.{first-goes}
+use Rattle.trits.proofs.Refusals.{first-goes, exit-new}
 use Rattle.trits.proofs.Reading.{length-ones, length-twos}
 use Rattle.packed.specs.Packed.{bytesFor, packedRow, badByte}
 use Rattle.packed.proofs.Turned.{bytes-good}
 use Rattle.held_key.specs.declared.state.Held.{Held}
 use Rattle.verdict.specs.Verdict.{Key, fullWeight}
 use Rattle.held_key.specs.Held.{numbersFit, sound, heldKey}
-use Rattle.held_key.specs.Store.{beginRefusal, begunHeld, beginHeld, rowRefusal, storePackedRefusal, nextHeld, storedHeld, storedPlane}
+use Rattle.held_key.specs.Store.{beginRefusal, begunHeld, beginHeld, PackedStore, packedStoreOf, rowRefusal, storePackedRefusal, nextHeld, storedHeld, storePackedOnes, storePackedTwos}
 use Rattle.held_key.specs.Load.{Holding, offer, offerAll}
-use Rattle.check_tests.specs.Check.{callRefusal, packedLengths, packedContents, checkPackedRefusal, heldWeight, answered, checkPackedAnswer}
+use Rattle.check_tests.specs.Check.{PackedCheck, packedCheckOf, callRefusal, packedLengths, packedContents, checkPackedRefusal, checkPackedWeight, heldWeight, answered, checkPackedAnswer}
 use Rattle.held_key.specs.Steps.{Whole}
 use Rattle.verdict.proofs.FullWord.{weight-cong}
 use Rattle.held_key.proofs.Room.{stored-packed-passed}
-use Rattle.held_key.proofs.Answers.{held-new}
 use Rattle.held_key.proofs.Storing.{plane-put}
 use Rattle.held_key.proofs.Loader.{put-size}
 use Rattle.held_key.proofs.Filled.{Filled, filled-none, filled-packed, filled-row, filled-passes}
@@ -59,7 +58,11 @@ module _ (number n k w : ℕ) (z : numbersFit number n k w ≡ true) (rows : ℕ
     unfolding rowRefusal
     state-passes = rw (sound-at i (omega arith), ne-eqb i k (λ e. absurd (omega arith)), eq-eqb (length ones) (k * wordsFor (n - k)) p, eq-eqb (length twos) (k * wordsFor (n - k)) q)
 
-    row-passes : storePackedRefusal (heldAt i) ones twos (rows i) ≡ 0
+    -- row i is offered
+    abbrev c : PackedStore
+    c = packedStoreOf (heldAt i) ones twos (rows i)
+
+    row-passes : storePackedRefusal c ≡ 0
     unfolding storePackedRefusal
     row-passes = sym (first-goes (sym state-passes) refl (bytes-good (rows i) (good i l) ∙ rw (eq-eqb (length (rows i)) (bytesFor (n - k)) (size i l))))
 
@@ -67,14 +70,15 @@ module _ (number n k w : ℕ) (z : numbersFit number n k w ≡ true) (rows : ℕ
       more : Good (suc i) (offer (record { held = heldAt i; ones = ones; twos = twos }) (rows i))
       unfolding offer storedHeld nextHeld
       more =
-          let c : nextHeld (heldAt i) ≡ heldAt (suc i) = ap heldAt (add-one i) in
-          let r = stored-packed-passed (heldAt i) ones twos (rows i) row-passes .0 in
+          let d : nextHeld (heldAt i) ≡ heldAt (suc i) = ap heldAt (add-one i) in
+          let r = stored-packed-passed c row-passes .0 in
+          let o = onesOf (key i) (wordsFor (n - k)) in
+          let t = twosOf (key i) (wordsFor (n - k)) in
           record {
-            held-is = sym (held-new (nextHeld (heldAt i)) (heldAt i) row-passes) ∙ c;
-            ones-size = ap length (sym (plane-put (heldAt i) ones (onesOf (key i) (wordsFor (n - k))) row-passes)) ∙ put-size r ones (onesOf (key i) (wordsFor (n - k))) p (length-ones (key i) (wordsFor (n - k)));
-            twos-size = ap length (sym (plane-put (heldAt i) twos (twosOf (key i) (wordsFor (n - k))) row-passes)) ∙ put-size r twos (twosOf (key i) (wordsFor (n - k))) q (length-twos (key i) (wordsFor (n - k)));
-            rows-are = subst (λ h. Filled h (storedPlane (storePackedRefusal (heldAt i) ones twos (rows i)) (heldAt i) ones (onesOf (key i) (wordsFor (n - k))))
-                (storedPlane (storePackedRefusal (heldAt i) ones twos (rows i)) (heldAt i) twos (twosOf (key i) (wordsFor (n - k)))) key) c (filled-packed (heldAt i) ones twos (rows i) key row-passes refl f);
+            held-is = sym (exit-new (nextHeld (heldAt i)) (heldAt i) row-passes) ∙ d;
+            ones-size = ap length (sym (plane-put (heldAt i) ones o row-passes)) ∙ put-size r ones o p (length-ones (key i) (wordsFor (n - k)));
+            twos-size = ap length (sym (plane-put (heldAt i) twos t row-passes)) ∙ put-size r twos t q (length-twos (key i) (wordsFor (n - k)));
+            rows-are = subst (λ h. Filled h (storePackedOnes c) (storePackedTwos c) key) d (filled-packed c key row-passes refl f);
           }
 
   next : (i : ℕ) (s : Holding) → i < k → Good i s → Good (suc i) (offer s (rows i))
@@ -115,17 +119,20 @@ module _ (number n k w : ℕ) (z : numbersFit number n k w ≡ true) (rows : ℕ
     unfolding packedContents
     contents-pass = first-goes (sym (filled-passes whole key (g .rows-are))) refl (first-goes (bytes-good y yg) refl (bytes-good t tg))
 
+    abbrev asks : PackedCheck
+    asks = packedCheckOf (heldAt k) number (s .ones) (s .twos) y t wo wt
+
     -- nothing is refused
-    pub accepted : checkPackedRefusal (heldAt k) number (s .ones) (s .twos) y t wo wt ≡ 0
+    pub accepted : checkPackedRefusal (packedCheckOf (heldAt k) number (s .ones) (s .twos) y t wo wt) ≡ 0
     unfolding checkPackedRefusal
     accepted = sym (first-goes (sym call-passes) refl (first-goes (sym lengths-pass) refl contents-pass))
 
-    weight-is : heldWeight (heldAt k) (s .ones) (s .twos) (packedRow (n - k) y) (packedRow k t) ≡ fullWeight (n - k) k key (packedRow (n - k) y) (packedRow k t)
+    weight-is : checkPackedWeight asks ≡ fullWeight (n - k) k key (packedRow (n - k) y) (packedRow k t)
     unfolding heldWeight
     weight-is = weight-cong (n - k) k (heldKey (heldAt k) (s .ones) (s .twos)) (packedRow (n - k) y) (packedRow k t) key (λ i q l. ap (λ (r : ℕ → Trit). r q) (filled-row whole key (g .rows-are) i l))
 
     -- the answer is that of the rows offered
-    pub answer : checkPackedAnswer (heldAt k) number (s .ones) (s .twos) y t wo wt ≡ answered 0 (fullWeight (n - k) k key (packedRow (n - k) y) (packedRow k t)) w
+    pub answer : checkPackedAnswer (packedCheckOf (heldAt k) number (s .ones) (s .twos) y t wo wt) ≡ answered 0 (fullWeight (n - k) k key (packedRow (n - k) y) (packedRow k t)) w
     unfolding checkPackedAnswer
     answer = ap₂ (λ (a b : ℕ). answered a b w) accepted weight-is
 
@@ -133,10 +140,10 @@ module _ (number n k w : ℕ) (z : numbersFit number n k w ≡ true) (rows : ℕ
   pub loaded : (h : Held) (ones twos y t wo wt : List ℕ) → length ones ≡ k * wordsFor (n - k) → length twos ≡ k * wordsFor (n - k) → length y ≡ bytesFor (n - k) → length t ≡ bytesFor k
       → badByte y ≡ false → badByte t ≡ false → length wo ≡ wordsFor (n - k) → length wt ≡ wordsFor (n - k)
       → let s = offerAll rows k (record { held = beginHeld h number n k w; ones = ones; twos = twos }) in
-      checkPackedAnswer (s .held) number (s .ones) (s .twos) y t wo wt ≡ answered 0 (fullWeight (n - k) k key (packedRow (n - k) y) (packedRow k t)) w
+      checkPackedAnswer (packedCheckOf (s .held) number (s .ones) (s .twos) y t wo wt) ≡ answered 0 (fullWeight (n - k) k key (packedRow (n - k) y) (packedRow k t)) w
   loaded h ones twos y t wo wt p q yl tl yg tg ol pl =
       let g = offered ones twos p q k (le-refl k) in
       let s = offerAll rows k (record { held = heldAt 0; ones = ones; twos = twos }) in
-      ap (λ (x : Held). let u = offerAll rows k (record { held = x; ones = ones; twos = twos }) in checkPackedAnswer (u .held) number (u .ones) (u .twos) y t wo wt) (begun h .1)
-      ∙ ap (λ (x : Held). checkPackedAnswer x number (s .ones) (s .twos) y t wo wt) (g .held-is)
+      ap (λ (x : Held). let u = offerAll rows k (record { held = x; ones = ones; twos = twos }) in checkPackedAnswer (packedCheckOf (u .held) number (u .ones) (u .twos) y t wo wt)) (begun h .1)
+      ∙ ap (λ (x : Held). checkPackedAnswer (packedCheckOf x number (s .ones) (s .twos) y t wo wt)) (g .held-is)
       ∙ answer s g y t wo wt yl tl yg tg ol pl

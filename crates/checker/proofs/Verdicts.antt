@@ -20,10 +20,10 @@ use Rattle.packed.proofs.Turned.{bytes-good}
 use Rattle.held_key.specs.declared.state.Held.{Held}
 use Rattle.verdict.specs.Verdict.{fullWeight, Extending, Found}
 use Rattle.held_key.specs.Held.{sound, rowTrits, heldKey}
-use Rattle.check_tests.specs.Check.{callRefusal, planesLengths, planesContents, packedLengths, packedContents, checkRefusal, checkPackedRefusal, heldWeight, answered, checkAnswer, checkPackedAnswer}
+use Rattle.check_tests.specs.Check.{Check, PackedCheck, callRefusal, packedLengths, packedContents, checkRefusal, checkPackedRefusal, heldWeight, answered, checkAnswer, checkPackedAnswer}
 use Rattle.held_key.proofs.Sizes.{sizes}
 use Rattle.verdict.proofs.FullWord.{verifier, extends-once, yes-weight}
-use Rattle.check_tests.proofs.Passed.{Called, Fitted, fitted, contents, check-passed, check-packed-passed}
+use Rattle.check_tests.proofs.Passed.{Fitted, fitted, contents, check-passed}
 use Rattle.checker.proofs.Weighed.{row-ended}
 
 -- ---- yes
@@ -49,17 +49,16 @@ module _ (h : Held) (ones twos : List ℕ) (y s : ℕ → Trit) where
       ((λ q. v .0 (g .1 (a .0 q))), λ f. a .1 (g .0 (v .1 f)))
 
 -- the check in planes
-pub check-verdict : (h : Held) (number : ℕ) (ones twos yOnes yTwos sOnes sTwos workOnes workTwos : List ℕ) → checkRefusal h number ones twos yOnes yTwos sOnes sTwos workOnes workTwos ≡ 0
-    → (checkAnswer h number ones twos yOnes yTwos sOnes sTwos workOnes workTwos .yes ≡ 1)
-    ↔ Found (rowTrits h) (h .k) (h .w) (heldKey h ones twos) (tritAt yOnes yTwos) (tritAt sOnes sTwos)
+pub check-verdict : (c : Check) → checkRefusal c ≡ 0 → let h = c .held in
+    (checkAnswer c .yes ≡ 1) ↔ Found (rowTrits h) (h .k) (h .w) (heldKey h (c .ones) (c .twos)) (tritAt (c .yOnes) (c .yTwos)) (tritAt (c .sOnes) (c .sTwos))
 unfolding checkAnswer
-check-verdict h number ones twos yOnes yTwos sOnes sTwos workOnes workTwos e = rw e (found h ones twos (tritAt yOnes yTwos) (tritAt sOnes sTwos))
+check-verdict c e = rw e (found (c .held) (c .ones) (c .twos) (tritAt (c .yOnes) (c .yTwos)) (tritAt (c .sOnes) (c .sTwos)))
 
 -- the packed check
-pub check-packed-verdict : (h : Held) (number : ℕ) (ones twos y s workOnes workTwos : List ℕ) → checkPackedRefusal h number ones twos y s workOnes workTwos ≡ 0
-    → (checkPackedAnswer h number ones twos y s workOnes workTwos .yes ≡ 1) ↔ Found (rowTrits h) (h .k) (h .w) (heldKey h ones twos) (packedRow (rowTrits h) y) (packedRow (h .k) s)
+pub check-packed-verdict : (c : PackedCheck) → checkPackedRefusal c ≡ 0 → let h = c .held in
+    (checkPackedAnswer c .yes ≡ 1) ↔ Found (rowTrits h) (h .k) (h .w) (heldKey h (c .ones) (c .twos)) (packedRow (rowTrits h) (c .y)) (packedRow (h .k) (c .s))
 unfolding checkPackedAnswer
-check-packed-verdict h number ones twos y s workOnes workTwos e = rw e (found h ones twos (packedRow (rowTrits h) y) (packedRow (h .k) s))
+check-packed-verdict c e = rw e (found (c .held) (c .ones) (c .twos) (packedRow (rowTrits (c .held)) (c .y)) (packedRow (c .held .k) (c .s)))
 
 -- and there is one such word
 pub found-once : (h : Held) (ones twos : List ℕ) (y s e f : ℕ → Trit) → sound h ≡ true → Extending (rowTrits h) (h .k) (heldKey h ones twos) y s e
@@ -68,51 +67,65 @@ found-once h ones twos y s e f z a b q l = extends-once (rowTrits h) (h .k) (hel
 
 -- ---- the same trits in planes and packed
 
-module _ (h : Held) (number : ℕ) (ones twos yOnes yTwos sOnes sTwos workOnes workTwos : List ℕ) (e : checkRefusal h number ones twos yOnes yTwos sOnes sTwos workOnes workTwos ≡ 0) where
+-- the check of the same y and s, packed
+abbrev pub packedOf : Check → PackedCheck
+packedOf c = record {
+  held = c .held;
+  number = c .number;
+  ones = c .ones;
+  twos = c .twos;
+  y = packedBytes (rowTrits (c .held)) (tritAt (c .yOnes) (c .yTwos));
+  s = packedBytes (c .held .k) (tritAt (c .sOnes) (c .sTwos));
+  workOnes = c .workOnes;
+  workTwos = c .workTwos;
+}
+
+module _ (c : Check) (e : checkRefusal c ≡ 0) where
+  abbrev h : Held
+  h = c .held
+
+  abbrev y : ℕ → Trit
+  y = tritAt (c .yOnes) (c .yTwos)
+
+  abbrev s : ℕ → Trit
+  s = tritAt (c .sOnes) (c .sTwos)
+
   abbrev py : List ℕ
-  py = packedBytes (rowTrits h) (tritAt yOnes yTwos)
+  py = packedBytes (rowTrits h) y
 
   abbrev ps : List ℕ
-  ps = packedBytes (h .k) (tritAt sOnes sTwos)
+  ps = packedBytes (h .k) s
 
-  p : Called h number (length ones) (length twos) (length workOnes) (length workTwos) × (planesLengths h (length yOnes) (length yTwos) (length sOnes) (length sTwos) ≡ 0)
-      × (planesContents h ones twos yOnes yTwos sOnes sTwos ≡ 0)
-  p = check-passed h number ones twos yOnes yTwos sOnes sTwos workOnes workTwos e
+  fit : Fitted h (length (c .yOnes)) (length (c .yTwos)) (length (c .sOnes)) (length (c .sTwos))
+  fit = fitted h (length (c .yOnes)) (length (c .yTwos)) (length (c .sOnes)) (length (c .sTwos)) (check-passed c e .1)
 
-  fit : Fitted h (length yOnes) (length yTwos) (length sOnes) (length sTwos)
-  fit = fitted h (length yOnes) (length yTwos) (length sOnes) (length sTwos) (p .1)
+  right : (planesRefusal (c .ones) (c .twos) (h .k) (rowTrits h) ≡ 0) × (planesRefusal (c .yOnes) (c .yTwos) 1 (rowTrits h) ≡ 0) × (planesRefusal (c .sOnes) (c .sTwos) 1 (h .k) ≡ 0)
+  right = contents h (c .ones) (c .twos) (c .yOnes) (c .yTwos) (c .sOnes) (c .sTwos) (check-passed c e .2)
 
-  right : (planesRefusal ones twos (h .k) (rowTrits h) ≡ 0) × (planesRefusal yOnes yTwos 1 (rowTrits h) ≡ 0) × (planesRefusal sOnes sTwos 1 (h .k) ≡ 0)
-  right = contents h ones twos yOnes yTwos sOnes sTwos (p .2)
-
-  call-passes : callRefusal h number (length ones) (length twos) (length workOnes) (length workTwos) ≡ 0
+  call-passes : callRefusal h (c .number) (length (c .ones)) (length (c .twos)) (length (c .workOnes)) (length (c .workTwos)) ≡ 0
   unfolding checkRefusal
-  call-passes = passed-first (callRefusal h number (length ones) (length twos) (length workOnes) (length workTwos)) _ e .0
+  call-passes = passed-first (callRefusal h (c .number) (length (c .ones)) (length (c .twos)) (length (c .workOnes)) (length (c .workTwos))) _ e .0
 
   lengths-pass : packedLengths h (length py) (length ps) ≡ 0
   unfolding packedLengths
-  lengths-pass = rw (eq-eqb (length py) (bytesFor (rowTrits h)) (packed-length (rowTrits h) (tritAt yOnes yTwos)), eq-eqb (length ps) (bytesFor (h .k)) (packed-length (h .k) (tritAt sOnes sTwos)))
+  lengths-pass = rw (eq-eqb (length py) (bytesFor (rowTrits h)) (packed-length (rowTrits h) y), eq-eqb (length ps) (bytesFor (h .k)) (packed-length (h .k) s))
 
-  contents-pass : 0 ≡ packedContents h ones twos py ps
+  contents-pass : 0 ≡ packedContents h (c .ones) (c .twos) py ps
   unfolding packedContents
-  contents-pass =
-      first-goes (sym (right .0)) refl
-      (first-goes (bytes-good py (packed-good (rowTrits h) (tritAt yOnes yTwos))) refl (bytes-good ps (packed-good (h .k) (tritAt sOnes sTwos))))
+  contents-pass = first-goes (sym (right .0)) refl (first-goes (bytes-good py (packed-good (rowTrits h) y)) refl (bytes-good ps (packed-good (h .k) s)))
 
   -- the packed check is not refused
-  pub packed-passes : checkPackedRefusal h number ones twos (packedBytes (rowTrits h) (tritAt yOnes yTwos)) (packedBytes (h .k) (tritAt sOnes sTwos)) workOnes workTwos ≡ 0
+  pub packed-passes : checkPackedRefusal (packedOf c) ≡ 0
   unfolding checkPackedRefusal
   packed-passes = sym (first-goes (sym call-passes) refl (first-goes (sym lengths-pass) refl contents-pass))
 
-  y-back : packedRow (rowTrits h) py ≡ tritAt yOnes yTwos
-  y-back = packed-back (rowTrits h) (tritAt yOnes yTwos) ∙ upto-ended (tritAt yOnes yTwos) (rowTrits h) (row-ended yOnes yTwos (rowTrits h) (right .1) (fit .y-ones) (fit .y-twos))
+  y-back : packedRow (rowTrits h) py ≡ y
+  y-back = packed-back (rowTrits h) y ∙ upto-ended y (rowTrits h) (row-ended (c .yOnes) (c .yTwos) (rowTrits h) (right .1) (fit .y-ones) (fit .y-twos))
 
-  s-back : packedRow (h .k) ps ≡ tritAt sOnes sTwos
-  s-back = packed-back (h .k) (tritAt sOnes sTwos) ∙ upto-ended (tritAt sOnes sTwos) (h .k) (row-ended sOnes sTwos (h .k) (right .2) (fit .s-ones) (fit .s-twos))
+  s-back : packedRow (h .k) ps ≡ s
+  s-back = packed-back (h .k) s ∙ upto-ended s (h .k) (row-ended (c .sOnes) (c .sTwos) (h .k) (right .2) (fit .s-ones) (fit .s-twos))
 
   -- and it answers the same
-  pub packed-agrees : checkPackedAnswer h number ones twos (packedBytes (rowTrits h) (tritAt yOnes yTwos)) (packedBytes (h .k) (tritAt sOnes sTwos)) workOnes workTwos
-      ≡ checkAnswer h number ones twos yOnes yTwos sOnes sTwos workOnes workTwos
+  pub packed-agrees : checkPackedAnswer (packedOf c) ≡ checkAnswer c
   unfolding checkAnswer checkPackedAnswer
-  packed-agrees =
-      ap₂ (λ (r x : ℕ). answered r x (h .w)) (packed-passes ∙ sym e) (ap₂ (heldWeight h ones twos) y-back s-back)
+  packed-agrees = ap₂ (λ (r x : ℕ). answered r x (h .w)) (packed-passes ∙ sym e) (ap₂ (heldWeight h (c .ones) (c .twos)) y-back s-back)

@@ -2,7 +2,8 @@
 pub mod weighing; // the weight of the full word
 
 ghost use mathlib.Core.Path.{_≡_};
-ghost use Rattle.check_tests.specs.Check.{checkRefusal, checkPackedRefusal, checkAnswer, checkPackedAnswer, spaceAtExit, told};
+ghost use Rattle.check_tests.specs.Check.{checkOf, checkAnswer, checkWorkOnes, checkWorkTwos, told};
+ghost use Rattle.check_tests.specs.Check.{packedCheckOf, checkPackedAnswer, checkPackedWorkOnes, checkPackedWorkTwos};
 use check_tests::Verdict;
 use held_key::state::Held;
 
@@ -19,12 +20,9 @@ pub fn check(
     work_ones: &mut [u64],
     work_twos: &mut [u64],
 ) -> Verdict
-    ensures { λ r. ⌜ told r ≡ checkAnswer held number (now (ones .entry)) (now (twos .entry)) (now («y_ones» .entry)) (now («y_twos» .entry)) (now («s_ones» .entry)) (now («s_twos» .entry))
-        (now («work_ones» .entry)) (now («work_twos» .entry)) ⌝ }
-    ensures { λ _. ⌜ now («work_ones» .exit) ≡ spaceAtExit (checkRefusal held number (now (ones .entry)) (now (twos .entry)) (now («y_ones» .entry)) (now («y_twos» .entry))
-        (now («s_ones» .entry)) (now («s_twos» .entry)) (now («work_ones» .entry)) (now («work_twos» .entry))) (now («work_ones» .entry)) ⌝ }
-    ensures { λ _. ⌜ now («work_twos» .exit) ≡ spaceAtExit (checkRefusal held number (now (ones .entry)) (now (twos .entry)) (now («y_ones» .entry)) (now («y_twos» .entry))
-        (now («s_ones» .entry)) (now («s_twos» .entry)) (now («work_ones» .entry)) (now («work_twos» .entry))) (now («work_twos» .entry)) ⌝ }
+    ensures { λ r. ⌜ (let c = checkOf held number (now (ones .entry)) (now (twos .entry)) (now («y_ones» .entry)) (now («y_twos» .entry))
+        (now («s_ones» .entry)) (now («s_twos» .entry)) (now («work_ones» .entry)) (now («work_twos» .entry)) in
+        (told r ≡ checkAnswer c) × (now («work_ones» .exit) ≡ checkWorkOnes c) × (now («work_twos» .exit) ≡ checkWorkTwos c)) ⌝ }
 {
     let tested = check_tests::test_check(
         held,
@@ -68,11 +66,9 @@ pub fn check_packed(
     work_ones: &mut [u64],
     work_twos: &mut [u64],
 ) -> Verdict
-    ensures { λ r. ⌜ told r ≡ checkPackedAnswer held number (now (ones .entry)) (now (twos .entry)) (now (y .entry)) (now (s .entry)) (now («work_ones» .entry)) (now («work_twos» .entry)) ⌝ }
-    ensures { λ _. ⌜ now («work_ones» .exit) ≡ spaceAtExit (checkPackedRefusal held number (now (ones .entry)) (now (twos .entry)) (now (y .entry)) (now (s .entry))
-        (now («work_ones» .entry)) (now («work_twos» .entry))) (now («work_ones» .entry)) ⌝ }
-    ensures { λ _. ⌜ now («work_twos» .exit) ≡ spaceAtExit (checkPackedRefusal held number (now (ones .entry)) (now (twos .entry)) (now (y .entry)) (now (s .entry))
-        (now («work_ones» .entry)) (now («work_twos» .entry))) (now («work_twos» .entry)) ⌝ }
+    ensures { λ r. ⌜ (let c = packedCheckOf held number (now (ones .entry)) (now (twos .entry)) (now (y .entry)) (now (s .entry))
+        (now («work_ones» .entry)) (now («work_twos» .entry)) in
+        (told r ≡ checkPackedAnswer c) × (now («work_ones» .exit) ≡ checkPackedWorkOnes c) × (now («work_twos» .exit) ≡ checkPackedWorkTwos c)) ⌝ }
 {
     let tested = check_tests::test_packed_check(
         held,

@@ -11,8 +11,8 @@ use lib.Dec.{eqb, lit<}
 use lib.ListN.{length, getD}
 use Rattle.trits.specs.Trit.{weightV}
 use Rattle.trits.specs.Planes.{wordsFor, tritAt, zeroWords}
-use Rattle.trits.specs.Refusal.{refuse, demand, first, planesRefusal}
-use Rattle.trits.proofs.Refusals.{passed-first, passed-refuse, passed-demand}
+use Rattle.trits.specs.Refusal.{refuse, demand, first, spaceExit, planesRefusal}
+use Rattle.trits.proofs.Refusals.{passed-first, passed-refuse, passed-demand, space-zero}
 use Rattle.matrix.specs.Linear.{Vector, rank}
 use Rattle.matrix.specs.Orders.{isOrder}
 use Rattle.matrix.proofs.Field.{not-false}
@@ -21,9 +21,9 @@ use Rattle.scheme.specs.declared.sizes.Sizes.{Sizes}
 use Rattle.scheme.specs.Sizes.{half, places, dim, ru, rv, codim, gapU, sizesFit}
 use Rattle.scheme.specs.Secret.{Secret, noZero, hasZero}
 use Rattle.scheme.specs.Draw.{Choices, firstV, firstU, drawn, drawRefusal}
-use Rattle.calls.specs.Lent.{pairDiffers, secretDiffers, secretRefusal, workExit, Readable}
+use Rattle.calls.specs.Lent.{pairDiffers, secretDiffers, secretRefusal, Readable}
 use Rattle.calls.specs.DrawCall.{DrawCall, drawWorkWords, choicesDiffer, drawLengthsDiffer, choicesRefusal, drawAnswer}
-use Rattle.calls.proofs.Exits.{planes-le, first-le, work-done, work-late}
+use Rattle.calls.proofs.Exits.{planes-le, first-le}
 use Rattle.calls.proofs.Secrets.{or-none, pair-same, SecretLengths, secret-same, secret-le, row-of}
 use Rattle.draw_tests.specs.Ready.{given, chosen, ending, Ready}
 
@@ -90,15 +90,15 @@ contents-le z i =
 
 -- ---- the working space
 
-pub work-ended : (z : Sizes) (s : Secret) (p : List ℕ) (y : Vector) (ch : Choices) (w : List ℕ) → zeroWords (length w) ≡ workExit (drawRefusal z s p y ch) w
+pub work-ended : (z : Sizes) (s : Secret) (p : List ℕ) (y : Vector) (ch : Choices) (w : List ℕ) → zeroWords (length w) ≡ spaceExit (drawRefusal z s p y ch) w
 unfolding drawRefusal
 work-ended z s p y ch w = by (eqb (rank (rv z) (half z) (s .hv) (firstV z ch)) (rv z)) (eqb (rank (ru z) (half z) (s .hu) (firstU z ch)) (ru z)) (eqb (weightV (drawn z s p y ch) (places z)) (z .w))
   where
-    by : (a b c : Bool) → zeroWords (length w) ≡ workExit (demand a 12 (demand b 13 (demand c 14 0))) w
-    by true true true = work-done w refl
-    by true true false = work-late w {k = 14} refl (omega arith)
-    by true false c = work-late w {k = 13} refl (omega arith)
-    by false b c = work-late w {k = 12} refl (omega arith)
+    by : (a b c : Bool) → zeroWords (length w) ≡ spaceExit (demand a 12 (demand b 13 (demand c 14 0))) w
+    by true true true = space-zero w {k = 0} refl refl
+    by true true false = space-zero w {k = 14} refl refl
+    by true false c = space-zero w {k = 13} refl refl
+    by false b c = space-zero w {k = 12} refl refl
 
 -- ---- lengths that do not differ
 

@@ -21,7 +21,7 @@ use Rattle.packed.specs.Packed.{packedRow}
 use Rattle.held_key.specs.declared.state.Held.{Held}
 use Rattle.verdict.specs.Verdict.{Key}
 use Rattle.held_key.specs.Held.{rowTrits, rowWords, keyWords, heldRow, heldKey}
-use Rattle.held_key.specs.Store.{storeRefusal, storePackedRefusal, nextHeld, storedPlane}
+use Rattle.held_key.specs.Store.{Store, PackedStore, storeRefusal, storePackedRefusal, nextHeld, storeOnes, storeTwos, newOnes, newTwos, storePackedOnes, storePackedTwos}
 use Rattle.held_key.specs.Steps.{Whole}
 use Rattle.held_key.proofs.Sizes.{sizes}
 use Rattle.held_key.proofs.Stretch.{ones-row, twos-row, ones-length}
@@ -64,12 +64,15 @@ module _ {h : Held} {ones twos : List ℕ} (f : Room h (length ones) (length two
       ts i (no m) l = subst₂ (Tested (rowTrits h)) (sym (put-old f ones newOnes (f .ones-are) lo i (omega arith))) (sym (put-old f twos newTwos (f .twos-are) lt i (omega arith))) (g .tested i (omega arith))
 
 -- a row in planes
-pub filled-more : (h : Held) (ones twos rowOnes rowTwos : List ℕ) (K : Key) → storeRefusal h ones twos rowOnes rowTwos ≡ 0 → tritAt rowOnes rowTwos ≡ K (h .rows) → Filled h ones twos K
-    → Filled (nextHeld h) (storedPlane (storeRefusal h ones twos rowOnes rowTwos) h ones rowOnes) (storedPlane (storeRefusal h ones twos rowOnes rowTwos) h twos rowTwos) K
-filled-more h ones twos ro rt K e r g =
-    let p = stored-passed h ones twos ro rt e in
+pub filled-more : (c : Store) (K : Key) → storeRefusal c ≡ 0 → tritAt (c .rowOnes) (c .rowTwos) ≡ K (c .held .rows) → Filled (c .held) (c .ones) (c .twos) K
+    → Filled (nextHeld (c .held)) (storeOnes c) (storeTwos c) K
+filled-more c K e r g =
+    let h = c .held in
+    let ro = c .rowOnes in
+    let rt = c .rowTwos in
+    let p = stored-passed c e in
     let q = planes-passed ro rt 1 (rowTrits h) (p .3) in
-    subst₂ (λ (x y : List ℕ). Filled (nextHeld h) x y K) (plane-put h ones ro e) (plane-put h twos rt e)
+    subst₂ (λ (x y : List ℕ). Filled (nextHeld h) x y K) (plane-put h (c .ones) ro e) (plane-put h (c .twos) rt e)
     (filled-put (p .0) ro rt (p .1) (p .2) K r (record { apart = q .0; ended = sym (one-row-past ro rt (rowTrits h) (p .1) (p .2)) ∙ q .1 }) g)
 
 -- the planes of a vector that ends pass
@@ -87,16 +90,16 @@ written-tested v m n z l = record {
 }
 
 -- a packed row
-pub filled-packed : (h : Held) (ones twos row : List ℕ) (K : Key) → storePackedRefusal h ones twos row ≡ 0 → packedRow (rowTrits h) row ≡ K (h .rows) → Filled h ones twos K
-    → Filled (nextHeld h) (storedPlane (storePackedRefusal h ones twos row) h ones (onesOf (packedRow (rowTrits h) row) (rowWords h)))
-    (storedPlane (storePackedRefusal h ones twos row) h twos (twosOf (packedRow (rowTrits h) row) (rowWords h))) K
-filled-packed h ones twos row K e r g =
-    let p = stored-packed-passed h ones twos row e in
-    let v = packedRow (rowTrits h) row in
-    subst₂ (λ (x y : List ℕ). Filled (nextHeld h) x y K) (plane-put h ones (onesOf v (rowWords h)) e) (plane-put h twos (twosOf v (rowWords h)) e)
-    (filled-put (p .0) (onesOf v (rowWords h)) (twosOf v (rowWords h)) (length-ones v (rowWords h)) (length-twos v (rowWords h)) K
-    (holds-reads (onesOf v (rowWords h)) (twosOf v (rowWords h)) (rowWords h) v (λ i l. packed-out row (rowTrits h) i (omega arith)) (record { ones-are = refl; twos-are = refl }) .trits ∙ r)
-    (written-tested v (rowTrits h) (rowWords h) (packed-out row (rowTrits h)) (omega arith)) g)
+pub filled-packed : (c : PackedStore) (K : Key) → storePackedRefusal c ≡ 0 → packedRow (rowTrits (c .held)) (c .row) ≡ K (c .held .rows) → Filled (c .held) (c .ones) (c .twos) K
+    → Filled (nextHeld (c .held)) (storePackedOnes c) (storePackedTwos c) K
+filled-packed c K e r g =
+    let h = c .held in
+    let p = stored-packed-passed c e in
+    let v = packedRow (rowTrits h) (c .row) in
+    subst₂ (λ (x y : List ℕ). Filled (nextHeld h) x y K) (plane-put h (c .ones) (newOnes c) e) (plane-put h (c .twos) (newTwos c) e)
+    (filled-put (p .0) (newOnes c) (newTwos c) (length-ones v (rowWords h)) (length-twos v (rowWords h)) K
+    (holds-reads (newOnes c) (newTwos c) (rowWords h) v (λ i l. packed-out (c .row) (rowTrits h) i (omega arith)) (record { ones-are = refl; twos-are = refl }) .trits ∙ r)
+    (written-tested v (rowTrits h) (rowWords h) (packed-out (c .row) (rowTrits h)) (omega arith)) g)
 
 -- ---- the whole key
 

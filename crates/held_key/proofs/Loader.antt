@@ -9,7 +9,7 @@ use lib.ListN.{length, getD}
 use borrow.Author.Tests.{le-leb}
 use borrow.Rule.Slice.PartMut.{midOf, putMid}
 use Rattle.trits.specs.Trit.{Trit}
-use Rattle.trits.specs.Planes.{tritAt, onesOf, twosOf}
+use Rattle.trits.specs.Planes.{tritAt}
 use Rattle.trits.specs.Rows.{putWords}
 use Rattle.trits.proofs.Lists.{tabulated}
 use Rattle.trits.proofs.Patches.{Patched}
@@ -19,7 +19,7 @@ use Rattle.trits.proofs.Reading.{length-ones, length-twos, holds-reads}
 use Rattle.packed.specs.Packed.{packedRow}
 use Rattle.held_key.specs.declared.state.Held.{Held}
 use Rattle.held_key.specs.Held.{numbersFit, sound, rowTrits, rowWords, keyWords, heldRow, heldKey}
-use Rattle.held_key.specs.Store.{storeRefusal, storePackedRefusal, nextHeld, storedPlane}
+use Rattle.held_key.specs.Store.{Store, PackedStore, storeRefusal, storePackedRefusal, nextHeld, storeOnes, storeTwos, newOnes, newTwos, storePackedOnes, storePackedTwos}
 use Rattle.held_key.proofs.Sizes.{and-both}
 use Rattle.held_key.proofs.Stretch.{row-there}
 use Rattle.packed.proofs.Digits.{packed-out}
@@ -92,59 +92,51 @@ module _ {h : Held} {a b : ℕ} (f : Room h a b) (plane new : List ℕ) (size : 
       ∙ row-there h plane i (f .is-sound) size l (omega (arith, f .more))
 
 -- ---- a row in planes
-module _ (h : Held) (ones twos rowOnes rowTwos : List ℕ) (e : storeRefusal h ones twos rowOnes rowTwos ≡ 0) where
-  abbrev r : ℕ
-  r = storeRefusal h ones twos rowOnes rowTwos
+module _ (c : Store) (e : storeRefusal c ≡ 0) where
+  abbrev h : Held
+  h = c .held
 
   -- the new row is the row offered
-  pub stored-new : heldKey (nextHeld h) (storedPlane (storeRefusal h ones twos rowOnes rowTwos) h ones rowOnes) (storedPlane (storeRefusal h ones twos rowOnes rowTwos) h twos rowTwos) (h .rows)
-      ≡ tritAt rowOnes rowTwos
+  pub stored-new : heldKey (nextHeld (c .held)) (storeOnes c) (storeTwos c) (c .held .rows) ≡ tritAt (c .rowOnes) (c .rowTwos)
   unfolding heldKey
   stored-new =
-      let p = stored-passed h ones twos rowOnes rowTwos e in
+      let p = stored-passed c e in
       ap₂ tritAt
-      (ap (λ (l : List ℕ). heldRow (nextHeld h) l (h .rows)) (sym (plane-put h ones rowOnes e)) ∙ put-new (p .0) ones rowOnes (p .0 .ones-are) (p .1))
-      (ap (λ (l : List ℕ). heldRow (nextHeld h) l (h .rows)) (sym (plane-put h twos rowTwos e)) ∙ put-new (p .0) twos rowTwos (p .0 .twos-are) (p .2))
+      (ap (λ (l : List ℕ). heldRow (nextHeld h) l (h .rows)) (sym (plane-put h (c .ones) (c .rowOnes) e)) ∙ put-new (p .0) (c .ones) (c .rowOnes) (p .0 .ones-are) (p .1))
+      (ap (λ (l : List ℕ). heldRow (nextHeld h) l (h .rows)) (sym (plane-put h (c .twos) (c .rowTwos) e)) ∙ put-new (p .0) (c .twos) (c .rowTwos) (p .0 .twos-are) (p .2))
 
   -- the rows before it are as they were
-  pub stored-old : (i : ℕ) → i < h .rows
-      → heldKey (nextHeld h) (storedPlane (storeRefusal h ones twos rowOnes rowTwos) h ones rowOnes) (storedPlane (storeRefusal h ones twos rowOnes rowTwos) h twos rowTwos) i ≡ heldKey h ones twos i
+  pub stored-old : (i : ℕ) → i < c .held .rows → heldKey (nextHeld (c .held)) (storeOnes c) (storeTwos c) i ≡ heldKey (c .held) (c .ones) (c .twos) i
   unfolding heldKey
   stored-old i l =
-      let p = stored-passed h ones twos rowOnes rowTwos e in
+      let p = stored-passed c e in
       ap₂ tritAt
-      (ap (λ (x : List ℕ). heldRow (nextHeld h) x i) (sym (plane-put h ones rowOnes e)) ∙ put-old (p .0) ones rowOnes (p .0 .ones-are) (p .1) i l)
-      (ap (λ (x : List ℕ). heldRow (nextHeld h) x i) (sym (plane-put h twos rowTwos e)) ∙ put-old (p .0) twos rowTwos (p .0 .twos-are) (p .2) i l)
+      (ap (λ (x : List ℕ). heldRow (nextHeld h) x i) (sym (plane-put h (c .ones) (c .rowOnes) e)) ∙ put-old (p .0) (c .ones) (c .rowOnes) (p .0 .ones-are) (p .1) i l)
+      (ap (λ (x : List ℕ). heldRow (nextHeld h) x i) (sym (plane-put h (c .twos) (c .rowTwos) e)) ∙ put-old (p .0) (c .twos) (c .rowTwos) (p .0 .twos-are) (p .2) i l)
 
 -- ---- a packed row
-module _ (h : Held) (ones twos row : List ℕ) (e : storePackedRefusal h ones twos row ≡ 0) where
+module _ (c : PackedStore) (e : storePackedRefusal c ≡ 0) where
+  abbrev g : Held
+  g = c .held
+
   abbrev v : ℕ → Trit
-  v = packedRow (rowTrits h) row
-
-  abbrev newOnes : List ℕ
-  newOnes = onesOf (packedRow (rowTrits h) row) (rowWords h)
-
-  abbrev newTwos : List ℕ
-  newTwos = twosOf (packedRow (rowTrits h) row) (rowWords h)
+  v = packedRow (rowTrits g) (c .row)
 
   -- the new row is the row offered
-  pub packed-new : heldKey (nextHeld h) (storedPlane (storePackedRefusal h ones twos row) h ones (onesOf (packedRow (rowTrits h) row) (rowWords h)))
-      (storedPlane (storePackedRefusal h ones twos row) h twos (twosOf (packedRow (rowTrits h) row) (rowWords h))) (h .rows) ≡ packedRow (rowTrits h) row
+  pub packed-new : heldKey (nextHeld (c .held)) (storePackedOnes c) (storePackedTwos c) (c .held .rows) ≡ packedRow (rowTrits (c .held)) (c .row)
   unfolding heldKey
   packed-new =
-      let p = stored-packed-passed h ones twos row e in
+      let p = stored-packed-passed c e in
       ap₂ tritAt
-      (ap (λ (l : List ℕ). heldRow (nextHeld h) l (h .rows)) (sym (plane-put h ones newOnes e)) ∙ put-new (p .0) ones newOnes (p .0 .ones-are) (length-ones v (rowWords h)))
-      (ap (λ (l : List ℕ). heldRow (nextHeld h) l (h .rows)) (sym (plane-put h twos newTwos e)) ∙ put-new (p .0) twos newTwos (p .0 .twos-are) (length-twos v (rowWords h)))
-      ∙ holds-reads newOnes newTwos (rowWords h) v (λ i l. packed-out row (rowTrits h) i (omega arith)) (record { ones-are = refl; twos-are = refl }) .trits
+      (ap (λ (l : List ℕ). heldRow (nextHeld g) l (g .rows)) (sym (plane-put g (c .ones) (newOnes c) e)) ∙ put-new (p .0) (c .ones) (newOnes c) (p .0 .ones-are) (length-ones v (rowWords g)))
+      (ap (λ (l : List ℕ). heldRow (nextHeld g) l (g .rows)) (sym (plane-put g (c .twos) (newTwos c) e)) ∙ put-new (p .0) (c .twos) (newTwos c) (p .0 .twos-are) (length-twos v (rowWords g)))
+      ∙ holds-reads (newOnes c) (newTwos c) (rowWords g) v (λ i l. packed-out (c .row) (rowTrits g) i (omega arith)) (record { ones-are = refl; twos-are = refl }) .trits
 
   -- the rows before it are as they were
-  pub packed-old : (i : ℕ) → i < h .rows
-      → heldKey (nextHeld h) (storedPlane (storePackedRefusal h ones twos row) h ones (onesOf (packedRow (rowTrits h) row) (rowWords h)))
-      (storedPlane (storePackedRefusal h ones twos row) h twos (twosOf (packedRow (rowTrits h) row) (rowWords h))) i ≡ heldKey h ones twos i
+  pub packed-old : (i : ℕ) → i < c .held .rows → heldKey (nextHeld (c .held)) (storePackedOnes c) (storePackedTwos c) i ≡ heldKey (c .held) (c .ones) (c .twos) i
   unfolding heldKey
   packed-old i l =
-      let p = stored-packed-passed h ones twos row e in
+      let p = stored-packed-passed c e in
       ap₂ tritAt
-      (ap (λ (x : List ℕ). heldRow (nextHeld h) x i) (sym (plane-put h ones newOnes e)) ∙ put-old (p .0) ones newOnes (p .0 .ones-are) (length-ones v (rowWords h)) i l)
-      (ap (λ (x : List ℕ). heldRow (nextHeld h) x i) (sym (plane-put h twos newTwos e)) ∙ put-old (p .0) twos newTwos (p .0 .twos-are) (length-twos v (rowWords h)) i l)
+      (ap (λ (x : List ℕ). heldRow (nextHeld g) x i) (sym (plane-put g (c .ones) (newOnes c) e)) ∙ put-old (p .0) (c .ones) (newOnes c) (p .0 .ones-are) (length-ones v (rowWords g)) i l)
+      (ap (λ (x : List ℕ). heldRow (nextHeld g) x i) (sym (plane-put g (c .twos) (newTwos c) e)) ∙ put-old (p .0) (c .twos) (newTwos c) (p .0 .twos-are) (length-twos v (rowWords g)) i l)

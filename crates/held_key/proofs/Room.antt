@@ -1,7 +1,6 @@
 -- What the tests of a row have shown where none of them applied. Assumes nothing.
 use mathlib.Core.Path.{_≡_}
 use mathlib.Core.Bool.{true}
-use mathlib.Core.List.{List}
 use mathlib.Core.Logic.{_≢_}
 use Prim.Native.Nat.{ℕ, _+_, _*_, _≤_, _<_}
 use native.Mathlib.Omega.{arith}
@@ -14,7 +13,7 @@ use Rattle.trits.proofs.Matrix.{row-le}
 use Rattle.packed.specs.Packed.{bytesFor, packedRefusal}
 use Rattle.held_key.specs.declared.state.Held.{Held}
 use Rattle.held_key.specs.Held.{sound, rowTrits, rowWords, keyWords}
-use Rattle.held_key.specs.Store.{rowRefusal, storeRefusal, storePackedRefusal}
+use Rattle.held_key.specs.Store.{Store, PackedStore, rowRefusal, storeRefusal, storePackedRefusal}
 use Rattle.held_key.proofs.Sizes.{Sizes, sizes}
 
 pub record Room (h : Held) (ones twos : ℕ) : Type 0 where
@@ -39,20 +38,22 @@ room h ones twos e =
     record { is-sound = b .0; all = s; more = l; ones-are = eqb-true _ _ (d .0); twos-are = eqb-true _ _ (f .0); within = row-le (rowWords h) {i = h .rows} {m = h .k} l }
 
 -- a row in planes passed
-pub stored-passed : (h : Held) (ones twos rowOnes rowTwos : List ℕ) → storeRefusal h ones twos rowOnes rowTwos ≡ 0
-    → Room h (length ones) (length twos) × (length rowOnes ≡ rowWords h) × (length rowTwos ≡ rowWords h) × (planesRefusal rowOnes rowTwos 1 (rowTrits h) ≡ 0)
+pub stored-passed : (c : Store) → storeRefusal c ≡ 0 → let h = c .held in
+    Room h (length (c .ones)) (length (c .twos)) × (length (c .rowOnes) ≡ rowWords h) × (length (c .rowTwos) ≡ rowWords h) × (planesRefusal (c .rowOnes) (c .rowTwos) 1 (rowTrits h) ≡ 0)
 unfolding storeRefusal
-stored-passed h ones twos ro rt e =
-    let a = passed-first (rowRefusal h (length ones) (length twos)) _ e in
-    let b = passed-demand (eqb (length ro) (rowWords h)) 2 _ (lit< tt) (a .1) in
-    let c = passed-demand (eqb (length rt) (rowWords h)) 2 _ (lit< tt) (b .1) in
-    (room h (length ones) (length twos) (a .0), eqb-true _ _ (b .0), eqb-true _ _ (c .0), c .1)
+stored-passed c e =
+    let h = c .held in
+    let a = passed-first (rowRefusal h (length (c .ones)) (length (c .twos))) _ e in
+    let b = passed-demand (eqb (length (c .rowOnes)) (rowWords h)) 2 _ (lit< tt) (a .1) in
+    let d = passed-demand (eqb (length (c .rowTwos)) (rowWords h)) 2 _ (lit< tt) (b .1) in
+    (room h (length (c .ones)) (length (c .twos)) (a .0), eqb-true _ _ (b .0), eqb-true _ _ (d .0), d .1)
 
 -- a packed row passed
-pub stored-packed-passed : (h : Held) (ones twos row : List ℕ) → storePackedRefusal h ones twos row ≡ 0
-    → Room h (length ones) (length twos) × (length row ≡ bytesFor (rowTrits h)) × (packedRefusal row ≡ 0)
+pub stored-packed-passed : (c : PackedStore) → storePackedRefusal c ≡ 0 → let h = c .held in
+    Room h (length (c .ones)) (length (c .twos)) × (length (c .row) ≡ bytesFor (rowTrits h)) × (packedRefusal (c .row) ≡ 0)
 unfolding storePackedRefusal
-stored-packed-passed h ones twos row e =
-    let a = passed-first (rowRefusal h (length ones) (length twos)) _ e in
-    let b = passed-demand (eqb (length row) (bytesFor (rowTrits h))) 2 _ (lit< tt) (a .1) in
-    (room h (length ones) (length twos) (a .0), eqb-true _ _ (b .0), b .1)
+stored-packed-passed c e =
+    let h = c .held in
+    let a = passed-first (rowRefusal h (length (c .ones)) (length (c .twos))) _ e in
+    let b = passed-demand (eqb (length (c .row)) (bytesFor (rowTrits h))) 2 _ (lit< tt) (a .1) in
+    (room h (length (c .ones)) (length (c .twos)) (a .0), eqb-true _ _ (b .0), b .1)

@@ -1,11 +1,8 @@
 -- A host that loads a key: what it keeps while it offers packed rows one after another ("Held key and lines of text"). For the laws of the loader. Assumes nothing.
 use mathlib.Core.List.{List}
 use Prim.Native.Nat.{ℕ, zero, suc}
-use Rattle.trits.specs.Planes.{onesOf, twosOf}
-use Rattle.packed.specs.Packed.{packedRow}
 use Rattle.held_key.specs.declared.state.Held.{Held}
-use Rattle.held_key.specs.Held.{rowTrits, rowWords}
-use Rattle.held_key.specs.Store.{storePackedRefusal, storedHeld, storedPlane}
+use Rattle.held_key.specs.Store.{packedStoreOf, storePackedHeld, storePackedOnes, storePackedTwos}
 
 -- the state and the planes of the key
 pub record Holding : Type 0 where
@@ -15,11 +12,9 @@ pub record Holding : Type 0 where
 
 -- a packed row is offered: what the call leaves
 unfoldable pub offer : Holding → List ℕ → Holding
-offer s row = record {
-  held = storedHeld (storePackedRefusal (s .held) (s .ones) (s .twos) row) (s .held);
-  ones = storedPlane (storePackedRefusal (s .held) (s .ones) (s .twos) row) (s .held) (s .ones) (onesOf (packedRow (rowTrits (s .held)) row) (rowWords (s .held)));
-  twos = storedPlane (storePackedRefusal (s .held) (s .ones) (s .twos) row) (s .held) (s .twos) (twosOf (packedRow (rowTrits (s .held)) row) (rowWords (s .held)));
-}
+offer s row =
+    let c = packedStoreOf (s .held) (s .ones) (s .twos) row in
+    record { held = storePackedHeld c; ones = storePackedOnes c; twos = storePackedTwos c }
 
 -- the first i of these rows are offered, one after the other
 unfoldable pub offerAll : (ℕ → List ℕ) → ℕ → Holding → Holding

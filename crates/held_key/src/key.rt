@@ -7,7 +7,7 @@ ghost use Rattle.trits.specs.Planes.{wordsFor, Holds};
 ghost use Rattle.trits.specs.Refusal.{codeOf};
 ghost use Rattle.packed.specs.Packed.{bytesFor, packedRow, packedRefusal};
 ghost use Rattle.held_key.specs.Held.{sound, heldRow};
-ghost use Rattle.held_key.specs.Store.{rowRefusal, storeRefusal, storePackedRefusal, nextHeld};
+ghost use Rattle.held_key.specs.Store.{rowRefusal, storeOf, storeRefusal, packedStoreOf, storePackedRefusal, nextHeld};
 use super::state::Held;
 use trits::refusal::Outcome;
 use trits::refusal::Refusal;
@@ -56,7 +56,7 @@ pub fn test_row(
     row_ones: &[u64],
     row_twos: &[u64],
 ) -> Outcome
-    ensures { λ r. ⌜ codeOf r ≡ storeRefusal held (now (ones .entry)) (now (twos .entry)) (now («row_ones» .entry)) (now («row_twos» .entry)) ⌝ }
+    ensures { λ r. ⌜ codeOf r ≡ storeRefusal (storeOf held (now (ones .entry)) (now (twos .entry)) (now («row_ones» .entry)) (now («row_twos» .entry))) ⌝ }
 {
     let stated = test_state(held, ones.len(), twos.len());
     if trits::refusal::code(stated) != 0 {
@@ -74,7 +74,7 @@ pub fn test_row(
 
 // The first refusal of a packed row.
 pub fn test_packed_row(held: Held, ones: &[u64], twos: &[u64], row: &[u8]) -> Outcome
-    ensures { λ r. ⌜ codeOf r ≡ storePackedRefusal held (now (ones .entry)) (now (twos .entry)) (now (row .entry)) ⌝ }
+    ensures { λ r. ⌜ codeOf r ≡ storePackedRefusal (packedStoreOf held (now (ones .entry)) (now (twos .entry)) (now (row .entry))) ⌝ }
 {
     let stated = test_state(held, ones.len(), twos.len());
     if trits::refusal::code(stated) != 0 {

@@ -3,11 +3,9 @@ pub mod state; // the state and its sizes
 pub mod key; // the rows of the held key
 
 ghost use mathlib.Core.Path.{_≡_};
-ghost use Rattle.trits.specs.Planes.{onesOf, twosOf};
 ghost use Rattle.trits.specs.Refusal.{codeOf};
-ghost use Rattle.packed.specs.Packed.{packedRow};
-ghost use Rattle.held_key.specs.Held.{rowTrits, rowWords};
-ghost use Rattle.held_key.specs.Store.{beginRefusal, beginHeld, storeRefusal, storePackedRefusal, storedHeld, storedPlane};
+ghost use Rattle.held_key.specs.Store.{beginRefusal, beginHeld, storeOf, storeRefusal, storeHeld, storeOnes, storeTwos};
+ghost use Rattle.held_key.specs.Store.{packedStoreOf, storePackedRefusal, storePackedHeld, storePackedOnes, storePackedTwos};
 use state::Held;
 use trits::refusal::Outcome;
 use trits::refusal::Refusal;
@@ -50,10 +48,8 @@ pub fn store_row(
     row_ones: &[u64],
     row_twos: &[u64],
 ) -> Stored
-    ensures { λ r. ⌜ codeOf (r .outcome) ≡ storeRefusal held (now (ones .entry)) (now (twos .entry)) (now («row_ones» .entry)) (now («row_twos» .entry)) ⌝ }
-    ensures { λ r. ⌜ r .held ≡ storedHeld (storeRefusal held (now (ones .entry)) (now (twos .entry)) (now («row_ones» .entry)) (now («row_twos» .entry))) held ⌝ }
-    ensures { λ _. ⌜ now (ones .exit) ≡ storedPlane (storeRefusal held (now (ones .entry)) (now (twos .entry)) (now («row_ones» .entry)) (now («row_twos» .entry))) held (now (ones .entry)) (now («row_ones» .entry)) ⌝ }
-    ensures { λ _. ⌜ now (twos .exit) ≡ storedPlane (storeRefusal held (now (ones .entry)) (now (twos .entry)) (now («row_ones» .entry)) (now («row_twos» .entry))) held (now (twos .entry)) (now («row_twos» .entry)) ⌝ }
+    ensures { λ r. ⌜ (let c = storeOf held (now (ones .entry)) (now (twos .entry)) (now («row_ones» .entry)) (now («row_twos» .entry)) in
+        (codeOf (r .outcome) ≡ storeRefusal c) × (r .held ≡ storeHeld c) × (now (ones .exit) ≡ storeOnes c) × (now (twos .exit) ≡ storeTwos c)) ⌝ }
 {
     let tested = key::test_row(held, ones, twos, row_ones, row_twos);
     if trits::refusal::code(tested) != 0 {
@@ -73,12 +69,8 @@ pub fn store_row(
 
 // A packed row becomes the next row of the held key.
 pub fn store_packed_row(held: Held, ones: &mut [u64], twos: &mut [u64], row: &[u8]) -> Stored
-    ensures { λ r. ⌜ codeOf (r .outcome) ≡ storePackedRefusal held (now (ones .entry)) (now (twos .entry)) (now (row .entry)) ⌝ }
-    ensures { λ r. ⌜ r .held ≡ storedHeld (storePackedRefusal held (now (ones .entry)) (now (twos .entry)) (now (row .entry))) held ⌝ }
-    ensures { λ _. ⌜ now (ones .exit) ≡ storedPlane (storePackedRefusal held (now (ones .entry)) (now (twos .entry)) (now (row .entry))) held (now (ones .entry))
-        (onesOf (packedRow (rowTrits held) (now (row .entry))) (rowWords held)) ⌝ }
-    ensures { λ _. ⌜ now (twos .exit) ≡ storedPlane (storePackedRefusal held (now (ones .entry)) (now (twos .entry)) (now (row .entry))) held (now (twos .entry))
-        (twosOf (packedRow (rowTrits held) (now (row .entry))) (rowWords held)) ⌝ }
+    ensures { λ r. ⌜ (let c = packedStoreOf held (now (ones .entry)) (now (twos .entry)) (now (row .entry)) in
+        (codeOf (r .outcome) ≡ storePackedRefusal c) × (r .held ≡ storePackedHeld c) × (now (ones .exit) ≡ storePackedOnes c) × (now (twos .exit) ≡ storePackedTwos c)) ⌝ }
 {
     let tested = key::test_packed_row(held, ones, twos, row);
     if trits::refusal::code(tested) != 0 {

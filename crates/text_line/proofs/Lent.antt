@@ -11,9 +11,9 @@ use Rattle.trits.proofs.Reading.{reads-holds}
 use Rattle.text.specs.Digits.{digitRow}
 use Rattle.held_key.specs.declared.state.Held.{Held}
 use Rattle.held_key.specs.Held.{rowTrits, rowWords, keyWords}
-use Rattle.held_key.specs.Store.{storeRefusal, storedHeld, storedPlane}
-use Rattle.check_tests.specs.Check.{checkAnswer}
-use Rattle.text_line.specs.Answer.{asked, keyPart, afterKey, offeredOnes, offeredTwos, digitsRefusal, rowPlane, rowKept, signAnswer, holding}
+use Rattle.held_key.specs.Store.{storeOf, storeRefusal, storeHeld, storeOnes, storeTwos}
+use Rattle.check_tests.specs.Check.{checkOf, checkAnswer}
+use Rattle.text_line.specs.Answer.{asked, keyPart, afterKey, offeredOnes, offeredTwos, digitsRefusal, rowKept, signAnswer, holding}
 
 -- ---- words that a state asks for
 
@@ -88,19 +88,18 @@ module _ (h : Held) (plane : List ℕ) {w : ℕ} (e : w ≡ asked h (keyWords h)
 
 module _ (h : Held) (ones twos : List ℕ) {p q : List ℕ} (ep : p ≡ keyPart h ones) (eq : q ≡ keyPart h twos) where
   module _ (digits : List ℕ) {x y : List ℕ} (ex : x ≡ offeredOnes (rowTrits h) digits) (ey : y ≡ offeredTwos (rowTrits h) digits) where
-    pub row-refusal : storeRefusal h p q x y ≡ digitsRefusal (holding h ones twos) digits
+    pub row-refusal : storeRefusal (storeOf h p q x y) ≡ digitsRefusal (holding h ones twos) digits
     unfolding digitsRefusal
-    row-refusal = λ i. storeRefusal h (ep i) (eq i) (ex i) (ey i)
+    row-refusal = λ i. storeRefusal (storeOf h (ep i) (eq i) (ex i) (ey i))
 
-    pub row-kept : {g : Held} {o t u v : List ℕ} → g ≡ storedHeld (storeRefusal h p q x y) h → o ≡ storedPlane (storeRefusal h p q x y) h p x → t ≡ storedPlane (storeRefusal h p q x y) h q y
+    pub row-kept : {g : Held} {o t u v : List ℕ} → g ≡ storeHeld (storeOf h p q x y) → o ≡ storeOnes (storeOf h p q x y) → t ≡ storeTwos (storeOf h p q x y)
         → u ≡ afterKey h ones → v ≡ afterKey h twos → holding g (o ++ u) (t ++ v) ≡ rowKept (holding h ones twos) digits
-    unfolding rowKept rowPlane digitsRefusal
+    unfolding rowKept
     row-kept {g} {o} {t} {u} {v} eg eo et eu ev =
         (λ i. holding (eg i) (eo i ++ u) (et i ++ v))
-        ∙ (λ i. holding (storedHeld (storeRefusal h (ep i) (eq i) (ex i) (ey i)) h) (storedPlane (storeRefusal h (ep i) (eq i) (ex i) (ey i)) h (ep i) (ex i) ++ eu i)
-        (storedPlane (storeRefusal h (ep i) (eq i) (ex i) (ey i)) h (eq i) (ey i) ++ ev i))
+        ∙ (λ i. let c = storeOf h (ep i) (eq i) (ex i) (ey i) in holding (storeHeld c) (storeOnes c ++ eu i) (storeTwos c ++ ev i))
 
   pub sign-answer : (number : ℕ) (y s : List ℕ) {a b c d e f : List ℕ} → a ≡ offeredOnes (rowTrits h) y → b ≡ offeredTwos (rowTrits h) y → c ≡ offeredOnes (h .k) s → d ≡ offeredTwos (h .k) s
-      → e ≡ zeroWords (asked h (rowWords h)) → f ≡ zeroWords (asked h (rowWords h)) → checkAnswer h number p q a b c d e f ≡ signAnswer (holding h ones twos) number y s
+      → e ≡ zeroWords (asked h (rowWords h)) → f ≡ zeroWords (asked h (rowWords h)) → checkAnswer (checkOf h number p q a b c d e f) ≡ signAnswer (holding h ones twos) number y s
   unfolding signAnswer
-  sign-answer number y s ea eb ec ed ee ef = λ i. checkAnswer h number (ep i) (eq i) (ea i) (eb i) (ec i) (ed i) (ee i) (ef i)
+  sign-answer number y s ea eb ec ed ee ef = λ i. checkAnswer (checkOf h number (ep i) (eq i) (ea i) (eb i) (ec i) (ed i) (ee i) (ef i))

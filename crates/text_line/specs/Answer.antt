@@ -5,7 +5,7 @@ use Prim.Native.Nat.{ℕ}
 use lib.Dec.{eqb, leb, ltb}
 use lib.ListN.{length, take, drop}
 use Rattle.trits.specs.Planes.{onesOf, twosOf, wordsFor, zeroWords}
-use Rattle.trits.specs.Refusal.{refuse}
+use Rattle.trits.specs.Refusal.{refuse, atExit}
 use Rattle.text.specs.Digits.{digitRow}
 use Rattle.text.specs.Forms.{Line, noForm, keyLine, rowLine, signLine, lineOf}
 use Rattle.text.specs.Answers.{verdictAnswer, signRefused, lineRefused}
@@ -13,8 +13,8 @@ use Rattle.held_key.specs.declared.state.Held.{Held}
 use Rattle.check_tests.specs.declared.Checked.{Checked}
 use Rattle.held_key.specs.Held.{mostKeyNumber, rowTrits, rowWords, keyWords}
 use Rattle.held_key.specs.Load.{Holding}
-use Rattle.held_key.specs.Store.{heldAtExit, beginRefusal, begunHeld, storeRefusal, storedHeld, storedPlane}
-use Rattle.check_tests.specs.Check.{checkAnswer}
+use Rattle.held_key.specs.Store.{beginRefusal, begunHeld, Store, storeOf, storeRefusal, storeHeld, storeOnes, storeTwos}
+use Rattle.check_tests.specs.Check.{Check, checkOf, checkAnswer}
 
 -- what is kept from line to line: the state, and the words of the held key
 abbrev pub holding : Held → List ℕ → List ℕ → Holding
@@ -48,33 +48,36 @@ unfoldable pub keyRefusal : ℕ → ℕ → ℕ → ℕ → ℕ
 keyRefusal number n k w = refuse (ltb mostPlaces n) 1 (beginRefusal number n k w)
 
 unfoldable pub keyHeld : Held → ℕ → ℕ → ℕ → ℕ → Held
-keyHeld h number n k w = heldAtExit (keyRefusal number n k w) (begunHeld number n k w) h
+keyHeld h number n k w = atExit (keyRefusal number n k w) (begunHeld number n k w) h
 
 -- ---- K: the next row, as the checker stores it
 
+-- what the checker is lent: the part of each plane that the key takes, and the digits in planes
+abbrev pub rowStore : Holding → List ℕ → Store
+rowStore kept digits =
+    let h = kept .held in
+    storeOf h (keyPart h (kept .ones)) (keyPart h (kept .twos)) (offeredOnes (rowTrits h) digits) (offeredTwos (rowTrits h) digits)
+
 unfoldable pub digitsRefusal : Holding → List ℕ → ℕ
-digitsRefusal kept digits =
-    storeRefusal (kept .held) (keyPart (kept .held) (kept .ones)) (keyPart (kept .held) (kept .twos)) (offeredOnes (rowTrits (kept .held)) digits) (offeredTwos (rowTrits (kept .held)) digits)
+digitsRefusal kept digits = storeRefusal (rowStore kept digits)
 
--- a plane after a row was offered: the part that the key takes as the checker leaves it, and the words after it
-unfoldable pub rowPlane : ℕ → Held → List ℕ → List ℕ → List ℕ
-rowPlane refusal h plane row = storedPlane refusal h (keyPart h plane) row ++ afterKey h plane
-
+-- the state and the part of each plane that the key takes as the checker leaves them, and the words after that part
 unfoldable pub rowKept : Holding → List ℕ → Holding
-rowKept kept digits = record {
-  held = storedHeld (digitsRefusal kept digits) (kept .held);
-  ones = rowPlane (digitsRefusal kept digits) (kept .held) (kept .ones) (offeredOnes (rowTrits (kept .held)) digits);
-  twos = rowPlane (digitsRefusal kept digits) (kept .held) (kept .twos) (offeredTwos (rowTrits (kept .held)) digits);
-}
+rowKept kept digits =
+    let c = rowStore kept digits in
+    record { held = storeHeld c; ones = storeOnes c ++ afterKey (kept .held) (kept .ones); twos = storeTwos c ++ afterKey (kept .held) (kept .twos) }
 
--- ---- S: the check, as the checker answers it; working space of one row is lent to it
+-- ---- S: the check, as the checker answers it
+
+-- what the checker is lent: the part of each plane that the key takes, the digits of y and s in planes, and working space of one row
+abbrev pub signCheck : Holding → ℕ → List ℕ → List ℕ → Check
+signCheck kept number y s =
+    let h = kept .held in
+    checkOf h number (keyPart h (kept .ones)) (keyPart h (kept .twos)) (offeredOnes (rowTrits h) y) (offeredTwos (rowTrits h) y)
+    (offeredOnes (h .k) s) (offeredTwos (h .k) s) (zeroWords (asked h (rowWords h))) (zeroWords (asked h (rowWords h)))
 
 unfoldable pub signAnswer : Holding → ℕ → List ℕ → List ℕ → Checked
-signAnswer kept number y s =
-    checkAnswer (kept .held) number (keyPart (kept .held) (kept .ones)) (keyPart (kept .held) (kept .twos))
-    (offeredOnes (rowTrits (kept .held)) y) (offeredTwos (rowTrits (kept .held)) y)
-    (offeredOnes (kept .held .k) s) (offeredTwos (kept .held .k) s)
-    (zeroWords (asked (kept .held) (rowWords (kept .held)))) (zeroWords (asked (kept .held) (rowWords (kept .held))))
+signAnswer kept number y s = checkAnswer (signCheck kept number y s)
 
 -- the answer to an S line: the verdict, or the refusal
 unfoldable pub signPrints : ℕ → ℕ → Checked → List ℕ

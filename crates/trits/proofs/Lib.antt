@@ -12,4 +12,5 @@ pub mod Tests
 pub mod Put
 pub mod Matrix
 pub mod Ends
+pub mod Cases
 pub mod Refusals

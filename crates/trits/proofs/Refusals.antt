@@ -1,4 +1,4 @@
--- Refusals: what a chain of tests that ended in 0 has shown, and what a buffer is at exit. Assumes nothing.
+-- Refusals: what a chain of tests that ended in 0 has shown, what a buffer is at exit, and which refusals leave the working space. Assumes nothing.
 use mathlib.Core.Path.{_≡_, refl, sym, ap, _∙_}
 use mathlib.Core.Bool.{Bool, true, false, cond}
 use mathlib.Core.List.{List}
@@ -6,10 +6,11 @@ use Prim.Native.Nat.{ℕ, _<_}
 use native.Mathlib.Decide.{ℕ-discrete}
 use native.Mathlib.Omega.{arith}
 use borrow.Author.Tests.{eq-eqb, ne-eqb}
-use lib.Dec.{lit<}
-use Rattle.trits.specs.Planes.{bothSet}
+use lib.Dec.{eqb, lit<}
+use lib.ListN.{length}
+use Rattle.trits.specs.Planes.{bothSet, zeroWords}
 use Rattle.trits.specs.Rows.{rowsPastEnd}
-use Rattle.trits.specs.Refusal.{numberOf, refuse, demand, first, atExit, planesRefusal}
+use Rattle.trits.specs.Refusal.{numberOf, refuse, demand, first, atExit, spaceStays, spaceExit, planesRefusal}
 use Rattle.trits.specs.declared.refusal.Refusal.{Refusal}
 use Rattle.trits.specs.declared.refusal.Refusal.the-variants.{Size, Length, BothPlanes, PastEnd, PackedByte, StreamEnd, NoPermutation, ZeroTrit, RankU, RankV, Line, FirstPartV, FirstPartU, Weight, NoKey, WholeKey, OtherKey}
 
@@ -73,12 +74,51 @@ planes-passed ones twos rows m e =
     let b = passed-refuse (rowsPastEnd ones twos rows m) 4 0 (lit< tt) (a .1) in
     (a .0, b .0)
 
--- ---- a lent buffer at exit
+-- ---- the state or a lent buffer at exit
 
 -- a refusal leaves it as it was
-pub exit-kept : (new old : List ℕ) {k r : ℕ} → k ≡ r → 0 < k → old ≡ atExit r new old
+pub exit-kept : {A : Type 0} (new old : A) {k r : ℕ} → k ≡ r → 0 < k → old ≡ atExit r new old
 exit-kept new old {k} {r} e h = sym (ap (λ (t : Bool). cond t new old) (ne-eqb r 0 (λ z. omega arith)))
 
 -- where nothing is refused it is the new one
-pub exit-new : (new old : List ℕ) {r : ℕ} → r ≡ 0 → new ≡ atExit r new old
+pub exit-new : {A : Type 0} (new old : A) {r : ℕ} → r ≡ 0 → new ≡ atExit r new old
 exit-new new old {r} e = sym (ap (λ (t : Bool). cond t new old) (eq-eqb r 0 e))
+
+-- ---- the working space at exit
+
+-- an end that leaves it, told by k
+pub space-kept : (plane : List ℕ) {k r : ℕ} → k ≡ r → spaceStays k ≡ true → plane ≡ spaceExit r plane
+unfolding spaceExit
+space-kept plane {k} {r} e h = sym (ap (λ (t : Bool). cond t plane (zeroWords (length plane))) (ap spaceStays (sym e) ∙ h))
+
+-- an end after which it is zero, told by k
+pub space-zero : (plane : List ℕ) {k r : ℕ} → k ≡ r → spaceStays k ≡ false → zeroWords (length plane) ≡ spaceExit r plane
+unfolding spaceExit
+space-zero plane {k} {r} e h = sym (ap (λ (t : Bool). cond t plane (zeroWords (length plane))) (ap spaceStays (sym e) ∙ h))
+
+-- a chain of tests whose every refusal leaves it
+pub record Leaves (r : ℕ) : Type 0 where
+  pub stays : (r ≡ 0 → ⊥) → spaceStays r ≡ true
+
+pub leaves-none : Leaves 0
+leaves-none = record { stays = λ f. absurd (f refl) }
+
+pub leaves-refuse : (t : Bool) (k x : ℕ) → spaceStays k ≡ true → Leaves x → Leaves (refuse t k x)
+leaves-refuse true k x h g = record { stays = λ f. h }
+leaves-refuse false k x h g = g
+
+pub leaves-demand : (t : Bool) (k x : ℕ) → spaceStays k ≡ true → Leaves x → Leaves (demand t k x)
+leaves-demand true k x h g = g
+leaves-demand false k x h g = record { stays = λ f. h }
+
+pub leaves-first : (a b : ℕ) → Leaves a → Leaves b → Leaves (first a b)
+unfolding first
+leaves-first a b h g = by (eqb a 0)
+  where
+    by : (t : Bool) → Leaves (cond t b a)
+    by true = g
+    by false = h
+
+pub leaves-planes : (ones twos : List ℕ) (rows m : ℕ) → Leaves (planesRefusal ones twos rows m)
+unfolding planesRefusal
+leaves-planes ones twos rows m = leaves-refuse (bothSet ones twos) 3 _ refl (leaves-refuse (rowsPastEnd ones twos rows m) 4 0 refl leaves-none)

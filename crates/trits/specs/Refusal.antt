@@ -1,9 +1,10 @@
 -- Refusals, their numbers and their order ("Turned back by the input", "Turned back by the state"). Assumes nothing.
-use mathlib.Core.Bool.{Bool, cond}
+use mathlib.Core.Bool.{Bool, _&&_, _||_, cond}
 use mathlib.Core.List.{List}
 use Prim.Native.Nat.{ℕ}
-use lib.Dec.{eqb}
-use Rattle.trits.specs.Planes.{bothSet}
+use lib.Dec.{eqb, leb}
+use lib.ListN.{length}
+use Rattle.trits.specs.Planes.{bothSet, zeroWords}
 use Rattle.trits.specs.Rows.{rowsPastEnd}
 use Rattle.trits.specs.declared.refusal.Refusal.{Refusal}
 use Rattle.trits.specs.declared.refusal.Refusal.the-variants.{Size, Length, BothPlanes, PastEnd, PackedByte, StreamEnd, NoPermutation, ZeroTrit, RankU, RankV, Line, FirstPartV, FirstPartU, Weight, NoKey, WholeKey, OtherKey}
@@ -49,9 +50,16 @@ demand test n rest = cond test rest n
 unfoldable pub first : ℕ → ℕ → ℕ
 first a b = cond (eqb a 0) b a
 
--- "a refusal returns its number alone; state and output stay": what a lent buffer is at exit
-abbrev pub atExit : ℕ → List ℕ → List ℕ → List ℕ
+-- "a refusal returns its number alone; state and output stay": what the state or a lent buffer is at exit
+abbrev pub atExit : {A : Type 0} → ℕ → A → A → A
 atExit refusal new old = cond (eqb refusal 0) new old
+
+-- "working space is untouched after 1 to 8, 11 and 20 to 22, and all zero after every other end, success included": a plane of it at exit
+abbrev pub spaceStays : ℕ → Bool
+spaceStays answer = (leb 1 answer && leb answer 8) || (eqb answer 11 || (leb 20 answer && leb answer 22))
+
+unfoldable pub spaceExit : ℕ → List ℕ → List ℕ
+spaceExit answer plane = cond (spaceStays answer) plane (zeroWords (length plane))
 
 -- ---- the contents of one pair of planes, of `rows` rows of m trits: 3 over the whole buffer before 4
 unfoldable pub planesRefusal : List ℕ → List ℕ → ℕ → ℕ → ℕ

@@ -10,7 +10,7 @@ use lib.ListN.{length, getD}
 use Rattle.trits.specs.Trit.{Trit, number, isSet, dotV, anyTo, sumTo, upTo}
 use Rattle.trits.specs.Planes.{bit, fromBits, bitAt, tritAt, tabulate, onesOf, twosOf, zeroWords, bothSet, pastEnd}
 use Rattle.trits.specs.Rows.{rowsOf, rowPart, matrixAt, putWords, rowsPastEnd}
-use Rattle.trits.specs.Refusal.{first, planesRefusal}
+use Rattle.trits.specs.Refusal.{first, spaceExit, planesRefusal}
 use Rattle.packed.specs.Packed.{byteOf, digitOf, packedAt, packedRow, packedBytes, badByte, packedRefusal}
 use Rattle.packed.specs.Calls.{packRefusal, packExit}
 use Rattle.matrix.specs.Linear.{Vector, elem, agree, find, solve, inSpan, keep, pivots, rank, without, fill, range}
@@ -26,7 +26,7 @@ use Rattle.scheme.specs.Sizes.{sizesFit}
 use Rattle.scheme.specs.Secret.{noZero, secretMatrix, hasZero}
 use Rattle.scheme.specs.Build.{arrange, arranged, rowOfR, buildRefusal}
 use Rattle.scheme.specs.Draw.{choicesFit, placed, pivotsV, suppliedV, drawV, pivotsU, suppliedU, drawU, drawn, drawRefusal, signature}
-use Rattle.calls.specs.Lent.{secretDiffers, secretRefusal, workExit}
+use Rattle.calls.specs.Lent.{secretDiffers, secretRefusal}
 use Rattle.calls.specs.BuildCall.{keyDiffers, buildLengthsDiffer, buildAnswer, orderExit, keyOnesOf, keyTwosOf, keyOnesExit, keyTwosExit, buildWorkOnesExit}
 use Rattle.calls.specs.DrawCall.{choicesDiffer, drawLengthsDiffer, choicesRefusal, drawAnswer, wordOf, wordOnesExit, wordTwosExit, sOnesExit, sTwosExit, drawWorkOnesExit}
 use Rattle.wave.specs.Terms.{Terms, builtKey, LentSyndrome, Under, HandsOut}
@@ -173,7 +173,7 @@ hands-2111 = record { passed = refl; word = λ q h. by q (places-below q h) }
 -- ---- all of them
 
 pub beside : Beside
-unfolding dotV anyTo sumTo upTo bit fromBits bitAt tritAt tabulate onesOf twosOf zeroWords bothSet pastEnd rowsOf rowPart matrixAt putWords rowsPastEnd first planesRefusal byteOf digitOf packedAt packedRow packedBytes badByte packedRefusal packRefusal packExit agree find solve inSpan keep pivots rank without fill range isOrder digitRows timesKey fullWord fullWeight numbersFit sound heldRow heldKey beginRefusal begunHeld beginHeld rowRefusal storePackedRefusal nextHeld storedHeld storedPlane offer offerAll callRefusal packedLengths packedContents checkPackedRefusal heldWeight answered checkPackedAnswer sizesFit noZero secretMatrix arrange arranged rowOfR buildRefusal choicesFit pivotsV suppliedV drawV pivotsU suppliedU drawU drawn drawRefusal secretDiffers hasZero secretRefusal workExit keyDiffers buildLengthsDiffer buildAnswer orderExit keyOnesOf keyTwosOf keyOnesExit keyTwosExit buildWorkOnesExit choicesDiffer drawLengthsDiffer choicesRefusal drawAnswer wordOf wordOnesExit wordTwosExit sOnesExit sTwosExit drawWorkOnesExit builtKey
+unfolding dotV anyTo sumTo upTo bit fromBits bitAt tritAt tabulate onesOf twosOf zeroWords bothSet pastEnd rowsOf rowPart matrixAt putWords rowsPastEnd first planesRefusal byteOf digitOf packedAt packedRow packedBytes badByte packedRefusal packRefusal packExit agree find solve inSpan keep pivots rank without fill range isOrder digitRows timesKey fullWord fullWeight numbersFit sound heldRow heldKey beginRefusal begunHeld beginHeld rowRefusal storePackedRefusal nextHeld storedHeld storedPlane offer offerAll callRefusal packedLengths packedContents checkPackedRefusal heldWeight answered checkPackedAnswer sizesFit noZero secretMatrix arrange arranged rowOfR buildRefusal choicesFit pivotsV suppliedV drawV pivotsU suppliedU drawU drawn drawRefusal secretDiffers hasZero secretRefusal spaceExit keyDiffers buildLengthsDiffer buildAnswer orderExit keyOnesOf keyTwosOf keyOnesExit keyTwosExit buildWorkOnesExit choicesDiffer drawLengthsDiffer choicesRefusal drawAnswer wordOf wordOnesExit wordTwosExit sOnesExit sTwosExit drawWorkOnesExit builtKey
 beside = record {
   word-1200 = refl;
   released-1200 = refl;

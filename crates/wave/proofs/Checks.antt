@@ -8,10 +8,10 @@ use Rattle.trits.specs.Planes.{tritAt}
 use Rattle.packed.specs.Packed.{packedRow}
 use Rattle.matrix.specs.Linear.{Vector}
 use Rattle.held_key.specs.Held.{rowTrits}
-use Rattle.check_tests.specs.Check.{checkRefusal, checkPackedRefusal, answered, checkAnswer, checkPackedAnswer}
+use Rattle.check_tests.specs.Check.{Check, PackedCheck, checkRefusal, checkPackedRefusal, answered, checkAnswer, checkPackedAnswer}
 use Rattle.check_tests.proofs.Passed.{check-passed, check-packed-passed}
 use Rattle.checker.proofs.Verdicts.{check-verdict, check-packed-verdict, found-once}
-use Rattle.wave.specs.Verifier.{Check, verdict, PackedCheck, packedVerdict, HeldExtending, HeldFound}
+use Rattle.wave.specs.Verifier.{HeldExtending, HeldFound}
 
 -- the number that an answer tells
 answered-number : (r weight w : ℕ) → answered r weight w .refusal ≡ 0 → r ≡ 0
@@ -24,26 +24,26 @@ answered-number r weight w e = by (ℕ-discrete r 0)
 
 -- ---- in planes
 
-module _ (c : Check) (r : verdict c .refusal ≡ 0) where
-  pub not-refused : checkRefusal (c .held) (c .number) (c .ones) (c .twos) (c .yOnes) (c .yTwos) (c .sOnes) (c .sTwos) (c .workOnes) (c .workTwos) ≡ 0
+module _ (c : Check) (r : checkAnswer c .refusal ≡ 0) where
+  pub not-refused : checkRefusal c ≡ 0
   unfolding checkAnswer
-  not-refused = answered-number (checkRefusal (c .held) (c .number) (c .ones) (c .twos) (c .yOnes) (c .yTwos) (c .sOnes) (c .sTwos) (c .workOnes) (c .workTwos)) _ _ r
+  not-refused = answered-number (checkRefusal c) _ _ r
 
-  pub says-yes : (verdict c .yes ≡ 1) ↔ HeldFound (c .held) (c .ones) (c .twos) (tritAt (c .yOnes) (c .yTwos)) (tritAt (c .sOnes) (c .sTwos))
-  says-yes = check-verdict (c .held) (c .number) (c .ones) (c .twos) (c .yOnes) (c .yTwos) (c .sOnes) (c .sTwos) (c .workOnes) (c .workTwos) not-refused
+  pub says-yes : (checkAnswer c .yes ≡ 1) ↔ HeldFound (c .held) (c .ones) (c .twos) (tritAt (c .yOnes) (c .yTwos)) (tritAt (c .sOnes) (c .sTwos))
+  says-yes = check-verdict c not-refused
 
   pub one-word : (y s e f : Vector) → HeldExtending (c .held) (c .ones) (c .twos) y s e → HeldExtending (c .held) (c .ones) (c .twos) y s f → (q : ℕ) → q < c .held .n → e q ≡ f q
-  one-word y s e f = found-once (c .held) (c .ones) (c .twos) y s e f (check-passed (c .held) (c .number) (c .ones) (c .twos) (c .yOnes) (c .yTwos) (c .sOnes) (c .sTwos) (c .workOnes) (c .workTwos) not-refused .0 .is-sound)
+  one-word y s e f = found-once (c .held) (c .ones) (c .twos) y s e f (check-passed c not-refused .0 .is-sound)
 
 -- ---- packed
 
-module _ (c : PackedCheck) (r : packedVerdict c .refusal ≡ 0) where
-  pub packed-not-refused : checkPackedRefusal (c .held) (c .number) (c .ones) (c .twos) (c .y) (c .s) (c .workOnes) (c .workTwos) ≡ 0
+module _ (c : PackedCheck) (r : checkPackedAnswer c .refusal ≡ 0) where
+  pub packed-not-refused : checkPackedRefusal c ≡ 0
   unfolding checkPackedAnswer
-  packed-not-refused = answered-number (checkPackedRefusal (c .held) (c .number) (c .ones) (c .twos) (c .y) (c .s) (c .workOnes) (c .workTwos)) _ _ r
+  packed-not-refused = answered-number (checkPackedRefusal c) _ _ r
 
-  pub packed-says-yes : (packedVerdict c .yes ≡ 1) ↔ HeldFound (c .held) (c .ones) (c .twos) (packedRow (rowTrits (c .held)) (c .y)) (packedRow (c .held .k) (c .s))
-  packed-says-yes = check-packed-verdict (c .held) (c .number) (c .ones) (c .twos) (c .y) (c .s) (c .workOnes) (c .workTwos) packed-not-refused
+  pub packed-says-yes : (checkPackedAnswer c .yes ≡ 1) ↔ HeldFound (c .held) (c .ones) (c .twos) (packedRow (rowTrits (c .held)) (c .y)) (packedRow (c .held .k) (c .s))
+  packed-says-yes = check-packed-verdict c packed-not-refused
 
   pub packed-one-word : (y s e f : Vector) → HeldExtending (c .held) (c .ones) (c .twos) y s e → HeldExtending (c .held) (c .ones) (c .twos) y s f → (q : ℕ) → q < c .held .n → e q ≡ f q
-  packed-one-word y s e f = found-once (c .held) (c .ones) (c .twos) y s e f (check-packed-passed (c .held) (c .number) (c .ones) (c .twos) (c .y) (c .s) (c .workOnes) (c .workTwos) packed-not-refused .0 .is-sound)
+  packed-one-word y s e f = found-once (c .held) (c .ones) (c .twos) y s e f (check-packed-passed c packed-not-refused .0 .is-sound)

@@ -30,7 +30,7 @@ use Rattle.held_key.specs.declared.state.Held.{Held}
 use Rattle.check_tests.specs.declared.Checked.{Checked}
 use Rattle.held_key.specs.Held.{rowTrits}
 use Rattle.held_key.specs.Load.{Holding, offerAll}
-use Rattle.check_tests.specs.Check.{callRefusal, planesLengths, planesContents, checkRefusal, checkPackedRefusal, answered, checkPackedAnswer}
+use Rattle.check_tests.specs.Check.{packedCheckOf, callRefusal, planesLengths, planesContents, checkRefusal, checkPackedRefusal, answered, checkAnswer, checkPackedAnswer}
 use Rattle.check_tests.proofs.Passed.{check-packed-passed, packed-contents}
 use Rattle.checker.proofs.EndToEnd.{begun, offered, loaded}
 use Rattle.checker.proofs.Verdicts.{packed-agrees}
@@ -43,7 +43,7 @@ use Rattle.calls.specs.Lent.{secretOf, pairDiffers}
 use Rattle.calls.specs.BuildCall.{BuildCall, keyRowWords, keyOnesExit, keyTwosExit}
 use Rattle.calls.specs.DrawCall.{DrawCall, choicesDiffer, drawLengthsDiffer, drawAnswer, wordOf, sOnesExit, sTwosExit}
 use Rattle.wave.specs.Terms.{Built, builtKey, sized, Under, KeyTerms}
-use Rattle.wave.specs.Verifier.{verdict, packedVerdict, Host, packedKeyRow, carried, carriedCheck, carriedPlanes, yes}
+use Rattle.wave.specs.Verifier.{Host, packedKeyRow, carried, carriedCheck, carriedPlanes, yes}
 use Rattle.wave.proofs.Written.{written-passes}
 use Rattle.wave.proofs.Passed.{differs, DrawPassed, draw-call}
 use Rattle.wave.proofs.Checks.{packed-not-refused}
@@ -190,7 +190,7 @@ module _ (z : Sizes) (i : BuildCall) (b : Built z i) (g w : ℕ) (l : DrawCall) 
       ∙ ap (weightV (wordOf Z l)) (codim-dim Z (sizes-fit Z (passed .sizes))) ∙ terms .weighs
 
   -- the answer
-  pub end-to-end : packedVerdict (carriedCheck z i g w l m) ≡ yes w
+  pub end-to-end : checkPackedAnswer (carriedCheck z i g w l m) ≡ yes w
   unfolding answered
   end-to-end =
       loaded (m .number) (z .n) (dim z) w (fits-held Z (m .number) (passed .sizes) (m .number-fits)) (packedKeyRow z i m) row-size row-good (m .before) (m .ones) (m .twos) yPacked sPacked (m .workOnes) (m .workTwos)
@@ -217,7 +217,7 @@ module _ (z : Sizes) (i : BuildCall) (b : Built z i) (g w : ℕ) (l : DrawCall) 
       ∙ offered (m .number) (z .n) (dim z) w f (packedKeyRow z i m) row-size row-good (m .ones) (m .twos)
       (m .ones-size ∙ ap (λ (x : ℕ). dim z * wordsFor x) (sym size)) (m .twos-size ∙ ap (λ (x : ℕ). dim z * wordsFor x) (sym size)) (dim z) (le-refl (dim z)) .held-is
 
-  packed-passed : checkPackedRefusal (key .held) (m .number) (key .ones) (key .twos) yPacked sPacked (m .workOnes) (m .workTwos) ≡ 0
+  packed-passed : checkPackedRefusal (carriedCheck z i g w l m) ≡ 0
   packed-passed = packed-not-refused (carriedCheck z i g w l m) (ap (λ (x : Checked). x .refusal) end-to-end)
 
   call-passes : callRefusal (key .held) (m .number) (length (key .ones)) (length (key .twos)) (length (m .workOnes)) (length (m .workTwos)) ≡ 0
@@ -227,7 +227,7 @@ module _ (z : Sizes) (i : BuildCall) (b : Built z i) (g w : ℕ) (l : DrawCall) 
   rows-pass : planesRefusal (key .ones) (key .twos) (key .held .k) (rowTrits (key .held)) ≡ 0
   rows-pass =
       packed-contents (key .held) (key .ones) (key .twos) yPacked sPacked
-      (check-packed-passed (key .held) (m .number) (key .ones) (key .twos) yPacked sPacked (m .workOnes) (m .workTwos) packed-passed .2) .0
+      (check-packed-passed (carriedCheck z i g w l m) packed-passed .2) .0
 
   lengths-pass : planesLengths (key .held) (length (l .yOnes)) (length (l .yTwos)) (length (sOnesExit Z l)) (length (sTwosExit Z l)) ≡ 0
   unfolding planesLengths
@@ -253,16 +253,16 @@ module _ (z : Sizes) (i : BuildCall) (b : Built z i) (g w : ℕ) (l : DrawCall) 
       sym (first-goes (sym rows-pass) refl
       (first-goes (sym (ap (planesRefusal (l .yOnes) (l .yTwos) 1) e ∙ passed .syndrome)) refl (sym (ap (planesRefusal (sOnesExit Z l) (sTwosExit Z l) 1) k ∙ s-passes))))
 
-  planes-passed-all : checkRefusal (key .held) (m .number) (key .ones) (key .twos) (l .yOnes) (l .yTwos) (sOnesExit Z l) (sTwosExit Z l) (m .workOnes) (m .workTwos) ≡ 0
+  planes-passed-all : checkRefusal (carriedPlanes z i g w l m) ≡ 0
   unfolding checkRefusal
   planes-passed-all = sym (first-goes (sym call-passes) refl (first-goes (sym lengths-pass) refl (sym contents-pass)))
 
-  pub end-to-end-planes : verdict (carriedPlanes z i g w l m) ≡ yes w
+  pub end-to-end-planes : checkAnswer (carriedPlanes z i g w l m) ≡ yes w
   end-to-end-planes =
       let e : rowTrits (key .held) ≡ codim z = ap (λ (h : Held). rowTrits h) held-is ∙ size in
       let k : key .held .k ≡ dim z = ap (λ (h : Held). h .k) held-is in
       let t : tritAt (sOnesExit Z l) (sTwosExit Z l) ≡ s = handed-signature Z l d in
-      sym (packed-agrees (key .held) (m .number) (key .ones) (key .twos) (l .yOnes) (l .yTwos) (sOnesExit Z l) (sTwosExit Z l) (m .workOnes) (m .workTwos) planes-passed-all)
-      ∙ ap₂ (λ (a b : List ℕ). checkPackedAnswer (key .held) (m .number) (key .ones) (key .twos) a b (m .workOnes) (m .workTwos))
+      sym (packed-agrees (carriedPlanes z i g w l m) planes-passed-all)
+      ∙ ap₂ (λ (a b : List ℕ). checkPackedAnswer (packedCheckOf (key .held) (m .number) (key .ones) (key .twos) a b (m .workOnes) (m .workTwos)))
       (ap (λ (x : ℕ). packedBytes x y) e ∙ sym y-is) (ap₂ packedBytes k t ∙ sym s-is)
       ∙ end-to-end

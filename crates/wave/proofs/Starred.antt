@@ -8,7 +8,7 @@ use lib.ListN.{getD}
 use Rattle.trits.specs.Trit.{t0, isSet, dotV, anyTo, sumTo, upTo}
 use Rattle.trits.specs.Planes.{bit, fromBits, bitAt, tritAt, tabulate, onesOf, twosOf, zeroWords, bothSet, pastEnd}
 use Rattle.trits.specs.Rows.{rowsOf, rowPart, matrixAt, rowsPastEnd}
-use Rattle.trits.specs.Refusal.{first, planesRefusal}
+use Rattle.trits.specs.Refusal.{first, spaceExit, planesRefusal}
 use Rattle.trits.proofs.Ends.{upto-in}
 use Rattle.packed.specs.Packed.{byteOf, digitOf, packedAt, packedRow, packedBytes, badByte, packedRefusal}
 use Rattle.packed.specs.Calls.{packRefusal, packExit, unpackRefusal, unpackOnes, unpackTwos}
@@ -24,7 +24,7 @@ use Rattle.scheme.specs.Sizes.{sizesFit}
 use Rattle.scheme.specs.Secret.{secretMatrix, hasZero}
 use Rattle.scheme.specs.Build.{arrange, arranged, rowOfR, buildRefusal}
 use Rattle.scheme.specs.Draw.{placed, signature, pivotsV, suppliedV, drawV, pivotsU, suppliedU, drawU, drawn, drawRefusal}
-use Rattle.calls.specs.Lent.{secretDiffers, secretRefusal, workExit}
+use Rattle.calls.specs.Lent.{secretDiffers, secretRefusal}
 use Rattle.calls.specs.BuildCall.{keyDiffers, buildLengthsDiffer, buildAnswer, orderExit, keyOnesOf, keyTwosOf, keyOnesExit, keyTwosExit, buildWorkOnesExit, buildWorkTwosExit}
 use Rattle.calls.specs.DrawCall.{DrawCall, choicesDiffer, drawLengthsDiffer, choicesRefusal, drawAnswer, wordOf, wordOnesExit, wordTwosExit, sOnesExit, sTwosExit, drawWorkOnesExit, drawWorkTwosExit}
 use Rattle.wave.specs.Terms.{Under}
@@ -74,7 +74,7 @@ never g one l u d s1 s2 =
 -- ---- the table
 
 pub starred : Starred
-unfolding dotV anyTo sumTo upTo bit fromBits bitAt tritAt tabulate onesOf twosOf zeroWords bothSet pastEnd rowsOf rowPart matrixAt rowsPastEnd first planesRefusal byteOf digitOf packedAt packedRow packedBytes badByte packedRefusal packRefusal packExit unpackRefusal unpackOnes unpackTwos agree find solve inSpan keep pivots rank without fill range isOrder digitRows timesKey fullWord fullWeight saysYes numbersFit sound heldRow heldKey callRefusal packedLengths packedContents checkPackedRefusal heldWeight answered checkPackedAnswer sizesFit secretMatrix arrange arranged rowOfR buildRefusal pivotsV suppliedV drawV pivotsU suppliedU drawU drawn drawRefusal secretDiffers hasZero secretRefusal workExit keyDiffers buildLengthsDiffer buildAnswer orderExit keyOnesOf keyTwosOf keyOnesExit keyTwosExit buildWorkOnesExit buildWorkTwosExit choicesDiffer drawLengthsDiffer choicesRefusal drawAnswer wordOf wordOnesExit wordTwosExit sOnesExit sTwosExit drawWorkOnesExit drawWorkTwosExit
+unfolding dotV anyTo sumTo upTo bit fromBits bitAt tritAt tabulate onesOf twosOf zeroWords bothSet pastEnd rowsOf rowPart matrixAt rowsPastEnd first planesRefusal byteOf digitOf packedAt packedRow packedBytes badByte packedRefusal packRefusal packExit unpackRefusal unpackOnes unpackTwos agree find solve inSpan keep pivots rank without fill range isOrder digitRows timesKey fullWord fullWeight saysYes numbersFit sound heldRow heldKey callRefusal packedLengths packedContents checkPackedRefusal heldWeight answered checkPackedAnswer sizesFit secretMatrix arrange arranged rowOfR buildRefusal pivotsV suppliedV drawV pivotsU suppliedU drawU drawn drawRefusal secretDiffers hasZero secretRefusal spaceExit keyDiffers buildLengthsDiffer buildAnswer orderExit keyOnesOf keyTwosOf keyOnesExit keyTwosExit buildWorkOnesExit buildWorkTwosExit choicesDiffer drawLengthsDiffer choicesRefusal drawAnswer wordOf wordOnesExit wordTwosExit sOnesExit sTwosExit drawWorkOnesExit drawWorkTwosExit
 starred = record {
   packs-88 = refl;
   packed-88 = refl;

@@ -6,12 +6,13 @@ use Prim.Native.Nat.{ℕ}
 use Rattle.matrix.specs.Linear.{Vector}
 use Rattle.trits.specs.InDigits.{vector, digits, matrix, digitRows}
 use Rattle.verdict.specs.Verdict.{Key}
+use Rattle.check_tests.specs.Check.{checkPackedAnswer}
 use Rattle.scheme.specs.Secret.{Secret}
 use Rattle.scheme.specs.Draw.{choicesFit, drawn}
 use Rattle.calls.specs.BuildCall.{buildAnswer, orderExit, keyOnesExit, keyTwosExit, buildWorkOnesExit}
 use Rattle.calls.specs.DrawCall.{drawAnswer, wordOnesExit, wordTwosExit, drawWorkOnesExit}
 use Rattle.wave.specs.Terms.{Terms, builtKey, LentSyndrome, Under, HandsOut}
-use Rattle.wave.specs.Verifier.{packedVerdict, carriedCheck, yes}
+use Rattle.wave.specs.Verifier.{carriedCheck, yes}
 use Rattle.wave.specs.Examples.{sizes4, secret4, start1, key1, start2, p2, key2, y4, choose, word4, refusal4, build4, draw4, host4}
 
 -- another secret, with H_U = (1 0), and the key that the starting order (0,1,2,3) gives: its p is the same
@@ -77,8 +78,8 @@ pub record Beside : Type 0 where
   -- ---- from build to verdict
 
   -- y = 12 and the s of the release 2111, which is 11, under the first key: yes with weight 4, as the paper's example of lines has it
-  pub carried-2111 : packedVerdict (carriedCheck (sizes4 0 4) (build4 start1) 0 4 (draw4 start1 0 1 1 0) host4) ≡ yes 4
+  pub carried-2111 : checkPackedAnswer (carriedCheck (sizes4 0 4) (build4 start1) 0 4 (draw4 start1 0 1 1 0) host4) ≡ yes 4
   -- the s of the release 2221
-  pub carried-2221 : packedVerdict (carriedCheck (sizes4 0 4) (build4 start1) 0 4 (draw4 start1 0 0 0 1) host4) ≡ yes 4
+  pub carried-2221 : checkPackedAnswer (carriedCheck (sizes4 0 4) (build4 start1) 0 4 (draw4 start1 0 0 0 1) host4) ≡ yes 4
   -- the same key at w = 2, and the s of the release 0102
-  pub carried-0102 : packedVerdict (carriedCheck (sizes4 0 4) (build4 start1) 0 2 (draw4 start1 0 0 1 0) host4) ≡ yes 2
+  pub carried-0102 : checkPackedAnswer (carriedCheck (sizes4 0 4) (build4 start1) 0 2 (draw4 start1 0 0 1 0) host4) ≡ yes 2

@@ -8,12 +8,13 @@ use Rattle.trits.specs.Planes.{tritAt}
 use Rattle.packed.specs.Packed.{packedRow}
 use Rattle.matrix.specs.Linear.{Vector}
 use Rattle.held_key.specs.Held.{rowTrits}
+use Rattle.check_tests.specs.Check.{Check, checkAnswer, PackedCheck, checkPackedAnswer}
 use Rattle.scheme.specs.declared.sizes.Sizes.{Sizes}
 use Rattle.scheme.specs.Sizes.{sizesFit}
 use Rattle.calls.specs.BuildCall.{BuildCall}
 use Rattle.calls.specs.DrawCall.{DrawCall, drawAnswer}
 use Rattle.wave.specs.Terms.{Built, sized, LentSyndrome, LentAs, Under, SomeDraw, KeyTerms}
-use Rattle.wave.specs.Verifier.{Check, verdict, PackedCheck, packedVerdict, HeldExtending, HeldFound, Host, carriedCheck, carriedPlanes, yes}
+use Rattle.wave.specs.Verifier.{HeldExtending, HeldFound, Host, carriedCheck, carriedPlanes, yes}
 
 pub record DemandThree : Type 0 where
   -- every syndrome: each y of n-k trits can be lent
@@ -22,19 +23,19 @@ pub record DemandThree : Type 0 where
   pub reach : (z : Sizes) (i : BuildCall) → Built z i → (g w : ℕ) → sizesFit (sized z g w) ≡ true → (yOnes yTwos : List ℕ) → LentSyndrome z yOnes yTwos → (e : Vector)
       → SomeDraw z i g w yOnes yTwos e ↔ KeyTerms z i g w yOnes yTwos e
   -- the verifier: a check that is not refused says yes exactly when some word of weight w that has the syndrome y under the held key extends s
-  pub verifier : (c : Check) → verdict c .refusal ≡ 0
-      → (verdict c .yes ≡ 1) ↔ HeldFound (c .held) (c .ones) (c .twos) (tritAt (c .yOnes) (c .yTwos)) (tritAt (c .sOnes) (c .sTwos))
+  pub verifier : (c : Check) → checkAnswer c .refusal ≡ 0
+      → (checkAnswer c .yes ≡ 1) ↔ HeldFound (c .held) (c .ones) (c .twos) (tritAt (c .yOnes) (c .yTwos)) (tritAt (c .sOnes) (c .sTwos))
   -- and so does one of packed y and s
-  pub packed-verifier : (c : PackedCheck) → packedVerdict c .refusal ≡ 0
-      → (packedVerdict c .yes ≡ 1) ↔ HeldFound (c .held) (c .ones) (c .twos) (packedRow (rowTrits (c .held)) (c .y)) (packedRow (c .held .k) (c .s))
+  pub packed-verifier : (c : PackedCheck) → checkPackedAnswer c .refusal ≡ 0
+      → (checkPackedAnswer c .yes ≡ 1) ↔ HeldFound (c .held) (c .ones) (c .twos) (packedRow (rowTrits (c .held)) (c .y)) (packedRow (c .held .k) (c .s))
   -- uniqueness: under the key that a check finds held, no two words of one syndrome extend one signature
-  pub one-word : (c : Check) → verdict c .refusal ≡ 0 → (y s e f : Vector) → HeldExtending (c .held) (c .ones) (c .twos) y s e → HeldExtending (c .held) (c .ones) (c .twos) y s f
+  pub one-word : (c : Check) → checkAnswer c .refusal ≡ 0 → (y s e f : Vector) → HeldExtending (c .held) (c .ones) (c .twos) y s e → HeldExtending (c .held) (c .ones) (c .twos) y s f
       → (q : ℕ) → q < c .held .n → e q ≡ f q
-  pub packed-one-word : (c : PackedCheck) → packedVerdict c .refusal ≡ 0 → (y s e f : Vector) → HeldExtending (c .held) (c .ones) (c .twos) y s e → HeldExtending (c .held) (c .ones) (c .twos) y s f
+  pub packed-one-word : (c : PackedCheck) → checkPackedAnswer c .refusal ≡ 0 → (y s e f : Vector) → HeldExtending (c .held) (c .ones) (c .twos) y s e → HeldExtending (c .held) (c .ones) (c .twos) y s f
       → (q : ℕ) → q < c .held .n → e q ≡ f q
   -- end to end: pack the rows of a built key, begin, store them, pack y and the s of a release, check: yes, with weight w
   pub end-to-end : (z : Sizes) (i : BuildCall) → Built z i → (g w : ℕ) (l : DrawCall) → Under z i l → drawAnswer (sized z g w) l ≡ 0 → (m : Host z)
-      → packedVerdict (carriedCheck z i g w l m) ≡ yes w
+      → checkPackedAnswer (carriedCheck z i g w l m) ≡ yes w
   -- and with y and s in planes
   pub end-to-end-planes : (z : Sizes) (i : BuildCall) → Built z i → (g w : ℕ) (l : DrawCall) → Under z i l → drawAnswer (sized z g w) l ≡ 0 → (m : Host z)
-      → verdict (carriedPlanes z i g w l m) ≡ yes w
+      → checkAnswer (carriedPlanes z i g w l m) ≡ yes w

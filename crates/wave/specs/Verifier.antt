@@ -14,44 +14,14 @@ use Rattle.check_tests.specs.declared.Checked.{Checked}
 use Rattle.held_key.specs.Held.{mostKeyNumber, rowTrits, heldKey}
 use Rattle.held_key.specs.Store.{beginHeld}
 use Rattle.held_key.specs.Load.{Holding, offerAll}
-use Rattle.check_tests.specs.Check.{checkAnswer, checkPackedAnswer}
+use Rattle.check_tests.specs.Check.{Check, PackedCheck}
 use Rattle.scheme.specs.declared.sizes.Sizes.{Sizes}
 use Rattle.scheme.specs.Sizes.{dim, codim}
 use Rattle.calls.specs.BuildCall.{BuildCall, keyRowWords, keyOnesExit, keyTwosExit}
 use Rattle.calls.specs.DrawCall.{DrawCall, sOnesExit, sTwosExit}
 use Rattle.wave.specs.Terms.{sized}
 
--- ---- a call of the check
-
--- with y and s in planes: what it is lent, and its answer
-pub record Check : Type 0 where
-  pub held : Held
-  pub number : ℕ
-  pub ones : List ℕ
-  pub twos : List ℕ
-  pub yOnes : List ℕ
-  pub yTwos : List ℕ
-  pub sOnes : List ℕ
-  pub sTwos : List ℕ
-  pub workOnes : List ℕ
-  pub workTwos : List ℕ
-
-abbrev pub verdict : Check → Checked
-verdict c = checkAnswer (c .held) (c .number) (c .ones) (c .twos) (c .yOnes) (c .yTwos) (c .sOnes) (c .sTwos) (c .workOnes) (c .workTwos)
-
--- with packed y and s
-pub record PackedCheck : Type 0 where
-  pub held : Held
-  pub number : ℕ
-  pub ones : List ℕ
-  pub twos : List ℕ
-  pub y : List ℕ
-  pub s : List ℕ
-  pub workOnes : List ℕ
-  pub workTwos : List ℕ
-
-abbrev pub packedVerdict : PackedCheck → Checked
-packedVerdict c = checkPackedAnswer (c .held) (c .number) (c .ones) (c .twos) (c .y) (c .s) (c .workOnes) (c .workTwos)
+-- ---- what a check finds: its answer is `checkAnswer`, or `checkPackedAnswer` where y and s are packed
 
 -- the whole key is any k rows that the call finds held: under it the word e of n trits has the syndrome y and extends s
 abbrev pub HeldExtending : Held → List ℕ → List ℕ → Vector → Vector → Vector → Type 0

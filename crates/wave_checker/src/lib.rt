@@ -1,11 +1,8 @@
 // The module's half for C: each call in numbers. Nothing but what a host needs is exported.
 ghost use mathlib.Core.Path.{_≡_};
-ghost use Rattle.trits.specs.Planes.{onesOf, twosOf};
-ghost use Rattle.packed.specs.Packed.{packedRow};
 ghost use Rattle.packed.specs.Calls.{packRefusal, packExit, unpackRefusal, unpackOnes, unpackTwos, streamRefusal, streamOnes, streamTwos};
-ghost use Rattle.held_key.specs.Held.{rowTrits, rowWords};
-ghost use Rattle.held_key.specs.Store.{beginRefusal, beginHeld, storePackedRefusal, storedHeld, storedPlane};
-ghost use Rattle.check_tests.specs.Check.{checkPackedRefusal, checkPackedAnswer, spaceAtExit};
+ghost use Rattle.held_key.specs.Store.{beginRefusal, beginHeld, packedStoreOf, storePackedRefusal, storePackedHeld, storePackedOnes, storePackedTwos};
+ghost use Rattle.check_tests.specs.Check.{packedCheckOf, checkPackedAnswer, checkPackedWorkOnes, checkPackedWorkTwos};
 use check_tests::Checked;
 use held_key::state::Held;
 
@@ -39,12 +36,8 @@ pub extern "C" fn wave_store_row(
     twos: &mut [u64],
     row: &[u8],
 ) -> StoredNumbers
-    ensures { λ r. ⌜ r .refusal ≡ storePackedRefusal held (now (ones .entry)) (now (twos .entry)) (now (row .entry)) ⌝ }
-    ensures { λ r. ⌜ r .held ≡ storedHeld (storePackedRefusal held (now (ones .entry)) (now (twos .entry)) (now (row .entry))) held ⌝ }
-    ensures { λ _. ⌜ now (ones .exit) ≡ storedPlane (storePackedRefusal held (now (ones .entry)) (now (twos .entry)) (now (row .entry))) held (now (ones .entry))
-        (onesOf (packedRow (rowTrits held) (now (row .entry))) (rowWords held)) ⌝ }
-    ensures { λ _. ⌜ now (twos .exit) ≡ storedPlane (storePackedRefusal held (now (ones .entry)) (now (twos .entry)) (now (row .entry))) held (now (twos .entry))
-        (twosOf (packedRow (rowTrits held) (now (row .entry))) (rowWords held)) ⌝ }
+    ensures { λ r. ⌜ (let c = packedStoreOf held (now (ones .entry)) (now (twos .entry)) (now (row .entry)) in
+        (r .refusal ≡ storePackedRefusal c) × (r .held ≡ storePackedHeld c) × (now (ones .exit) ≡ storePackedOnes c) × (now (twos .exit) ≡ storePackedTwos c)) ⌝ }
 {
     let stored = held_key::store_packed_row(held, ones, twos, row);
     let outcome = stored.outcome;
@@ -67,11 +60,9 @@ pub extern "C" fn wave_check(
     work_ones: &mut [u64],
     work_twos: &mut [u64],
 ) -> Checked
-    ensures { λ r. ⌜ r ≡ checkPackedAnswer held number (now (ones .entry)) (now (twos .entry)) (now (y .entry)) (now (s .entry)) (now («work_ones» .entry)) (now («work_twos» .entry)) ⌝ }
-    ensures { λ _. ⌜ now («work_ones» .exit) ≡ spaceAtExit (checkPackedRefusal held number (now (ones .entry)) (now (twos .entry)) (now (y .entry)) (now (s .entry))
-        (now («work_ones» .entry)) (now («work_twos» .entry))) (now («work_ones» .entry)) ⌝ }
-    ensures { λ _. ⌜ now («work_twos» .exit) ≡ spaceAtExit (checkPackedRefusal held number (now (ones .entry)) (now (twos .entry)) (now (y .entry)) (now (s .entry))
-        (now («work_ones» .entry)) (now («work_twos» .entry))) (now («work_twos» .entry)) ⌝ }
+    ensures { λ r. ⌜ (let c = packedCheckOf held number (now (ones .entry)) (now (twos .entry)) (now (y .entry)) (now (s .entry))
+        (now («work_ones» .entry)) (now («work_twos» .entry)) in
+        (r ≡ checkPackedAnswer c) × (now («work_ones» .exit) ≡ checkPackedWorkOnes c) × (now («work_twos» .exit) ≡ checkPackedWorkTwos c)) ⌝ }
 {
     check_tests::tell(checker::check_packed(held, number, ones, twos, y, s, work_ones, work_twos))
 }

@@ -19,7 +19,7 @@ same-length-2 c = c .before .before .work-twos .given
 returns : tie.Need-returns
 returns c =
     let e = c .before .before .before .before .before .check .ensures in
-    (c .tell .ensures ∙ e .0, (e .1 .0, e .1 .1))
+    (c .tell .ensures ∙ e .0, e .1, e .2)
 
 pub bench-check-spec : {M : Type 1} → statement M
 bench-check-spec =

@@ -5,7 +5,7 @@ use native.Mathlib.Omega.{arith}
 use borrow.Author.Needs.{needs}
 use Rattle.check_tests.proofs.Passed.{whole, check-packed-passed}
 use Rattle.held_key.proofs.Answers.{positive}
-use Rattle.check_tests.proofs.Answers.{space-kept, space-zero, answer-kept, answer-new}
+use Rattle.check_tests.proofs.Answers.{answer-kept, answer-new, leaves-packed-check, left-kept, left-zero}
 use Rattle.bench_check.proofs.bench_weigh_packed.Statement.{statement}
 use Rattle.bench_check.proofs.bench_weigh_packed.Tie as tie
 
@@ -31,11 +31,11 @@ returns : tie.Need-returns
 returns c =
     let l = positive (λ z. c .before .before .if1 .taken (c .before .before .before .code .ensures ∙ z)) in
     let e = c .before .before .before .before .test-packed-check .ensures in
-    (c .tell .ensures ∙ c .before .judge .ensures ∙ answer-kept 0 _ _ e l, (space-kept _ e l, space-kept _ e l))
+    (c .tell .ensures ∙ c .before .judge .ensures ∙ answer-kept 0 _ _ e l, left-kept _ e l (leaves-packed-check _), left-kept _ e l (leaves-packed-check _))
 
 weigh-packed-times-requires : tie.Need-weigh-packed-times-requires
 weigh-packed-times-requires c κs =
-    let p = check-packed-passed _ _ _ _ _ _ _ _ (sym (c .before .before .before .before .test-packed-check .ensures) ∙ sym (c .before .before .before .code .ensures) ∙ c .before .before .if1 .left) in
+    let p = check-packed-passed _ (sym (c .before .before .before .before .test-packed-check .ensures) ∙ sym (c .before .before .before .code .ensures) ∙ c .before .before .if1 .left) in
     (whole (p .0), (p .1, (p .2, (p .0 .work-ones, p .0 .work-twos))))
 
 zero-words-requires : tie.Need-zero-words-requires
@@ -60,7 +60,7 @@ returns-2 : tie.Need-returns-2
 returns-2 c =
     let e = c .before .before .before .before .before .before .before .before .before .before .before .before .before .before .before .before .before .before .before .test-packed-check .ensures in
     let z = sym e ∙ sym (c .before .before .before .before .before .before .before .before .before .before .before .before .before .before .before .before .before .before .code .ensures) ∙ c .before .before .before .before .before .before .before .before .before .before .before .before .before .before .before .before .before .if1 .left in
-    (c .tell2 .ensures ∙ c .before .judge2 .ensures ∙ answer-new _ e (c .before .before .before .before .before .before .before .before .before .before .before .before .before .before .weigh-packed-times .ensures), (space-zero _ z (omega arith) (c .before .before .before .before .before .before .before .before .zero-words .ensures), space-zero _ z (omega arith) (c .before .before .before .before .zero-words2 .ensures)))
+    (c .tell2 .ensures ∙ c .before .judge2 .ensures ∙ answer-new _ e (c .before .before .before .before .before .before .before .before .before .before .before .before .before .before .weigh-packed-times .ensures), left-zero _ z (omega arith) (c .before .before .before .before .before .before .before .before .zero-words .ensures), left-zero _ z (omega arith) (c .before .before .before .before .zero-words2 .ensures))
 
 pub bench-weigh-packed-spec : {M : Type 1} → statement M
 bench-weigh-packed-spec =

@@ -5,11 +5,11 @@ use mathlib.Core.Path.{sym, ap, _∙_}
 use native.Mathlib.Omega.{arith}
 use denote.Ref.{now}
 use lib.Dec.{lit<}
-use Rattle.trits.specs.Refusal.{atExit}
+use Rattle.trits.specs.Refusal.{atExit, spaceExit}
 use Rattle.trits.proofs.Refusals.{exit-kept}
 use Rattle.matrix.proofs.Field.{not-true, not-false}
 use Rattle.scheme.specs.Build.{keyOrder}
-use Rattle.calls.specs.Lent.{planes, secretOf, workExit}
+use Rattle.calls.specs.Lent.{planes, secretOf}
 use Rattle.calls.specs.BuildCall.{buildCall, orderExit, keyOnesOf, keyOnesExit, keyTwosOf, keyTwosExit, buildWorkOnesExit, buildWorkTwosExit}
 use Rattle.calls.proofs.Exits.{positive, work-kept}
 use Rattle.calls.proofs.Secrets.{readable}
@@ -76,7 +76,7 @@ same-length-5 c = search needs
 returns-4 : tie.Need-returns-4
 unfolding orderExit keyOnesExit keyTwosExit buildWorkOnesExit buildWorkTwosExit
 returns-4 c =
-    let s = c .before .before .before .before .before .before .before .before .before .before .before .before .before .before .before .before .before .before .before .before .before .before .before .before .before .before .before .before .before .before .before .before .before .before .before .before .before in let a = s .args in let i = (buildCall (planes (now (a .hu-ones)) (now (a .hu-twos)) (now (a .hv-ones)) (now (a .hv-twos)) (now (a .b-ones)) (now (a .b-twos)) (now (a .c-ones)) (now (a .c-twos))) (now (a .start)) (now (a .p)) (now (a .key-ones)) (now (a .key-twos)) (now (a .work-ones)) (now (a .work-twos))) in let z = sym (c .before .before .before .before .before .before .before .before .before .before .before .before .before .before .before .before .before .before .before .before .before .before .sizes-fit .ensures) ∙ not-false (c .before .before .before .before .before .before .before .before .before .before .before .before .before .before .before .before .before .before .before .before .before .before .sizes-fit .result) (c .before .before .before .before .before .before .before .before .before .before .before .before .before .before .before .before .before .before .before .before .before .if1 .left) in let d = same-lengths (a .z) i (sym (c .before .before .before .before .before .before .before .before .before .before .before .before .before .before .before .before .before .before .before .before .lengths-differ .ensures) ∙ c .before .before .before .before .before .before .before .before .before .before .before .before .before .before .before .before .before .before .before .if2 .left) in let y = sym (c .before .before .before .before .before .before .before .before .before .before .before .before .before .before .before .before .before .before .test-contents .ensures) ∙ sym (c .before .before .before .before .before .before .before .before .before .before .before .before .before .before .before .before .before .code .ensures) ∙ c .before .before .before .before .before .before .before .before .before .before .before .before .before .before .before .before .if3 .left in let g = answer-ranks (a .z) i z d y in let k = secretOf (a .z) (i .secret) in let n = c .before .before .before .before .before .before .before .before .before .before .finish .ensures in (n .0 ∙ g, n .1 ∙ ap (λ (r : ℕ). atExit r (keyOrder (a .z) k (i .start)) (i .p)) g, n .2 ∙ ap (λ (r : ℕ). atExit r (keyOnesOf (a .z) k (i .start)) (i .keyOnes)) g, n .3 ∙ ap (λ (r : ℕ). atExit r (keyTwosOf (a .z) k (i .start)) (i .keyTwos)) g, n .4 ∙ work-ended (a .z) k (i .workOnes) ∙ ap (λ (r : ℕ). workExit r (i .workOnes)) g, n .5 ∙ work-ended (a .z) k (i .workTwos) ∙ ap (λ (r : ℕ). workExit r (i .workTwos)) g)
+    let s = c .before .before .before .before .before .before .before .before .before .before .before .before .before .before .before .before .before .before .before .before .before .before .before .before .before .before .before .before .before .before .before .before .before .before .before .before .before in let a = s .args in let i = (buildCall (planes (now (a .hu-ones)) (now (a .hu-twos)) (now (a .hv-ones)) (now (a .hv-twos)) (now (a .b-ones)) (now (a .b-twos)) (now (a .c-ones)) (now (a .c-twos))) (now (a .start)) (now (a .p)) (now (a .key-ones)) (now (a .key-twos)) (now (a .work-ones)) (now (a .work-twos))) in let z = sym (c .before .before .before .before .before .before .before .before .before .before .before .before .before .before .before .before .before .before .before .before .before .before .sizes-fit .ensures) ∙ not-false (c .before .before .before .before .before .before .before .before .before .before .before .before .before .before .before .before .before .before .before .before .before .before .sizes-fit .result) (c .before .before .before .before .before .before .before .before .before .before .before .before .before .before .before .before .before .before .before .before .before .if1 .left) in let d = same-lengths (a .z) i (sym (c .before .before .before .before .before .before .before .before .before .before .before .before .before .before .before .before .before .before .before .before .lengths-differ .ensures) ∙ c .before .before .before .before .before .before .before .before .before .before .before .before .before .before .before .before .before .before .before .if2 .left) in let y = sym (c .before .before .before .before .before .before .before .before .before .before .before .before .before .before .before .before .before .before .test-contents .ensures) ∙ sym (c .before .before .before .before .before .before .before .before .before .before .before .before .before .before .before .before .before .code .ensures) ∙ c .before .before .before .before .before .before .before .before .before .before .before .before .before .before .before .before .if3 .left in let g = answer-ranks (a .z) i z d y in let k = secretOf (a .z) (i .secret) in let n = c .before .before .before .before .before .before .before .before .before .before .finish .ensures in (n .0 ∙ g, n .1 ∙ ap (λ (r : ℕ). atExit r (keyOrder (a .z) k (i .start)) (i .p)) g, n .2 ∙ ap (λ (r : ℕ). atExit r (keyOnesOf (a .z) k (i .start)) (i .keyOnes)) g, n .3 ∙ ap (λ (r : ℕ). atExit r (keyTwosOf (a .z) k (i .start)) (i .keyTwos)) g, n .4 ∙ work-ended (a .z) k (i .workOnes) ∙ ap (λ (r : ℕ). spaceExit r (i .workOnes)) g, n .5 ∙ work-ended (a .z) k (i .workTwos) ∙ ap (λ (r : ℕ). spaceExit r (i .workTwos)) g)
 
 pub build-spec : {M : Type 1} → statement M
 build-spec =

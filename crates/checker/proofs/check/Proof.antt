@@ -6,8 +6,7 @@ use borrow.Author.Needs.{needs}
 use Rattle.check_tests.specs.Check.{checkAnswer}
 use Rattle.check_tests.proofs.Passed.{whole, check-passed}
 use Rattle.held_key.proofs.Answers.{positive}
-use Rattle.check_tests.proofs.Answers.{answer-kept, answer-new, space-kept, space-zero}
-use Rattle.checker.proofs.Spaces.{check-spaces}
+use Rattle.check_tests.proofs.Answers.{answer-kept, answer-new, leaves-check, left-kept, left-zero}
 use Rattle.checker.proofs.check.Statement.{statement}
 use Rattle.checker.proofs.check.Tie as tie
 
@@ -30,17 +29,12 @@ returns : tie.Need-returns
 unfolding checkAnswer
 returns c =
     let l = positive (λ z. c .before .if1 .taken (c .before .before .code .ensures ∙ z)) in
-    let e = c .before .before .before .test-check .ensures in (
-      c .judge .ensures ∙ answer-kept 0 _ _ (e ∙ check-spaces _ _ _ _ _ _ _ _ _ _ _ _ (omega arith) (omega arith)) l,
-      (
-        space-kept _ (e ∙ check-spaces _ _ _ _ _ _ _ _ _ _ _ _ (omega arith) (omega arith)) l,
-        space-kept _ (e ∙ check-spaces _ _ _ _ _ _ _ _ _ _ _ _ (omega arith) (omega arith)) l,
-      ),
-    )
+    let e = c .before .before .before .test-check .ensures in
+    (c .judge .ensures ∙ answer-kept 0 _ _ e l, left-kept _ e l (leaves-check _), left-kept _ e l (leaves-check _))
 
 weigh-requires : tie.Need-weigh-requires
 weigh-requires c κs =
-    let p = check-passed _ _ _ _ _ _ _ _ _ _ (sym (c .before .before .before .before .test-check .ensures) ∙ sym (c .before .before .before .code .ensures) ∙ c .before .before .if1 .left) in
+    let p = check-passed _ (sym (c .before .before .before .before .test-check .ensures) ∙ sym (c .before .before .before .code .ensures) ∙ c .before .before .if1 .left) in
     (whole (p .0), (p .1, (p .2, (p .0 .work-ones, p .0 .work-twos))))
 
 zero-words-requires : tie.Need-zero-words-requires
@@ -63,7 +57,7 @@ unfolding checkAnswer
 returns-2 c =
     let e = c .before .before .before .before .before .before .before .before .before .before .before .before .before .before .before .before .before .before .test-check .ensures in
     let z = sym e ∙ sym (c .before .before .before .before .before .before .before .before .before .before .before .before .before .before .before .before .before .code .ensures) ∙ c .before .before .before .before .before .before .before .before .before .before .before .before .before .before .before .before .if1 .left in
-    (c .judge2 .ensures ∙ answer-new _ e (c .before .before .before .before .before .before .before .before .before .before .before .before .before .weigh .ensures), (space-zero _ z (omega arith) (c .before .before .before .before .before .before .before .zero-words .ensures), space-zero _ z (omega arith) (c .before .before .before .zero-words2 .ensures)))
+    (c .judge2 .ensures ∙ answer-new _ e (c .before .before .before .before .before .before .before .before .before .before .before .before .before .weigh .ensures), left-zero _ z (omega arith) (c .before .before .before .before .before .before .before .zero-words .ensures), left-zero _ z (omega arith) (c .before .before .before .zero-words2 .ensures))
 
 pub check-spec : {M : Type 1} → statement M
 check-spec =

@@ -6,8 +6,7 @@ use borrow.Author.Needs.{needs}
 use Rattle.check_tests.specs.Check.{checkPackedAnswer}
 use Rattle.check_tests.proofs.Passed.{whole, check-packed-passed}
 use Rattle.held_key.proofs.Answers.{positive}
-use Rattle.check_tests.proofs.Answers.{answer-kept, answer-new, space-kept, space-zero}
-use Rattle.checker.proofs.Spaces.{packed-spaces}
+use Rattle.check_tests.proofs.Answers.{answer-kept, answer-new, leaves-packed-check, left-kept, left-zero}
 use Rattle.checker.proofs.check_packed.Statement.{statement}
 use Rattle.checker.proofs.check_packed.Tie as tie
 
@@ -30,17 +29,12 @@ returns : tie.Need-returns
 unfolding checkPackedAnswer
 returns c =
     let l = positive (λ z. c .before .if1 .taken (c .before .before .code .ensures ∙ z)) in
-    let e = c .before .before .before .test-packed-check .ensures in (
-      c .judge .ensures ∙ answer-kept 0 _ _ (e ∙ packed-spaces _ _ _ _ _ _ _ _ _ _ (omega arith) (omega arith)) l,
-      (
-        space-kept _ (e ∙ packed-spaces _ _ _ _ _ _ _ _ _ _ (omega arith) (omega arith)) l,
-        space-kept _ (e ∙ packed-spaces _ _ _ _ _ _ _ _ _ _ (omega arith) (omega arith)) l,
-      ),
-    )
+    let e = c .before .before .before .test-packed-check .ensures in
+    (c .judge .ensures ∙ answer-kept 0 _ _ e l, left-kept _ e l (leaves-packed-check _), left-kept _ e l (leaves-packed-check _))
 
 weigh-packed-requires : tie.Need-weigh-packed-requires
 weigh-packed-requires c κs =
-    let p = check-packed-passed _ _ _ _ _ _ _ _ (sym (c .before .before .before .before .test-packed-check .ensures) ∙ sym (c .before .before .before .code .ensures) ∙ c .before .before .if1 .left) in
+    let p = check-packed-passed _ (sym (c .before .before .before .before .test-packed-check .ensures) ∙ sym (c .before .before .before .code .ensures) ∙ c .before .before .if1 .left) in
     (whole (p .0), (p .1, (p .2, (p .0 .work-ones, p .0 .work-twos))))
 
 zero-words-requires : tie.Need-zero-words-requires
@@ -63,7 +57,7 @@ unfolding checkPackedAnswer
 returns-2 c =
     let e = c .before .before .before .before .before .before .before .before .before .before .before .before .before .before .before .before .before .before .test-packed-check .ensures in
     let z = sym e ∙ sym (c .before .before .before .before .before .before .before .before .before .before .before .before .before .before .before .before .before .code .ensures) ∙ c .before .before .before .before .before .before .before .before .before .before .before .before .before .before .before .before .if1 .left in
-    (c .judge2 .ensures ∙ answer-new _ e (c .before .before .before .before .before .before .before .before .before .before .before .before .before .weigh-packed .ensures), (space-zero _ z (omega arith) (c .before .before .before .before .before .before .before .zero-words .ensures), space-zero _ z (omega arith) (c .before .before .before .zero-words2 .ensures)))
+    (c .judge2 .ensures ∙ answer-new _ e (c .before .before .before .before .before .before .before .before .before .before .before .before .before .weigh-packed .ensures), left-zero _ z (omega arith) (c .before .before .before .before .before .before .before .zero-words .ensures), left-zero _ z (omega arith) (c .before .before .before .zero-words2 .ensures))
 
 pub check-packed-spec : {M : Type 1} → statement M
 check-packed-spec =

@@ -7,12 +7,12 @@ use denote.Ref.{now}
 use lib.Dec.{lit<}
 use Rattle.trits.specs.Trit.{upTo}
 use Rattle.trits.specs.Planes.{wordsFor, onesOf, twosOf}
-use Rattle.trits.specs.Refusal.{first, atExit}
+use Rattle.trits.specs.Refusal.{first, atExit, spaceExit}
 use Rattle.trits.proofs.Refusals.{exit-kept}
 use Rattle.matrix.proofs.Field.{not-true, not-false}
 use Rattle.scheme.specs.Sizes.{places, dim}
 use Rattle.scheme.specs.Draw.{signature}
-use Rattle.calls.specs.Lent.{planes, secretOf, secretRefusal, workExit}
+use Rattle.calls.specs.Lent.{planes, secretOf, secretRefusal}
 use Rattle.calls.specs.DrawCall.{drawCall, syndromeOf, choicesOf, wordOf, wordOnesExit, wordTwosExit, sOnesExit, sTwosExit, drawWorkOnesExit, drawWorkTwosExit}
 use Rattle.calls.proofs.Exits.{positive, work-kept}
 use Rattle.calls.proofs.Secrets.{readable}
@@ -94,7 +94,7 @@ same-length-6 c = search needs
 returns-4 : tie.Need-returns-4
 unfolding wordOf wordOnesExit wordTwosExit sOnesExit sTwosExit drawWorkOnesExit drawWorkTwosExit
 returns-4 c =
-    let s = c .before .before .before .before .before .before .before .before .before .before .before .before .before .before .before .before .before .before .before .before .before .before .before .before .before .before .before .before .before .before .before .before .before .before .before .before .before .before .before .before .before .before .before .before .before .before .before .before .before in let a = s .args in let i = (drawCall (planes (now (a .hu-ones)) (now (a .hu-twos)) (now (a .hv-ones)) (now (a .hv-twos)) (now (a .b-ones)) (now (a .b-twos)) (now (a .c-ones)) (now (a .c-twos))) (now (a .p)) (now (a .y-ones)) (now (a .y-twos)) (now (a .v-order)) (now (a .v-ones)) (now (a .v-twos)) (now (a .u-order)) (now (a .u-ones)) (now (a .u-twos)) (now (a .word-ones)) (now (a .word-twos)) (now (a .s-ones)) (now (a .s-twos)) (now (a .work-ones)) (now (a .work-twos))) in let z = sym (c .before .before .before .before .before .before .before .before .before .before .before .before .before .before .before .before .before .before .before .before .before .before .before .before .before .sizes-fit .ensures) ∙ not-false (c .before .before .before .before .before .before .before .before .before .before .before .before .before .before .before .before .before .before .before .before .before .before .before .before .before .sizes-fit .result) (c .before .before .before .before .before .before .before .before .before .before .before .before .before .before .before .before .before .before .before .before .before .before .before .before .if1 .left) in let d = same-lengths (a .z) i (sym (c .before .before .before .before .before .before .before .before .before .before .before .before .before .before .before .before .before .before .before .before .before .before .before .lengths-differ .ensures) ∙ c .before .before .before .before .before .before .before .before .before .before .before .before .before .before .before .before .before .before .before .before .before .before .if2 .left) in let e = c .before .before .before .before .before .before .before .before .before .before .before .before .before .before .before .before .before .before .before .before .before .test-contents .ensures ∙ ap (first (secretRefusal (a .z) (i .secret))) (same-choices (a .z) i) in let y = sym e ∙ sym (c .before .before .before .before .before .before .before .before .before .before .before .before .before .before .before .before .before .before .before .before .code .ensures) ∙ c .before .before .before .before .before .before .before .before .before .before .before .before .before .before .before .before .before .before .before .if3 .left in let g = answer-ending (a .z) i z d y in let n = c .before .before .before .before .before .before .before .before .before .before .before .before .finish .ensures in (n .0 ∙ g, n .1 ∙ ap (λ (r : ℕ). atExit r (onesOf (upTo (places (a .z)) (wordOf (a .z) i)) (wordsFor (places (a .z)))) (i .wordOnes)) g, n .2 ∙ ap (λ (r : ℕ). atExit r (twosOf (upTo (places (a .z)) (wordOf (a .z) i)) (wordsFor (places (a .z)))) (i .wordTwos)) g, n .3 ∙ ap (λ (r : ℕ). atExit r (onesOf (upTo (dim (a .z)) (signature (a .z) (wordOf (a .z) i))) (wordsFor (dim (a .z)))) (i .sOnes)) g, n .4 ∙ ap (λ (r : ℕ). atExit r (twosOf (upTo (dim (a .z)) (signature (a .z) (wordOf (a .z) i))) (wordsFor (dim (a .z)))) (i .sTwos)) g, n .5 ∙ work-ended (a .z) (secretOf (a .z) (i .secret)) (i .p) (syndromeOf i) (choicesOf i) (i .workOnes) ∙ ap (λ (r : ℕ). workExit r (i .workOnes)) g, n .6 ∙ work-ended (a .z) (secretOf (a .z) (i .secret)) (i .p) (syndromeOf i) (choicesOf i) (i .workTwos) ∙ ap (λ (r : ℕ). workExit r (i .workTwos)) g)
+    let s = c .before .before .before .before .before .before .before .before .before .before .before .before .before .before .before .before .before .before .before .before .before .before .before .before .before .before .before .before .before .before .before .before .before .before .before .before .before .before .before .before .before .before .before .before .before .before .before .before .before in let a = s .args in let i = (drawCall (planes (now (a .hu-ones)) (now (a .hu-twos)) (now (a .hv-ones)) (now (a .hv-twos)) (now (a .b-ones)) (now (a .b-twos)) (now (a .c-ones)) (now (a .c-twos))) (now (a .p)) (now (a .y-ones)) (now (a .y-twos)) (now (a .v-order)) (now (a .v-ones)) (now (a .v-twos)) (now (a .u-order)) (now (a .u-ones)) (now (a .u-twos)) (now (a .word-ones)) (now (a .word-twos)) (now (a .s-ones)) (now (a .s-twos)) (now (a .work-ones)) (now (a .work-twos))) in let z = sym (c .before .before .before .before .before .before .before .before .before .before .before .before .before .before .before .before .before .before .before .before .before .before .before .before .before .sizes-fit .ensures) ∙ not-false (c .before .before .before .before .before .before .before .before .before .before .before .before .before .before .before .before .before .before .before .before .before .before .before .before .before .sizes-fit .result) (c .before .before .before .before .before .before .before .before .before .before .before .before .before .before .before .before .before .before .before .before .before .before .before .before .if1 .left) in let d = same-lengths (a .z) i (sym (c .before .before .before .before .before .before .before .before .before .before .before .before .before .before .before .before .before .before .before .before .before .before .before .lengths-differ .ensures) ∙ c .before .before .before .before .before .before .before .before .before .before .before .before .before .before .before .before .before .before .before .before .before .before .if2 .left) in let e = c .before .before .before .before .before .before .before .before .before .before .before .before .before .before .before .before .before .before .before .before .before .test-contents .ensures ∙ ap (first (secretRefusal (a .z) (i .secret))) (same-choices (a .z) i) in let y = sym e ∙ sym (c .before .before .before .before .before .before .before .before .before .before .before .before .before .before .before .before .before .before .before .before .code .ensures) ∙ c .before .before .before .before .before .before .before .before .before .before .before .before .before .before .before .before .before .before .before .if3 .left in let g = answer-ending (a .z) i z d y in let n = c .before .before .before .before .before .before .before .before .before .before .before .before .finish .ensures in (n .0 ∙ g, n .1 ∙ ap (λ (r : ℕ). atExit r (onesOf (upTo (places (a .z)) (wordOf (a .z) i)) (wordsFor (places (a .z)))) (i .wordOnes)) g, n .2 ∙ ap (λ (r : ℕ). atExit r (twosOf (upTo (places (a .z)) (wordOf (a .z) i)) (wordsFor (places (a .z)))) (i .wordTwos)) g, n .3 ∙ ap (λ (r : ℕ). atExit r (onesOf (upTo (dim (a .z)) (signature (a .z) (wordOf (a .z) i))) (wordsFor (dim (a .z)))) (i .sOnes)) g, n .4 ∙ ap (λ (r : ℕ). atExit r (twosOf (upTo (dim (a .z)) (signature (a .z) (wordOf (a .z) i))) (wordsFor (dim (a .z)))) (i .sTwos)) g, n .5 ∙ work-ended (a .z) (secretOf (a .z) (i .secret)) (i .p) (syndromeOf i) (choicesOf i) (i .workOnes) ∙ ap (λ (r : ℕ). spaceExit r (i .workOnes)) g, n .6 ∙ work-ended (a .z) (secretOf (a .z) (i .secret)) (i .p) (syndromeOf i) (choicesOf i) (i .workTwos) ∙ ap (λ (r : ℕ). spaceExit r (i .workTwos)) g)
 
 pub draw-spec : {M : Type 1} → statement M
 draw-spec =

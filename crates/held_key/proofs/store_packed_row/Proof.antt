@@ -8,11 +8,12 @@ use lib.ListN.{length-take, length-drop}
 use denote.Ref.{now}
 use Rattle.trits.specs.Planes.{wordsFor, onesOf, twosOf}
 use Rattle.trits.proofs.Reading.{length-ones, length-twos}
+use Rattle.trits.proofs.Refusals.{exit-kept, exit-new}
 use Rattle.packed.specs.Packed.{packedRow}
 use Rattle.held_key.specs.Held.{rowTrits, rowWords}
 use Rattle.held_key.specs.Store.{storedHeld}
 use Rattle.held_key.proofs.Room.{room, stored-packed-passed}
-use Rattle.held_key.proofs.Answers.{positive, held-kept, held-new}
+use Rattle.held_key.proofs.Answers.{positive}
 use Rattle.held_key.proofs.Storing.{plane-kept, plane-lent}
 use Rattle.held_key.proofs.store_packed_row.Statement.{statement}
 use Rattle.held_key.proofs.store_packed_row.Tie as tie
@@ -38,31 +39,31 @@ unfolding storedHeld
 returns c =
     let e = c .before .code .ensures ∙ c .before .before .test-packed-row .ensures in
     let l = positive (c .if1 .taken) in
-    (c .before .before .test-packed-row .ensures, (held-kept _ _ e l, (plane-kept _ _ _ e l, plane-kept _ _ _ e l)))
+    (c .before .before .test-packed-row .ensures, exit-kept _ _ e l, plane-kept _ _ _ e l, plane-kept _ _ _ e l)
 
 row-words-requires : tie.Need-row-words-requires
 row-words-requires c κs =
-    stored-packed-passed (c .before .before .before .before .before .before .before .before .args .held) (now (c .before .before .before .before .before .before .before .before .args .ones)) (now (c .before .before .before .before .before .before .before .before .args .twos)) (now (c .before .before .before .before .before .before .before .before .args .row)) (sym (c .before .before .test-packed-row .ensures) ∙ sym (c .before .code .ensures) ∙ c .if1 .left) .0 .is-sound
+    stored-packed-passed _ (sym (c .before .before .test-packed-row .ensures) ∙ sym (c .before .code .ensures) ∙ c .if1 .left) .0 .is-sound
 
 mul-start : tie.Need-mul-start
 mul-start c =
-    let r = stored-packed-passed (c .before .before .before .before .before .before .before .before .before .args .held) (now (c .before .before .before .before .before .before .before .before .before .args .ones)) (now (c .before .before .before .before .before .before .before .before .before .args .twos)) (now (c .before .before .before .before .before .before .before .before .before .args .row)) (sym (c .before .before .before .test-packed-row .ensures) ∙ sym (c .before .before .code .ensures) ∙ c .before .if1 .left) in
+    let r = stored-packed-passed _ (sym (c .before .before .before .test-packed-row .ensures) ∙ sym (c .before .before .code .ensures) ∙ c .before .if1 .left) in
     let e : c .before .before .before .before .before .before .before .before .before .args .held .rows * c .row-words .result ≡ c .before .before .before .before .before .before .before .before .before .args .held .rows * rowWords (c .before .before .before .before .before .before .before .before .before .args .held) = ap (λ (x : ℕ). c .before .before .before .before .before .before .before .before .before .args .held .rows * x) (c .row-words .ensures) in
     omega (arith, e, c .row-words .ensures, r .0 .within, r .0 .all .room, r .0 .ones-are, r .0 .twos-are)
 
 add-end : tie.Need-add-end
 add-end c =
-    let r = stored-packed-passed (c .before .before .before .before .before .before .before .before .before .args .held) (now (c .before .before .before .before .before .before .before .before .before .args .ones)) (now (c .before .before .before .before .before .before .before .before .before .args .twos)) (now (c .before .before .before .before .before .before .before .before .before .args .row)) (sym (c .before .before .before .test-packed-row .ensures) ∙ sym (c .before .before .code .ensures) ∙ c .before .if1 .left) in
+    let r = stored-packed-passed _ (sym (c .before .before .before .test-packed-row .ensures) ∙ sym (c .before .before .code .ensures) ∙ c .before .if1 .left) in
     let e : c .before .before .before .before .before .before .before .before .before .args .held .rows * c .row-words .result ≡ c .before .before .before .before .before .before .before .before .before .args .held .rows * rowWords (c .before .before .before .before .before .before .before .before .before .args .held) = ap (λ (x : ℕ). c .before .before .before .before .before .before .before .before .before .args .held .rows * x) (c .row-words .ensures) in
     omega (arith, e, c .row-words .ensures, r .0 .within, r .0 .all .room, r .0 .ones-are, r .0 .twos-are)
 
 row-trits-requires : tie.Need-row-trits-requires
 row-trits-requires c κs =
-    stored-packed-passed (c .before .before .before .before .before .before .before .before .before .args .held) (now (c .before .before .before .before .before .before .before .before .before .args .ones)) (now (c .before .before .before .before .before .before .before .before .before .args .twos)) (now (c .before .before .before .before .before .before .before .before .before .args .row)) (sym (c .before .before .before .test-packed-row .ensures) ∙ sym (c .before .before .code .ensures) ∙ c .before .if1 .left) .0 .is-sound
+    stored-packed-passed _ (sym (c .before .before .before .test-packed-row .ensures) ∙ sym (c .before .before .code .ensures) ∙ c .before .if1 .left) .0 .is-sound
 
 mul-write-part : tie.Need-mul-write-part
 mul-write-part c =
-    let r = stored-packed-passed (c .before .before .before .before .before .before .before .before .before .before .args .held) (now (c .before .before .before .before .before .before .before .before .before .before .args .ones)) (now (c .before .before .before .before .before .before .before .before .before .before .args .twos)) (now (c .before .before .before .before .before .before .before .before .before .before .args .row)) (sym (c .before .before .before .before .test-packed-row .ensures) ∙ sym (c .before .before .before .code .ensures) ∙ c .before .before .if1 .left) in
+    let r = stored-packed-passed _ (sym (c .before .before .before .before .test-packed-row .ensures) ∙ sym (c .before .before .before .code .ensures) ∙ c .before .before .if1 .left) in
     let e : c .before .before .before .before .before .before .before .before .before .before .args .held .rows * c .before .row-words .result ≡ c .before .before .before .before .before .before .before .before .before .before .args .held .rows * rowWords (c .before .before .before .before .before .before .before .before .before .before .args .held) = ap (λ (x : ℕ). c .before .before .before .before .before .before .before .before .before .before .args .held .rows * x) (c .before .row-words .ensures) in
     omega (arith, e, c .before .row-words .ensures, r .0 .within, r .0 .all .room, r .0 .ones-are, r .0 .twos-are)
 
@@ -76,13 +77,13 @@ part-write-part-start c =
 
 part-write-part-end : tie.Need-part-write-part-end
 part-write-part-end c =
-    let r = stored-packed-passed (c .before .before .before .before .before .before .before .before .before .before .args .held) (now (c .before .before .before .before .before .before .before .before .before .before .args .ones)) (now (c .before .before .before .before .before .before .before .before .before .before .args .twos)) (now (c .before .before .before .before .before .before .before .before .before .before .args .row)) (sym (c .before .before .before .before .test-packed-row .ensures) ∙ sym (c .before .before .before .code .ensures) ∙ c .before .before .if1 .left) in
+    let r = stored-packed-passed _ (sym (c .before .before .before .before .test-packed-row .ensures) ∙ sym (c .before .before .before .code .ensures) ∙ c .before .before .if1 .left) in
     let e : c .before .before .before .before .before .before .before .before .before .before .args .held .rows * c .before .row-words .result ≡ c .before .before .before .before .before .before .before .before .before .before .args .held .rows * rowWords (c .before .before .before .before .before .before .before .before .before .before .args .held) = ap (λ (x : ℕ). c .before .before .before .before .before .before .before .before .before .before .args .held .rows * x) (c .before .row-words .ensures) in
     omega (arith, e, c .before .row-words .ensures, r .0 .within, r .0 .all .room, r .0 .ones-are, r .0 .twos-are)
 
 mul-write-part-2 : tie.Need-mul-write-part-2
 mul-write-part-2 c =
-    let r = stored-packed-passed (c .before .before .before .before .before .before .before .before .before .before .before .args .held) (now (c .before .before .before .before .before .before .before .before .before .before .before .args .ones)) (now (c .before .before .before .before .before .before .before .before .before .before .before .args .twos)) (now (c .before .before .before .before .before .before .before .before .before .before .before .args .row)) (sym (c .before .before .before .before .before .test-packed-row .ensures) ∙ sym (c .before .before .before .before .code .ensures) ∙ c .before .before .before .if1 .left) in
+    let r = stored-packed-passed _ (sym (c .before .before .before .before .before .test-packed-row .ensures) ∙ sym (c .before .before .before .before .code .ensures) ∙ c .before .before .before .if1 .left) in
     let e : c .before .before .before .before .before .before .before .before .before .before .before .args .held .rows * c .before .before .row-words .result ≡ c .before .before .before .before .before .before .before .before .before .before .before .args .held .rows * rowWords (c .before .before .before .before .before .before .before .before .before .before .before .args .held) = ap (λ (x : ℕ). c .before .before .before .before .before .before .before .before .before .before .before .args .held .rows * x) (c .before .before .row-words .ensures) in
     omega (arith, e, c .before .before .row-words .ensures, r .0 .within, r .0 .all .room, r .0 .ones-are, r .0 .twos-are)
 
@@ -96,7 +97,7 @@ part-write-part-start-2 c =
 
 part-write-part-end-2 : tie.Need-part-write-part-end-2
 part-write-part-end-2 c =
-    let r = stored-packed-passed (c .before .before .before .before .before .before .before .before .before .before .before .args .held) (now (c .before .before .before .before .before .before .before .before .before .before .before .args .ones)) (now (c .before .before .before .before .before .before .before .before .before .before .before .args .twos)) (now (c .before .before .before .before .before .before .before .before .before .before .before .args .row)) (sym (c .before .before .before .before .before .test-packed-row .ensures) ∙ sym (c .before .before .before .before .code .ensures) ∙ c .before .before .before .if1 .left) in
+    let r = stored-packed-passed _ (sym (c .before .before .before .before .before .test-packed-row .ensures) ∙ sym (c .before .before .before .before .code .ensures) ∙ c .before .before .before .if1 .left) in
     let e : c .before .before .before .before .before .before .before .before .before .before .before .args .held .rows * c .before .before .row-words .result ≡ c .before .before .before .before .before .before .before .before .before .before .before .args .held .rows * rowWords (c .before .before .before .before .before .before .before .before .before .before .before .args .held) = ap (λ (x : ℕ). c .before .before .before .before .before .before .before .before .before .before .before .args .held .rows * x) (c .before .before .row-words .ensures) in
     omega (arith, e, c .before .before .row-words .ensures, r .0 .within, r .0 .all .room, r .0 .ones-are, r .0 .twos-are)
 
@@ -106,7 +107,7 @@ write-part-requires c κs =
     let w = c .before .before .before .row-words in
     let d = c .before .before .before .before in
     let z = sym (d .before .before .test-packed-row .ensures) ∙ sym (d .before .code .ensures) ∙ d .if1 .left in
-    let r = stored-packed-passed (s .args .held) (now (s .args .ones)) (now (s .args .twos)) (now (s .args .row)) z in
+    let r = stored-packed-passed _ z in
     let e : s .args .held .rows * w .result ≡ s .args .held .rows * rowWords (s .args .held) = ap (λ (x : ℕ). s .args .held .rows * x) (w .ensures) in
     let m = c .before .before .row-trits .ensures in (
       (
@@ -120,7 +121,7 @@ write-part-requires c κs =
 
 count-row-requires : tie.Need-count-row-requires
 count-row-requires c κs =
-    stored-packed-passed (c .before .before .before .before .before .before .before .before .before .before .before .before .before .before .before .before .before .args .held) (now (c .before .before .before .before .before .before .before .before .before .before .before .before .before .before .before .before .before .args .ones)) (now (c .before .before .before .before .before .before .before .before .before .before .before .before .before .before .before .before .before .args .twos)) (now (c .before .before .before .before .before .before .before .before .before .before .before .before .before .before .before .before .before .args .row)) (sym (c .before .before .before .before .before .before .before .before .before .before .before .test-packed-row .ensures) ∙ sym (c .before .before .before .before .before .before .before .before .before .before .code .ensures) ∙ c .before .before .before .before .before .before .before .before .before .if1 .left) .0 .is-sound
+    stored-packed-passed _ (sym (c .before .before .before .before .before .before .before .before .before .before .before .test-packed-row .ensures) ∙ sym (c .before .before .before .before .before .before .before .before .before .before .code .ensures) ∙ c .before .before .before .before .before .before .before .before .before .if1 .left) .0 .is-sound
 
 same-length-3 : tie.Need-same-length-3
 same-length-3 c =
@@ -141,13 +142,9 @@ returns-2 c =
     let g = c .before .before .before .before .before .write-part .ensures in
     let v = (packedRow (rowTrits (c .before .before .before .before .before .before .before .before .before .before .before .before .before .before .before .before .before .before .args .held)) (now (c .before .before .before .before .before .before .before .before .before .before .before .before .before .before .before .before .before .before .args .row))) in (
       c .before .before .before .before .before .before .before .before .before .before .before .before .test-packed-row .ensures,
-      (
-        c .count-row .ensures ∙ held-new _ _ z,
-        (
-          plane-lent _ _ _ z e (d ∙ c .before .before .before .before .before .before .before .before .before .row-words .ensures ∙ sym (length-ones v (rowWords (c .before .before .before .before .before .before .before .before .before .before .before .before .before .before .before .before .before .before .args .held)))) (g .ones-are ∙ ap (λ (m : ℕ). onesOf (packedRow m (now (c .before .before .before .before .before .before .before .before .before .before .before .before .before .before .before .before .before .before .args .row))) (wordsFor m)) (c .before .before .before .before .before .before .before .before .row-trits .ensures)),
-          plane-lent _ _ _ z e (d ∙ c .before .before .before .before .before .before .before .before .before .row-words .ensures ∙ sym (length-twos v (rowWords (c .before .before .before .before .before .before .before .before .before .before .before .before .before .before .before .before .before .before .args .held)))) (g .twos-are ∙ ap (λ (m : ℕ). twosOf (packedRow m (now (c .before .before .before .before .before .before .before .before .before .before .before .before .before .before .before .before .before .before .args .row))) (wordsFor m)) (c .before .before .before .before .before .before .before .before .row-trits .ensures)),
-        ),
-      ),
+      c .count-row .ensures ∙ exit-new _ _ z,
+      plane-lent _ _ _ z e (d ∙ c .before .before .before .before .before .before .before .before .before .row-words .ensures ∙ sym (length-ones v (rowWords (c .before .before .before .before .before .before .before .before .before .before .before .before .before .before .before .before .before .before .args .held)))) (g .ones-are ∙ ap (λ (m : ℕ). onesOf (packedRow m (now (c .before .before .before .before .before .before .before .before .before .before .before .before .before .before .before .before .before .before .args .row))) (wordsFor m)) (c .before .before .before .before .before .before .before .before .row-trits .ensures)),
+      plane-lent _ _ _ z e (d ∙ c .before .before .before .before .before .before .before .before .before .row-words .ensures ∙ sym (length-twos v (rowWords (c .before .before .before .before .before .before .before .before .before .before .before .before .before .before .before .before .before .before .args .held)))) (g .twos-are ∙ ap (λ (m : ℕ). twosOf (packedRow m (now (c .before .before .before .before .before .before .before .before .before .before .before .before .before .before .before .before .before .before .args .row))) (wordsFor m)) (c .before .before .before .before .before .before .before .before .row-trits .ensures)),
     )
 
 pub store-packed-row-spec : {M : Type 1} → statement M

@@ -20,7 +20,7 @@ same-length-2 c = search needs
 returns : tie.Need-returns
 returns c =
     let e = c .before .before .before .before .before .check-packed .ensures in
-    (c .tell .ensures ∙ e .0, (e .1 .0, e .1 .1))
+    (c .tell .ensures ∙ e .0, e .1, e .2)
 
 pub wave-check-spec : {M : Type 1} → statement M
 wave-check-spec =

@@ -1,6 +1,6 @@
 // A call, and a line that says what it answered and what its outputs are then.
 ghost use mathlib.Core.Path.{_≡_};
-ghost use Rattle.packed.specs.Calls.{packExit, unpackOnes, unpackTwos, streamOnes, streamTwos};
+ghost use Rattle.packed.specs.Calls.{packOf, packExit, unpackOf, unpackOnes, unpackTwos, streamOf, streamOnes, streamTwos};
 use libc::STDOUT_FILENO;
 use trits::refusal::Outcome;
 
@@ -50,7 +50,8 @@ fn planes(ones: &[u64], twos: &[u64]) {
 }
 
 pub fn pack(m: usize, ones: &[u64], twos: &[u64], bytes: &mut [u8])
-    ensures { λ _. ⌜ now (bytes .exit) ≡ packExit m (now (ones .entry)) (now (twos .entry)) (now (bytes .entry)) ⌝ }
+    ensures { λ _. ⌜ (let c = packOf m (now (ones .entry)) (now (twos .entry)) (now (bytes .entry)) in
+        (now (bytes .exit) ≡ packExit c)) ⌝ }
 {
     let outcome = packing::pack(m, ones, twos, bytes);
     io::write_all(STDOUT_FILENO, b"pack");
@@ -62,8 +63,8 @@ pub fn pack(m: usize, ones: &[u64], twos: &[u64], bytes: &mut [u8])
 }
 
 pub fn unpack(m: usize, bytes: &[u8], ones: &mut [u64], twos: &mut [u64])
-    ensures { λ _. ⌜ now (ones .exit) ≡ unpackOnes m (now (bytes .entry)) (now (ones .entry)) (now (twos .entry)) ⌝ }
-    ensures { λ _. ⌜ now (twos .exit) ≡ unpackTwos m (now (bytes .entry)) (now (ones .entry)) (now (twos .entry)) ⌝ }
+    ensures { λ _. ⌜ (let c = unpackOf m (now (bytes .entry)) (now (ones .entry)) (now (twos .entry)) in
+        (now (ones .exit) ≡ unpackOnes c) × (now (twos .exit) ≡ unpackTwos c)) ⌝ }
 {
     let outcome = packing::unpack(m, bytes, ones, twos);
     io::write_all(STDOUT_FILENO, b"unpack");
@@ -73,8 +74,8 @@ pub fn unpack(m: usize, bytes: &[u8], ones: &mut [u64], twos: &mut [u64])
 }
 
 pub fn stream(m: usize, bytes: &[u8], ones: &mut [u64], twos: &mut [u64])
-    ensures { λ _. ⌜ now (ones .exit) ≡ streamOnes m (now (bytes .entry)) (now (ones .entry)) (now (twos .entry)) ⌝ }
-    ensures { λ _. ⌜ now (twos .exit) ≡ streamTwos m (now (bytes .entry)) (now (ones .entry)) (now (twos .entry)) ⌝ }
+    ensures { λ _. ⌜ (let c = streamOf m (now (bytes .entry)) (now (ones .entry)) (now (twos .entry)) in
+        (now (ones .exit) ≡ streamOnes c) × (now (twos .exit) ≡ streamTwos c)) ⌝ }
 {
     let outcome = packing::from_stream(m, bytes, ones, twos);
     io::write_all(STDOUT_FILENO, b"stream");

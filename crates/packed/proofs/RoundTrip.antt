@@ -19,7 +19,7 @@ use Rattle.trits.proofs.Matrix.{one-row-past}
 use Rattle.trits.proofs.Ends.{upto-in, upto-out, upto-ended}
 use Rattle.trits.proofs.Refusals.{passed-refuse, passed-demand, planes-passed, exit-new}
 use Rattle.packed.specs.Packed.{bytesFor, byteOf, digitOf, packedAt, packedRow, packedBytes, badByte}
-use Rattle.packed.specs.Calls.{packRefusal, packExit, unpackRefusal, unpackOnes, unpackTwos}
+use Rattle.packed.specs.Calls.{Pack, packRefusal, packExit, unpackOf, unpackRefusal, unpackOnes, unpackTwos}
 use Rattle.trits.proofs.Arithmetic.{trit-number}
 use Rattle.packed.proofs.Digits.{digit-number, byte-lt, digit-byte, byte-digits, packed-place}
 use Rattle.packed.proofs.Keeping.{big, bytes-small}
@@ -109,63 +109,68 @@ module _ {m : ℕ} {bytes : List ℕ} (o : InOrder m bytes) where
 -- ---- the calls: unpack of what pack wrote gives the row's own words back
 
 -- what a row is that pack does not refuse
-pub record Packable (m : ℕ) (ones twos bytes : List ℕ) : Type 0 where
-  pub few : m ≤ 16384
-  pub ones-size : length ones ≡ wordsFor m
-  pub twos-size : length twos ≡ wordsFor m
-  pub bytes-size : length bytes ≡ bytesFor m
-  pub both : bothSet ones twos ≡ false
-  pub past : pastEnd ones twos m ≡ false
+pub record Packable (c : Pack) : Type 0 where
+  pub few : c .m ≤ 16384
+  pub ones-size : length (c .ones) ≡ wordsFor (c .m)
+  pub twos-size : length (c .twos) ≡ wordsFor (c .m)
+  pub bytes-size : length (c .bytes) ≡ bytesFor (c .m)
+  pub both : bothSet (c .ones) (c .twos) ≡ false
+  pub past : pastEnd (c .ones) (c .twos) (c .m) ≡ false
 
-pub packable : (m : ℕ) (ones twos bytes : List ℕ) → packRefusal m ones twos bytes ≡ 0 → Packable m ones twos bytes
+pub packable : (c : Pack) → packRefusal c ≡ 0 → Packable c
 unfolding packRefusal
-packable m ones twos bytes e =
+packable c e =
+    let m = c .m in
     let a = passed-refuse (ltb 16384 m) 1 _ (lit< tt) e in
-    let b = passed-demand (eqb (length ones) (wordsFor m)) 2 _ (lit< tt) (a .1) in
-    let c = passed-demand (eqb (length twos) (wordsFor m)) 2 _ (lit< tt) (b .1) in
-    let d = passed-demand (eqb (length bytes) (bytesFor m)) 2 _ (lit< tt) (c .1) in
-    let p = planes-passed ones twos 1 m (d .1) in
-    let o = eqb-true (length ones) (wordsFor m) (b .0) in
-    let t = eqb-true (length twos) (wordsFor m) (c .0) in
+    let b = passed-demand (eqb (length (c .ones)) (wordsFor m)) 2 _ (lit< tt) (a .1) in
+    let d = passed-demand (eqb (length (c .twos)) (wordsFor m)) 2 _ (lit< tt) (b .1) in
+    let f = passed-demand (eqb (length (c .bytes)) (bytesFor m)) 2 _ (lit< tt) (d .1) in
+    let p = planes-passed (c .ones) (c .twos) 1 m (f .1) in
+    let o = eqb-true (length (c .ones)) (wordsFor m) (b .0) in
+    let t = eqb-true (length (c .twos)) (wordsFor m) (d .0) in
     record {
       few = ltb-false 16384 m (a .0);
       ones-size = o;
       twos-size = t;
-      bytes-size = eqb-true (length bytes) (bytesFor m) (d .0);
+      bytes-size = eqb-true (length (c .bytes)) (bytesFor m) (f .0);
       both = p .0;
-      past = sym (one-row-past ones twos m o t) ∙ p .1;
+      past = sym (one-row-past (c .ones) (c .twos) m o t) ∙ p .1;
     }
 
-module _ (m : ℕ) (ones twos bytes : List ℕ) (e : packRefusal m ones twos bytes ≡ 0) (ho : (j : ℕ) → Fits w64 (getD ones j 0)) (ht : (j : ℕ) → Fits w64 (getD twos j 0)) where
-  p : Packable m ones twos bytes
-  p = packable m ones twos bytes e
+module _ (c : Pack) (e : packRefusal c ≡ 0) (ho : (j : ℕ) → Fits w64 (getD (c .ones) j 0)) (ht : (j : ℕ) → Fits w64 (getD (c .twos) j 0)) where
+  abbrev m : ℕ
+  m = c .m
 
-  row : Row ones twos
+  abbrev v : ℕ → Trit
+  v = tritAt (c .ones) (c .twos)
+
+  p : Packable c
+  p = packable c e
+
+  row : Row (c .ones) (c .twos)
   row = record { same = p .twos-size ∙ sym (p .ones-size); apart = both-apart ho ht (p .both) }
 
   -- what pack wrote
-  wrote : packExit m ones twos bytes ≡ packedBytes m (tritAt ones twos)
+  wrote : packExit c ≡ packedBytes m v
   unfolding packExit
-  wrote = sym (exit-new (packedBytes m (tritAt ones twos)) bytes e)
+  wrote = sym (exit-new (packedBytes m v) (c .bytes) e)
 
-  holds : Holds ones twos (wordsFor m) (packedRow m (packExit m ones twos bytes))
+  holds : Holds (c .ones) (c .twos) (wordsFor m) (packedRow m (packExit c))
   holds =
-      let v = tritAt ones twos in
-      let s : v ≡ packedRow m (packExit m ones twos bytes) = sym (ap (packedRow m) wrote ∙ packed-back m v ∙ upto-ended v m (past-zero ones twos m (row .same) (p .past))) in
-      subst (λ (u : ℕ → Trit). Holds ones twos (wordsFor m) u) s (read-holds ones twos (wordsFor m) row (p .ones-size) (λ j. ho j .fits) (λ j. ht j .fits))
+      let s : v ≡ packedRow m (packExit c) = sym (ap (packedRow m) wrote ∙ packed-back m v ∙ upto-ended v m (past-zero (c .ones) (c .twos) m (row .same) (p .past))) in
+      subst (λ (u : ℕ → Trit). Holds (c .ones) (c .twos) (wordsFor m) u) s (read-holds (c .ones) (c .twos) (wordsFor m) row (p .ones-size) (λ j. ho j .fits) (λ j. ht j .fits))
 
-  module _ (o t : List ℕ) (lo : length o ≡ wordsFor m) (lt : length t ≡ wordsFor m) where
+  module _ (o t : List ℕ) (lo : length o ≡ wordsFor (c .m)) (lt : length t ≡ wordsFor (c .m)) where
     -- unpack does not refuse it
-    pub back-passes : unpackRefusal m (packExit m ones twos bytes) o t ≡ 0
+    pub back-passes : unpackRefusal (unpackOf (c .m) (packExit c) o t) ≡ 0
     back-passes =
-        sym (bytes-good (packExit m ones twos bytes) (ap badByte wrote ∙ packed-good m (tritAt ones twos))
-        ∙ unpack-passed m o t (packExit m ones twos bytes) (p .few) (ap length wrote ∙ packed-length m (tritAt ones twos)) lo lt)
+        sym (bytes-good (packExit c) (ap badByte wrote ∙ packed-good m v) ∙ unpack-passed m o t (packExit c) (p .few) (ap length wrote ∙ packed-length m v) lo lt)
 
     -- and gives back the words that were packed, whatever the planes held
-    pub back-ones : unpackOnes m (packExit m ones twos bytes) o t ≡ ones
+    pub back-ones : unpackOnes (unpackOf (c .m) (packExit c) o t) ≡ c .ones
     unfolding unpackOnes
-    back-ones = sym (exit-new (onesOf (packedRow m (packExit m ones twos bytes)) (wordsFor m)) o back-passes) ∙ sym (holds .ones-are)
+    back-ones = sym (exit-new (onesOf (packedRow m (packExit c)) (wordsFor m)) o back-passes) ∙ sym (holds .ones-are)
 
-    pub back-twos : unpackTwos m (packExit m ones twos bytes) o t ≡ twos
+    pub back-twos : unpackTwos (unpackOf (c .m) (packExit c) o t) ≡ c .twos
     unfolding unpackTwos
-    back-twos = sym (exit-new (twosOf (packedRow m (packExit m ones twos bytes)) (wordsFor m)) t back-passes) ∙ sym (holds .twos-are)
+    back-twos = sym (exit-new (twosOf (packedRow m (packExit c)) (wordsFor m)) t back-passes) ∙ sym (holds .twos-are)

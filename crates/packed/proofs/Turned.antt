@@ -11,74 +11,74 @@ use Rattle.trits.specs.Refusal.{refuse, planesRefusal}
 use Rattle.trits.proofs.Refusals.{passed-refuse}
 use Rattle.packed.specs.Packed.{bytesFor, badByte, packedRefusal}
 use Rattle.packed.specs.Stream.{kept, tooShort}
-use Rattle.packed.specs.Calls.{packRefusal, unpackRefusal, streamRefusal}
+use Rattle.packed.specs.Calls.{packOf, packRefusal, unpackOf, unpackRefusal, streamOf, streamRefusal}
 
 module _ (m : ℕ) (ones twos bytes : List ℕ) where
   -- too many trits
   module _ (l : 16384 < m) where
-    pub pack-size : 1 ≡ packRefusal m ones twos bytes
+    pub pack-size : 1 ≡ packRefusal (packOf m ones twos bytes)
     unfolding packRefusal
     pack-size = rw (lt-ltb 16384 m l)
 
-    pub unpack-size : 1 ≡ unpackRefusal m bytes ones twos
+    pub unpack-size : 1 ≡ unpackRefusal (unpackOf m bytes ones twos)
     unfolding unpackRefusal
     unpack-size = rw (lt-ltb 16384 m l)
 
-    pub stream-size : 1 ≡ streamRefusal m bytes ones twos
+    pub stream-size : 1 ≡ streamRefusal (streamOf m bytes ones twos)
     unfolding streamRefusal
     stream-size = rw (lt-ltb 16384 m l)
 
   -- a wrong length, of the planes or of the bytes
   module _ (l : m ≤ 16384) where
-    pub pack-ones : (length ones ≡ wordsFor m → ⊥) → 2 ≡ packRefusal m ones twos bytes
+    pub pack-ones : (length ones ≡ wordsFor m → ⊥) → 2 ≡ packRefusal (packOf m ones twos bytes)
     unfolding packRefusal
     pack-ones f = rw (le-ltb 16384 m l, ne-eqb _ _ f)
 
-    pub stream-ones : (length ones ≡ wordsFor m → ⊥) → 2 ≡ streamRefusal m bytes ones twos
+    pub stream-ones : (length ones ≡ wordsFor m → ⊥) → 2 ≡ streamRefusal (streamOf m bytes ones twos)
     unfolding streamRefusal
     stream-ones f = rw (le-ltb 16384 m l, ne-eqb _ _ f)
 
-    pub unpack-bytes : (length bytes ≡ bytesFor m → ⊥) → 2 ≡ unpackRefusal m bytes ones twos
+    pub unpack-bytes : (length bytes ≡ bytesFor m → ⊥) → 2 ≡ unpackRefusal (unpackOf m bytes ones twos)
     unfolding unpackRefusal
     unpack-bytes f = rw (le-ltb 16384 m l, ne-eqb _ _ f)
 
     module _ (o : length ones ≡ wordsFor m) where
-      pub pack-twos : (length twos ≡ wordsFor m → ⊥) → 2 ≡ packRefusal m ones twos bytes
+      pub pack-twos : (length twos ≡ wordsFor m → ⊥) → 2 ≡ packRefusal (packOf m ones twos bytes)
       unfolding packRefusal
       pack-twos f = rw (le-ltb 16384 m l, eq-eqb _ _ o, ne-eqb _ _ f)
 
-      pub stream-twos : (length twos ≡ wordsFor m → ⊥) → 2 ≡ streamRefusal m bytes ones twos
+      pub stream-twos : (length twos ≡ wordsFor m → ⊥) → 2 ≡ streamRefusal (streamOf m bytes ones twos)
       unfolding streamRefusal
       stream-twos f = rw (le-ltb 16384 m l, eq-eqb _ _ o, ne-eqb _ _ f)
 
       module _ (t : length twos ≡ wordsFor m) where
-        pub pack-bytes : (length bytes ≡ bytesFor m → ⊥) → 2 ≡ packRefusal m ones twos bytes
+        pub pack-bytes : (length bytes ≡ bytesFor m → ⊥) → 2 ≡ packRefusal (packOf m ones twos bytes)
         unfolding packRefusal
         pack-bytes f = rw (le-ltb 16384 m l, eq-eqb _ _ o, eq-eqb _ _ t, ne-eqb _ _ f)
 
         -- the stream decides
-        pub stream-passed : refuse (tooShort m bytes) 6 0 ≡ streamRefusal m bytes ones twos
+        pub stream-passed : refuse (tooShort m bytes) 6 0 ≡ streamRefusal (streamOf m bytes ones twos)
         unfolding streamRefusal
         stream-passed = rw (le-ltb 16384 m l, eq-eqb _ _ o, eq-eqb _ _ t)
 
     module _ (b : length bytes ≡ bytesFor m) where
-      pub unpack-ones : (length ones ≡ wordsFor m → ⊥) → 2 ≡ unpackRefusal m bytes ones twos
+      pub unpack-ones : (length ones ≡ wordsFor m → ⊥) → 2 ≡ unpackRefusal (unpackOf m bytes ones twos)
       unfolding unpackRefusal
       unpack-ones f = rw (le-ltb 16384 m l, eq-eqb _ _ b, ne-eqb _ _ f)
 
       module _ (o : length ones ≡ wordsFor m) where
-        pub unpack-twos : (length twos ≡ wordsFor m → ⊥) → 2 ≡ unpackRefusal m bytes ones twos
+        pub unpack-twos : (length twos ≡ wordsFor m → ⊥) → 2 ≡ unpackRefusal (unpackOf m bytes ones twos)
         unfolding unpackRefusal
         unpack-twos f = rw (le-ltb 16384 m l, eq-eqb _ _ b, eq-eqb _ _ o, ne-eqb _ _ f)
 
         module _ (t : length twos ≡ wordsFor m) where
           -- the bytes decide
-          pub unpack-passed : packedRefusal bytes ≡ unpackRefusal m bytes ones twos
+          pub unpack-passed : packedRefusal bytes ≡ unpackRefusal (unpackOf m bytes ones twos)
           unfolding unpackRefusal
           unpack-passed = rw (le-ltb 16384 m l, eq-eqb _ _ b, eq-eqb _ _ o, eq-eqb _ _ t)
 
           -- the row decides
-          pub pack-passed : planesRefusal ones twos 1 m ≡ packRefusal m ones twos bytes
+          pub pack-passed : planesRefusal ones twos 1 m ≡ packRefusal (packOf m ones twos bytes)
           unfolding packRefusal
           pack-passed = rw (le-ltb 16384 m l, eq-eqb _ _ o, eq-eqb _ _ t, eq-eqb _ _ b)
 

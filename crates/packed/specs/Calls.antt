@@ -14,48 +14,84 @@ mostTrits = 16384
 
 -- ---- pack: a row of m trits becomes bytes
 
--- 1, every length, then the row's contents
-unfoldable pub packRefusal : ℕ → List ℕ → List ℕ → List ℕ → ℕ
-packRefusal m ones twos bytes =
-    refuse (ltb mostTrits m) 1
-    (demand (eqb (length ones) (wordsFor m)) 2
-    (demand (eqb (length twos) (wordsFor m)) 2
-    (demand (eqb (length bytes) (bytesFor m)) 2
-    (planesRefusal ones twos 1 m))))
+-- what is lent: m, the row in planes, and the bytes as they are at entry
+pub record Pack : Type 0 where
+  pub m : ℕ
+  pub ones : List ℕ
+  pub twos : List ℕ
+  pub bytes : List ℕ
 
-unfoldable pub packExit : ℕ → List ℕ → List ℕ → List ℕ → List ℕ
-packExit m ones twos bytes = atExit (packRefusal m ones twos bytes) (packedBytes m (tritAt ones twos)) bytes
+abbrev pub packOf : ℕ → List ℕ → List ℕ → List ℕ → Pack
+packOf m ones twos bytes = record { m = m; ones = ones; twos = twos; bytes = bytes }
+
+-- 1, every length, then the row's contents
+unfoldable pub packRefusal : Pack → ℕ
+packRefusal c =
+    let m = c .m in
+    refuse (ltb mostTrits m) 1
+    (demand (eqb (length (c .ones)) (wordsFor m)) 2
+    (demand (eqb (length (c .twos)) (wordsFor m)) 2
+    (demand (eqb (length (c .bytes)) (bytesFor m)) 2
+    (planesRefusal (c .ones) (c .twos) 1 m))))
+
+-- the bytes at exit
+unfoldable pub packExit : Pack → List ℕ
+packExit c = atExit (packRefusal c) (packedBytes (c .m) (tritAt (c .ones) (c .twos))) (c .bytes)
 
 -- ---- unpack: bytes become a row of m trits
 
+-- what is lent: m, the bytes, and the planes as they are at entry
+pub record Unpack : Type 0 where
+  pub m : ℕ
+  pub bytes : List ℕ
+  pub ones : List ℕ
+  pub twos : List ℕ
+
+abbrev pub unpackOf : ℕ → List ℕ → List ℕ → List ℕ → Unpack
+unpackOf m bytes ones twos = record { m = m; bytes = bytes; ones = ones; twos = twos }
+
 -- 1, every length, then the bytes
-unfoldable pub unpackRefusal : ℕ → List ℕ → List ℕ → List ℕ → ℕ
-unpackRefusal m bytes ones twos =
+unfoldable pub unpackRefusal : Unpack → ℕ
+unpackRefusal c =
+    let m = c .m in
     refuse (ltb mostTrits m) 1
-    (demand (eqb (length bytes) (bytesFor m)) 2
-    (demand (eqb (length ones) (wordsFor m)) 2
-    (demand (eqb (length twos) (wordsFor m)) 2
-    (packedRefusal bytes))))
+    (demand (eqb (length (c .bytes)) (bytesFor m)) 2
+    (demand (eqb (length (c .ones)) (wordsFor m)) 2
+    (demand (eqb (length (c .twos)) (wordsFor m)) 2
+    (packedRefusal (c .bytes)))))
 
-unfoldable pub unpackOnes : ℕ → List ℕ → List ℕ → List ℕ → List ℕ
-unpackOnes m bytes ones twos = atExit (unpackRefusal m bytes ones twos) (onesOf (packedRow m bytes) (wordsFor m)) ones
+-- the planes at exit
+unfoldable pub unpackOnes : Unpack → List ℕ
+unpackOnes c = atExit (unpackRefusal c) (onesOf (packedRow (c .m) (c .bytes)) (wordsFor (c .m))) (c .ones)
 
-unfoldable pub unpackTwos : ℕ → List ℕ → List ℕ → List ℕ → List ℕ
-unpackTwos m bytes ones twos = atExit (unpackRefusal m bytes ones twos) (twosOf (packedRow m bytes) (wordsFor m)) twos
+unfoldable pub unpackTwos : Unpack → List ℕ
+unpackTwos c = atExit (unpackRefusal c) (twosOf (packedRow (c .m) (c .bytes)) (wordsFor (c .m))) (c .twos)
 
 -- ---- from_stream: a stream of any length becomes a row of m trits
 
+-- what is lent: m, the stream, and the planes as they are at entry
+pub record FromStream : Type 0 where
+  pub m : ℕ
+  pub bytes : List ℕ
+  pub ones : List ℕ
+  pub twos : List ℕ
+
+abbrev pub streamOf : ℕ → List ℕ → List ℕ → List ℕ → FromStream
+streamOf m bytes ones twos = record { m = m; bytes = bytes; ones = ones; twos = twos }
+
 -- 1, every length, then 6
-unfoldable pub streamRefusal : ℕ → List ℕ → List ℕ → List ℕ → ℕ
-streamRefusal m bytes ones twos =
+unfoldable pub streamRefusal : FromStream → ℕ
+streamRefusal c =
+    let m = c .m in
     refuse (ltb mostTrits m) 1
-    (demand (eqb (length ones) (wordsFor m)) 2
-    (demand (eqb (length twos) (wordsFor m)) 2
-    (refuse (tooShort m bytes) 6
+    (demand (eqb (length (c .ones)) (wordsFor m)) 2
+    (demand (eqb (length (c .twos)) (wordsFor m)) 2
+    (refuse (tooShort m (c .bytes)) 6
     0)))
 
-unfoldable pub streamOnes : ℕ → List ℕ → List ℕ → List ℕ → List ℕ
-streamOnes m bytes ones twos = atExit (streamRefusal m bytes ones twos) (onesOf (streamRow m bytes) (wordsFor m)) ones
+-- the planes at exit
+unfoldable pub streamOnes : FromStream → List ℕ
+streamOnes c = atExit (streamRefusal c) (onesOf (streamRow (c .m) (c .bytes)) (wordsFor (c .m))) (c .ones)
 
-unfoldable pub streamTwos : ℕ → List ℕ → List ℕ → List ℕ → List ℕ
-streamTwos m bytes ones twos = atExit (streamRefusal m bytes ones twos) (twosOf (streamRow m bytes) (wordsFor m)) twos
+unfoldable pub streamTwos : FromStream → List ℕ
+streamTwos c = atExit (streamRefusal c) (twosOf (streamRow (c .m) (c .bytes)) (wordsFor (c .m))) (c .twos)

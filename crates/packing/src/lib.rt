@@ -6,14 +6,14 @@ pub mod read; // bytes made from a row
 
 ghost use mathlib.Core.Path.{_≡_};
 ghost use Rattle.trits.specs.Refusal.{codeOf};
-ghost use Rattle.packed.specs.Calls.{packRefusal, packExit, unpackRefusal, unpackOnes, unpackTwos, streamRefusal, streamOnes, streamTwos};
+ghost use Rattle.packed.specs.Calls.{packOf, packRefusal, packExit, unpackOf, unpackRefusal, unpackOnes, unpackTwos, streamOf, streamRefusal, streamOnes, streamTwos};
 use trits::refusal::Outcome;
 use trits::refusal::Refusal;
 
 // A row of m trits is packed into bytes.
 pub fn pack(m: usize, ones: &[u64], twos: &[u64], bytes: &mut [u8]) -> Outcome
-    ensures { λ r. ⌜ codeOf r ≡ packRefusal m (now (ones .entry)) (now (twos .entry)) (now (bytes .entry)) ⌝ }
-    ensures { λ _. ⌜ now (bytes .exit) ≡ packExit m (now (ones .entry)) (now (twos .entry)) (now (bytes .entry)) ⌝ }
+    ensures { λ r. ⌜ (let c = packOf m (now (ones .entry)) (now (twos .entry)) (now (bytes .entry)) in
+        (codeOf r ≡ packRefusal c) × (now (bytes .exit) ≡ packExit c)) ⌝ }
 {
     if m > 16384 {
         return Outcome::Refused(Refusal::Size);
@@ -38,9 +38,8 @@ pub fn pack(m: usize, ones: &[u64], twos: &[u64], bytes: &mut [u8]) -> Outcome
 
 // Bytes are unpacked into a row of m trits.
 pub fn unpack(m: usize, bytes: &[u8], ones: &mut [u64], twos: &mut [u64]) -> Outcome
-    ensures { λ r. ⌜ codeOf r ≡ unpackRefusal m (now (bytes .entry)) (now (ones .entry)) (now (twos .entry)) ⌝ }
-    ensures { λ _. ⌜ now (ones .exit) ≡ unpackOnes m (now (bytes .entry)) (now (ones .entry)) (now (twos .entry)) ⌝ }
-    ensures { λ _. ⌜ now (twos .exit) ≡ unpackTwos m (now (bytes .entry)) (now (ones .entry)) (now (twos .entry)) ⌝ }
+    ensures { λ r. ⌜ (let c = unpackOf m (now (bytes .entry)) (now (ones .entry)) (now (twos .entry)) in
+        (codeOf r ≡ unpackRefusal c) × (now (ones .exit) ≡ unpackOnes c) × (now (twos .exit) ≡ unpackTwos c)) ⌝ }
 {
     // all tests of the bytes come before the planes are written
     if m > 16384 {
@@ -66,9 +65,8 @@ pub fn unpack(m: usize, bytes: &[u8], ones: &mut [u64], twos: &mut [u64]) -> Out
 
 // A stream of bytes becomes a row of m trits.
 pub fn from_stream(m: usize, bytes: &[u8], ones: &mut [u64], twos: &mut [u64]) -> Outcome
-    ensures { λ r. ⌜ codeOf r ≡ streamRefusal m (now (bytes .entry)) (now (ones .entry)) (now (twos .entry)) ⌝ }
-    ensures { λ _. ⌜ now (ones .exit) ≡ streamOnes m (now (bytes .entry)) (now (ones .entry)) (now (twos .entry)) ⌝ }
-    ensures { λ _. ⌜ now (twos .exit) ≡ streamTwos m (now (bytes .entry)) (now (ones .entry)) (now (twos .entry)) ⌝ }
+    ensures { λ r. ⌜ (let c = streamOf m (now (bytes .entry)) (now (ones .entry)) (now (twos .entry)) in
+        (codeOf r ≡ streamRefusal c) × (now (ones .exit) ≡ streamOnes c) × (now (twos .exit) ≡ streamTwos c)) ⌝ }
 {
     // all tests of the stream come before the planes are written
     if m > 16384 {

@@ -2,7 +2,7 @@
 ghost use mathlib.Core.Path.{_≡_};
 ghost use Prim.Native.Nat.{_+_, _*_, _/_, _%_, _<_, _≤_};
 ghost use lib.ListN.{length};
-ghost use Rattle.packed.specs.Calls.{unpackRefusal, unpackOnes, unpackTwos};
+ghost use Rattle.packed.specs.Calls.{unpackOf, unpackRefusal, unpackOnes, unpackTwos};
 ghost use Rattle.sign_lines.specs.{following, numberAfter, packedAfter, turned, ringOrder};
 
 // The number that follows x in a sequence of numbers below 65,537.
@@ -42,10 +42,8 @@ pub struct Filled {
 
 // A row of m trits, unpacked from such bytes.
 fn unpack_row(m: usize, x: u64, bytes: &mut [u8], ones: &mut [u64], twos: &mut [u64]) -> Filled
-    ensures { λ r. ⌜ r .refusal ≡ unpackRefusal m (packedAfter (length (now (bytes .entry))) x) (now (ones .entry)) (now (twos .entry)) ⌝ }
-    ensures { λ r. ⌜ r .last ≡ numberAfter (length (now (bytes .entry))) x ⌝ }
-    ensures { λ _. ⌜ now (ones .exit) ≡ unpackOnes m (packedAfter (length (now (bytes .entry))) x) (now (ones .entry)) (now (twos .entry)) ⌝ }
-    ensures { λ _. ⌜ now (twos .exit) ≡ unpackTwos m (packedAfter (length (now (bytes .entry))) x) (now (ones .entry)) (now (twos .entry)) ⌝ }
+    ensures { λ r. ⌜ (let c = unpackOf m (packedAfter (length (now (bytes .entry))) x) (now (ones .entry)) (now (twos .entry)) in
+        (r .refusal ≡ unpackRefusal c) × (r .last ≡ numberAfter (length (now (bytes .entry))) x) × (now (ones .exit) ≡ unpackOnes c) × (now (twos .exit) ≡ unpackTwos c)) ⌝ }
 {
     let last = fill_bytes(bytes, x);
     let outcome = packing::unpack(m, bytes, ones, twos);
@@ -58,10 +56,8 @@ fn unpack_row(m: usize, x: u64, bytes: &mut [u8], ones: &mut [u64], twos: &mut [
 // The same with bytes of its own.
 pub fn fill_row(m: usize, x: u64, ones: &mut [u64], twos: &mut [u64]) -> Filled
     requires { ⌜ m ≤ 16384 ⌝ }
-    ensures { λ r. ⌜ r .refusal ≡ unpackRefusal m (packedAfter ((m + 4) / 5) x) (now (ones .entry)) (now (twos .entry)) ⌝ }
-    ensures { λ r. ⌜ r .last ≡ numberAfter ((m + 4) / 5) x ⌝ }
-    ensures { λ _. ⌜ now (ones .exit) ≡ unpackOnes m (packedAfter ((m + 4) / 5) x) (now (ones .entry)) (now (twos .entry)) ⌝ }
-    ensures { λ _. ⌜ now (twos .exit) ≡ unpackTwos m (packedAfter ((m + 4) / 5) x) (now (ones .entry)) (now (twos .entry)) ⌝ }
+    ensures { λ r. ⌜ (let c = unpackOf m (packedAfter ((m + 4) / 5) x) (now (ones .entry)) (now (twos .entry)) in
+        (r .refusal ≡ unpackRefusal c) × (r .last ≡ numberAfter ((m + 4) / 5) x) × (now (ones .exit) ≡ unpackOnes c) × (now (twos .exit) ≡ unpackTwos c)) ⌝ }
 {
     let b = (m + 4) / 5;
     let mut bytes = [0u8; 3277];

@@ -18,7 +18,7 @@ use Rattle.trits.proofs.Ends.{upto-in, upto-out, upto-ended}
 use Rattle.trits.proofs.Matrix.{one-row-past}
 use Rattle.trits.proofs.Tests.{past-zero}
 use Rattle.packed.specs.Packed.{bytesFor, packedRow, packedBytes, badByte}
-use Rattle.packed.specs.Calls.{packRefusal, packExit}
+use Rattle.packed.specs.Calls.{packOf, packRefusal, packExit}
 use Rattle.packed.proofs.RoundTrip.{packed-length, packed-back, packed-good}
 use Rattle.matrix.specs.Linear.{Vector}
 use Rattle.matrix.proofs.Field.{not-false}
@@ -52,11 +52,11 @@ use Rattle.wave.proofs.ReachCalls.{few, ones-row, twos-row, built-row, 
 -- ---- a call of `pack`
 
 module _ (m : ℕ) (ones twos bytes : List ℕ) (few : m ≤ 16384) (o : length ones ≡ wordsFor m) (t : length twos ≡ wordsFor m) (b : length bytes ≡ bytesFor m) (p : planesRefusal ones twos 1 m ≡ 0) where
-  packs : packRefusal m ones twos bytes ≡ 0
+  packs : packRefusal (packOf m ones twos bytes) ≡ 0
   unfolding packRefusal
   packs = rw (le-ltb 16384 m few, eq-eqb (length ones) (wordsFor m) o, eq-eqb (length twos) (wordsFor m) t, eq-eqb (length bytes) (bytesFor m) b) p
 
-  pack-writes : packExit m ones twos bytes ≡ packedBytes m (tritAt ones twos)
+  pack-writes : packExit (packOf m ones twos bytes) ≡ packedBytes m (tritAt ones twos)
   unfolding packExit
   pack-writes = sym (exit-new (packedBytes m (tritAt ones twos)) bytes packs)
 
@@ -145,7 +145,7 @@ module _ (z : Sizes) (i : BuildCall) (b : Built z i) (g w : ℕ) (l : DrawCall) 
   y = tritAt (l .yOnes) (l .yTwos)
 
   abbrev yPacked : List ℕ
-  yPacked = packExit (codim z) (l .yOnes) (l .yTwos) (m .yBytes)
+  yPacked = packExit (packOf (codim z) (l .yOnes) (l .yTwos) (m .yBytes))
 
   y-is : yPacked ≡ packedBytes (codim z) y
   y-is = let n = y-lengths Z l (passed .lengths) in pack-writes (codim z) (l .yOnes) (l .yTwos) (m .yBytes) few-codim (n .0) (n .1) (m .y-bytes-size) (passed .syndrome)
@@ -165,7 +165,7 @@ module _ (z : Sizes) (i : BuildCall) (b : Built z i) (g w : ℕ) (l : DrawCall) 
   s-twos = handed-twos Z l d
 
   abbrev sPacked : List ℕ
-  sPacked = packExit (dim z) (sOnesExit Z l) (sTwosExit Z l) (m .sBytes)
+  sPacked = packExit (packOf (dim z) (sOnesExit Z l) (sTwosExit Z l) (m .sBytes))
 
   s-is : sPacked ≡ packedBytes (dim z) s
   s-is =

@@ -4,7 +4,7 @@ use mathlib.Core.Bool.{true}
 use mathlib.Core.List.{List, [], _∷_}
 use Prim.Native.Nat.{ℕ}
 use Rattle.packed.specs.Packed.{packedRow, packedBytes}
-use Rattle.packed.specs.Calls.{packRefusal, packExit, unpackRefusal, unpackOnes, unpackTwos}
+use Rattle.packed.specs.Calls.{packOf, packRefusal, packExit, unpackOf, unpackRefusal, unpackOnes, unpackTwos}
 use Rattle.trits.specs.InDigits.{vector, digits, matrix, digitRows}
 use Rattle.verdict.specs.Verdict.{fullWord, saysYes}
 use Rattle.scheme.specs.Build.{arranged, keyOrder, keyRow}
@@ -26,15 +26,15 @@ gap4 = 0
 pub record Starred : Type 0 where
   -- trits 1,2,0,0,1 pack to 88
   pub packs-88 : packedBytes 5 (vector (1 ∷ 2 ∷ 0 ∷ 0 ∷ 1 ∷ [])) ≡ 88 ∷ []
-  pub packed-88 : packExit 5 (17 ∷ []) (2 ∷ []) (9 ∷ []) ≡ 88 ∷ []
+  pub packed-88 : packExit (packOf 5 (17 ∷ []) (2 ∷ []) (9 ∷ [])) ≡ 88 ∷ []
   -- 242 reads 2,2,2,2,2
   pub reads-242 : digits 5 (packedRow 5 (242 ∷ [])) ≡ 2 ∷ 2 ∷ 2 ∷ 2 ∷ 2 ∷ []
-  pub ones-242 : unpackOnes 5 (242 ∷ []) (7 ∷ []) (9 ∷ []) ≡ 0 ∷ []
-  pub twos-242 : unpackTwos 5 (242 ∷ []) (7 ∷ []) (9 ∷ []) ≡ 31 ∷ []
+  pub ones-242 : unpackOnes (unpackOf 5 (242 ∷ []) (7 ∷ []) (9 ∷ [])) ≡ 0 ∷ []
+  pub twos-242 : unpackTwos (unpackOf 5 (242 ∷ []) (7 ∷ []) (9 ∷ [])) ≡ 31 ∷ []
   -- 243 gives 5, and the planes stay
-  pub refused-243 : unpackRefusal 5 (243 ∷ []) (7 ∷ []) (9 ∷ []) ≡ 5
-  pub ones-243 : unpackOnes 5 (243 ∷ []) (7 ∷ []) (9 ∷ []) ≡ 7 ∷ []
-  pub twos-243 : unpackTwos 5 (243 ∷ []) (7 ∷ []) (9 ∷ []) ≡ 9 ∷ []
+  pub refused-243 : unpackRefusal (unpackOf 5 (243 ∷ []) (7 ∷ []) (9 ∷ [])) ≡ 5
+  pub ones-243 : unpackOnes (unpackOf 5 (243 ∷ []) (7 ∷ []) (9 ∷ [])) ≡ 7 ∷ []
+  pub twos-243 : unpackTwos (unpackOf 5 (243 ∷ []) (7 ∷ []) (9 ∷ [])) ≡ 9 ∷ []
   -- start (0,1,2,3): R has rows 02 and 22, p unchanged; the working space is all zero
   pub order-0123 : keyOrder (sizes4 0 4) secret4 start1 ≡ 0 ∷ 1 ∷ 2 ∷ 3 ∷ []
   pub rows-0123 : digitRows 2 2 (keyRow (sizes4 0 4) secret4 start1) ≡ (0 ∷ 2 ∷ []) ∷ (2 ∷ 2 ∷ []) ∷ []

@@ -6,7 +6,7 @@ use lib.ListN.{length}
 use Rattle.trits.specs.Planes.{wordsFor}
 use Rattle.trits.specs.Rows.{rowPart}
 use Rattle.packed.specs.Packed.{bytesFor}
-use Rattle.packed.specs.Calls.{packExit}
+use Rattle.packed.specs.Calls.{packOf, packExit}
 use Rattle.matrix.specs.Linear.{Vector}
 use Rattle.verdict.specs.Verdict.{Extending, Found}
 use Rattle.held_key.specs.declared.state.Held.{Held}
@@ -55,7 +55,7 @@ pub record Host (z : Sizes) : Type 0 where
 
 -- row j of the built key, packed by a call of `pack` from its stretch of the key's words
 abbrev pub packedKeyRow : (z : Sizes) → BuildCall → Host z → ℕ → List ℕ
-packedKeyRow z i m j = packExit (codim z) (rowPart (keyOnesExit z i) (dim z) (keyRowWords z) j) (rowPart (keyTwosExit z i) (dim z) (keyRowWords z) j) (m .rowBytes j)
+packedKeyRow z i m j = packExit (packOf (codim z) (rowPart (keyOnesExit z i) (dim z) (keyRowWords z) j) (rowPart (keyTwosExit z i) (dim z) (keyRowWords z) j) (m .rowBytes j))
 
 -- the module begins a key with these numbers, and its k packed rows are stored one after another
 abbrev pub carried : (z : Sizes) → BuildCall → ℕ → Host z → Holding
@@ -68,8 +68,8 @@ carriedCheck z i g w l m = record {
   number = m .number;
   ones = carried z i w m .ones;
   twos = carried z i w m .twos;
-  y = packExit (codim z) (l .yOnes) (l .yTwos) (m .yBytes);
-  s = packExit (dim z) (sOnesExit (sized z g w) l) (sTwosExit (sized z g w) l) (m .sBytes);
+  y = packExit (packOf (codim z) (l .yOnes) (l .yTwos) (m .yBytes));
+  s = packExit (packOf (dim z) (sOnesExit (sized z g w) l) (sTwosExit (sized z g w) l) (m .sBytes));
   workOnes = m .workOnes;
   workTwos = m .workTwos;
 }

@@ -1,6 +1,6 @@
 // The module's half for C: each call in numbers. Nothing but what a host needs is exported.
 ghost use mathlib.Core.Path.{_≡_};
-ghost use Rattle.packed.specs.Calls.{packRefusal, packExit, unpackRefusal, unpackOnes, unpackTwos, streamRefusal, streamOnes, streamTwos};
+ghost use Rattle.packed.specs.Calls.{packOf, packRefusal, packExit, unpackOf, unpackRefusal, unpackOnes, unpackTwos, streamOf, streamRefusal, streamOnes, streamTwos};
 ghost use Rattle.held_key.specs.Store.{beginRefusal, beginHeld, packedStoreOf, storePackedRefusal, storePackedHeld, storePackedOnes, storePackedTwos};
 ghost use Rattle.check_tests.specs.Check.{packedCheckOf, checkPackedAnswer, checkPackedWorkOnes, checkPackedWorkTwos};
 use check_tests::Checked;
@@ -70,8 +70,8 @@ pub extern "C" fn wave_check(
 // `pack` for C.
 #[no_mangle]
 pub extern "C" fn wave_pack(m: usize, ones: &[u64], twos: &[u64], bytes: &mut [u8]) -> u64
-    ensures { λ r. ⌜ r ≡ packRefusal m (now (ones .entry)) (now (twos .entry)) (now (bytes .entry)) ⌝ }
-    ensures { λ _. ⌜ now (bytes .exit) ≡ packExit m (now (ones .entry)) (now (twos .entry)) (now (bytes .entry)) ⌝ }
+    ensures { λ r. ⌜ (let c = packOf m (now (ones .entry)) (now (twos .entry)) (now (bytes .entry)) in
+        (r ≡ packRefusal c) × (now (bytes .exit) ≡ packExit c)) ⌝ }
 {
     trits::refusal::code(packing::pack(m, ones, twos, bytes))
 }
@@ -79,9 +79,8 @@ pub extern "C" fn wave_pack(m: usize, ones: &[u64], twos: &[u64], bytes: &mut [u
 // `unpack` for C.
 #[no_mangle]
 pub extern "C" fn wave_unpack(m: usize, bytes: &[u8], ones: &mut [u64], twos: &mut [u64]) -> u64
-    ensures { λ r. ⌜ r ≡ unpackRefusal m (now (bytes .entry)) (now (ones .entry)) (now (twos .entry)) ⌝ }
-    ensures { λ _. ⌜ now (ones .exit) ≡ unpackOnes m (now (bytes .entry)) (now (ones .entry)) (now (twos .entry)) ⌝ }
-    ensures { λ _. ⌜ now (twos .exit) ≡ unpackTwos m (now (bytes .entry)) (now (ones .entry)) (now (twos .entry)) ⌝ }
+    ensures { λ r. ⌜ (let c = unpackOf m (now (bytes .entry)) (now (ones .entry)) (now (twos .entry)) in
+        (r ≡ unpackRefusal c) × (now (ones .exit) ≡ unpackOnes c) × (now (twos .exit) ≡ unpackTwos c)) ⌝ }
 {
     trits::refusal::code(packing::unpack(m, bytes, ones, twos))
 }
@@ -94,9 +93,8 @@ pub extern "C" fn wave_from_stream(
     ones: &mut [u64],
     twos: &mut [u64],
 ) -> u64
-    ensures { λ r. ⌜ r ≡ streamRefusal m (now (bytes .entry)) (now (ones .entry)) (now (twos .entry)) ⌝ }
-    ensures { λ _. ⌜ now (ones .exit) ≡ streamOnes m (now (bytes .entry)) (now (ones .entry)) (now (twos .entry)) ⌝ }
-    ensures { λ _. ⌜ now (twos .exit) ≡ streamTwos m (now (bytes .entry)) (now (ones .entry)) (now (twos .entry)) ⌝ }
+    ensures { λ r. ⌜ (let c = streamOf m (now (bytes .entry)) (now (ones .entry)) (now (twos .entry)) in
+        (r ≡ streamRefusal c) × (now (ones .exit) ≡ streamOnes c) × (now (twos .exit) ≡ streamTwos c)) ⌝ }
 {
     trits::refusal::code(packing::from_stream(m, bytes, ones, twos))
 }

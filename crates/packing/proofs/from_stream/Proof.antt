@@ -16,7 +16,7 @@ returns : tie.Need-returns
 unfolding streamOnes streamTwos
 returns c =
     let e = stream-size _ _ _ _ (c .if1 .taken) in
-    (e, (exit-kept _ _ e (lit< tt), exit-kept _ _ e (lit< tt)))
+    (e, exit-kept _ _ e (lit< tt), exit-kept _ _ e (lit< tt))
 
 add-words : tie.Need-add-words
 add-words c = search needs
@@ -25,13 +25,13 @@ returns-2 : tie.Need-returns-2
 unfolding streamOnes streamTwos
 returns-2 c =
     let e = stream-ones _ _ _ _ (c .before .if1 .left) (c .if2 .taken) in
-    (e, (exit-kept _ _ e (lit< tt), exit-kept _ _ e (lit< tt)))
+    (e, exit-kept _ _ e (lit< tt), exit-kept _ _ e (lit< tt))
 
 returns-3 : tie.Need-returns-3
 unfolding streamOnes streamTwos
 returns-3 c =
     let e = stream-twos _ _ _ _ (c .before .before .if1 .left) (c .before .if2 .left) (c .if3 .taken) in
-    (e, (exit-kept _ _ e (lit< tt), exit-kept _ _ e (lit< tt)))
+    (e, exit-kept _ _ e (lit< tt), exit-kept _ _ e (lit< tt))
 
 too-short-requires : tie.Need-too-short-requires
 too-short-requires c κs = search needs
@@ -42,7 +42,7 @@ returns-4 c =
     let a = c .before .before .before .before .before .before .before .before .args in
     let t = sym (c .before .too-short .ensures) ∙ c .if4 .taken in
     let e = stream-decides (a .m) (now (a .bytes)) t ∙ stream-passed _ _ _ _ (c .before .before .before .before .if1 .left) (c .before .before .before .if2 .left) (c .before .before .if3 .left) in
-    (e, (exit-kept _ _ e (lit< tt), exit-kept _ _ e (lit< tt)))
+    (e, exit-kept _ _ e (lit< tt), exit-kept _ _ e (lit< tt))
 
 write-stream-requires : tie.Need-write-stream-requires
 write-stream-requires c κs =
@@ -63,7 +63,7 @@ returns-5 c =
     let t = sym (c .before .before .before .before .before .before .before .before .too-short .ensures) ∙ c .before .before .before .before .before .before .before .if4 .left in
     let z = sym (stream-decides (a .m) (now (a .bytes)) t ∙ stream-passed _ _ _ _ (c .before .before .before .before .before .before .before .before .before .before .before .if1 .left) (c .before .before .before .before .before .before .before .before .before .before .if2 .left) (c .before .before .before .before .before .before .before .before .before .if3 .left)) in
     let w = reads-words (c .before .before .before .before .write-stream .ensures) (c .before .before .before .before .before .before .before .before .before .before .if2 .left) (λ j. c .before .before .slice-known3 .given j .fits) (λ j. c .slice-known4 .given j .fits) in
-    (sym z, (w .ones-are ∙ exit-new _ _ z, w .twos-are ∙ exit-new _ _ z))
+    (sym z, w .ones-are ∙ exit-new _ _ z, w .twos-are ∙ exit-new _ _ z)
 
 pub from-stream-spec : {M : Type 1} → statement M
 from-stream-spec =

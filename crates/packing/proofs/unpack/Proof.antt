@@ -15,7 +15,7 @@ returns : tie.Need-returns
 unfolding unpackOnes unpackTwos
 returns c =
     let e = unpack-size _ _ _ _ (c .if1 .taken) in
-    (e, (exit-kept _ _ e (lit< tt), exit-kept _ _ e (lit< tt)))
+    (e, exit-kept _ _ e (lit< tt), exit-kept _ _ e (lit< tt))
 
 add-if2 : tie.Need-add-if2
 add-if2 c = search needs
@@ -24,7 +24,7 @@ returns-2 : tie.Need-returns-2
 unfolding unpackOnes unpackTwos
 returns-2 c =
     let e = unpack-bytes _ _ _ _ (c .before .if1 .left) (c .if2 .taken) in
-    (e, (exit-kept _ _ e (lit< tt), exit-kept _ _ e (lit< tt)))
+    (e, exit-kept _ _ e (lit< tt), exit-kept _ _ e (lit< tt))
 
 add-words : tie.Need-add-words
 add-words c = search needs
@@ -33,13 +33,13 @@ returns-3 : tie.Need-returns-3
 unfolding unpackOnes unpackTwos
 returns-3 c =
     let e = unpack-ones _ _ _ _ (c .before .before .if1 .left) (c .before .if2 .left) (c .if3 .taken) in
-    (e, (exit-kept _ _ e (lit< tt), exit-kept _ _ e (lit< tt)))
+    (e, exit-kept _ _ e (lit< tt), exit-kept _ _ e (lit< tt))
 
 returns-4 : tie.Need-returns-4
 unfolding unpackOnes unpackTwos
 returns-4 c =
     let e = unpack-twos _ _ _ _ (c .before .before .before .if1 .left) (c .before .before .if2 .left) (c .before .if3 .left) (c .if4 .taken) in
-    (e, (exit-kept _ _ e (lit< tt), exit-kept _ _ e (lit< tt)))
+    (e, exit-kept _ _ e (lit< tt), exit-kept _ _ e (lit< tt))
 
 test-bytes-requires : tie.Need-test-bytes-requires
 test-bytes-requires c κs = search needs
@@ -52,7 +52,7 @@ unfolding unpackOnes unpackTwos
 returns-5 c =
     let e = c .before .before .test-bytes .ensures ∙ unpack-passed _ _ _ _ (c .before .before .before .before .before .before .if1 .left) (c .before .before .before .before .before .if2 .left) (c .before .before .before .before .if3 .left) (c .before .before .before .if4 .left) in
     let f = c .before .code .ensures ∙ e in
-    (e, (exit-kept _ _ f (omega arith), exit-kept _ _ f (omega arith)))
+    (e, exit-kept _ _ f (omega arith), exit-kept _ _ f (omega arith))
 
 write-packed-requires : tie.Need-write-packed-requires
 write-packed-requires c κs =
@@ -71,7 +71,7 @@ returns-6 c =
     let e = c .before .before .before .before .before .before .before .before .before .test-bytes .ensures ∙ unpack-passed _ _ _ _ (c .before .before .before .before .before .before .before .before .before .before .before .before .before .if1 .left) (c .before .before .before .before .before .before .before .before .before .before .before .before .if2 .left) (c .before .before .before .before .before .before .before .before .before .before .before .if3 .left) (c .before .before .before .before .before .before .before .before .before .before .if4 .left) in
     let z = sym e ∙ sym (c .before .before .before .before .before .before .before .before .code .ensures) ∙ c .before .before .before .before .before .before .before .if5 .left in
     let w = reads-words (c .before .before .before .before .write-packed .ensures) (c .before .before .before .before .before .before .before .before .before .before .before .if3 .left) (λ j. c .before .before .slice-known3 .given j .fits) (λ j. c .slice-known4 .given j .fits) in
-    (sym z, (w .ones-are ∙ exit-new _ _ z, w .twos-are ∙ exit-new _ _ z))
+    (sym z, w .ones-are ∙ exit-new _ _ z, w .twos-are ∙ exit-new _ _ z)
 
 pub unpack-spec : {M : Type 1} → statement M
 unpack-spec =

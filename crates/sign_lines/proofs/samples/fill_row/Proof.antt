@@ -5,7 +5,7 @@ use Prim.Native.Nat.{ℕ, _+_, _/_, _≤_}
 use native.Mathlib.Omega.{arith}
 use borrow.Author.Needs.{needs}
 use denote.Ref.{now}
-use Rattle.packed.specs.Calls.{unpackRefusal, unpackOnes, unpackTwos}
+use Rattle.packed.specs.Calls.{unpackOf, unpackRefusal, unpackOnes, unpackTwos}
 use Rattle.sign_lines.specs.{numberAfter, packedAfter}
 use Rattle.sign_lines.proofs.Made.{part-length}
 use Rattle.sign_lines.proofs.samples.fill_row.Statement.{statement}
@@ -39,14 +39,10 @@ returns c =
     let u = c .before .before .before .before .before .unpack-row .ensures in
     let o = now (a .ones) in
     let t = now (a .twos) in (
-      u .0 ∙ ap (λ (n : ℕ). unpackRefusal (a .m) (packedAfter n (a .x)) o t) (part-length _ _ 3277 refl h),
-      (
-        u .1 .0 ∙ ap (λ (n : ℕ). numberAfter n (a .x)) (part-length _ _ 3277 refl h),
-        (
-          u .1 .1 .0 ∙ ap (λ (n : ℕ). unpackOnes (a .m) (packedAfter n (a .x)) o t) (part-length _ _ 3277 refl h),
-          u .1 .1 .1 ∙ ap (λ (n : ℕ). unpackTwos (a .m) (packedAfter n (a .x)) o t) (part-length _ _ 3277 refl h),
-        ),
-      ),
+      u .0 ∙ ap (λ (n : ℕ). unpackRefusal (unpackOf (a .m) (packedAfter n (a .x)) o t)) (part-length _ _ 3277 refl h),
+      u .1 ∙ ap (λ (n : ℕ). numberAfter n (a .x)) (part-length _ _ 3277 refl h),
+      u .2 ∙ ap (λ (n : ℕ). unpackOnes (unpackOf (a .m) (packedAfter n (a .x)) o t)) (part-length _ _ 3277 refl h),
+      u .3 ∙ ap (λ (n : ℕ). unpackTwos (unpackOf (a .m) (packedAfter n (a .x)) o t)) (part-length _ _ 3277 refl h),
     )
 
 pub fill-row-spec : {M : Type 1} → statement M

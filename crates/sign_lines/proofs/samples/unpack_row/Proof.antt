@@ -5,7 +5,7 @@ use mathlib.Core.List.{List}
 use Prim.Native.Nat.{ℕ}
 use borrow.Author.Needs.{needs}
 use denote.Ref.{now}
-use Rattle.packed.specs.Calls.{unpackRefusal, unpackOnes, unpackTwos}
+use Rattle.packed.specs.Calls.{unpackOf, unpackRefusal, unpackOnes, unpackTwos}
 use Rattle.sign_lines.proofs.samples.unpack_row.Statement.{statement}
 use Rattle.sign_lines.proofs.samples.unpack_row.Tie as tie
 
@@ -34,8 +34,10 @@ returns c =
     let u = c .before .before .before .before .before .unpack .ensures in
     let o = now (a .ones) in
     let t = now (a .twos) in (
-      c .code .ensures ∙ u .0 ∙ ap (λ (b : List ℕ). unpackRefusal (a .m) b o t) (f .1),
-      (f .0, (u .1 .0 ∙ ap (λ (b : List ℕ). unpackOnes (a .m) b o t) (f .1), u .1 .1 ∙ ap (λ (b : List ℕ). unpackTwos (a .m) b o t) (f .1))),
+      c .code .ensures ∙ u .0 ∙ ap (λ (b : List ℕ). unpackRefusal (unpackOf (a .m) b o t)) (f .1),
+      f .0,
+      u .1 ∙ ap (λ (b : List ℕ). unpackOnes (unpackOf (a .m) b o t)) (f .1),
+      u .2 ∙ ap (λ (b : List ℕ). unpackTwos (unpackOf (a .m) b o t)) (f .1),
     )
 
 pub unpack-row-spec : {M : Type 1} → statement M

@@ -10,8 +10,8 @@ ghost use Rattle.scheme.specs.Draw.{signature};
 ghost use Rattle.calls.specs.Lent.{planes};
 ghost use Rattle.calls.specs.DrawCall.{drawWorkWords, wordOf};
 ghost use Rattle.draw_tests.specs.Ready.{given, ending, Ready};
-use draw_tests::tests;
 use draw_word::word;
+use scheme::sizes;
 use scheme::sizes::Sizes;
 use trits::refusal::Outcome;
 
@@ -58,8 +58,8 @@ pub fn finish(
         × (now («s_twos» .exit) ≡ atExit (ending z i) (twosOf (upTo (dim z) (signature z (wordOf z i))) (wordsFor (dim z))) (now («s_twos» .entry)))
         × (now («work_ones» .exit) ≡ zeroWords (length (now («work_ones» .entry)))) × (now («work_twos» .exit) ≡ zeroWords (length (now («work_twos» .entry))))) ⌝ }
 {
-    let half = z.n as usize / 2;
-    let l = tests::more_rows(half - z.ku as usize, half - z.kv as usize);
+    let s = sizes::shape_of(z);
+    let l = calls::work::more_rows(s.ru, s.rv);
     let made = word::make_word(
         z,
         l,

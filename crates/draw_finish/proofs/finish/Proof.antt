@@ -14,7 +14,7 @@ use Rattle.matrix.specs.Linear.{Vector}
 use Rattle.scheme.specs.Sizes.{places, dim}
 use Rattle.draw_pairs.proofs.DrawRows.{word-written, signature-written}
 use Rattle.calls.specs.Lent.{planes, halfWords, secretOf}
-use Rattle.calls.specs.DrawCall.{DrawCall, syndromeOf, choicesOf, wordOf}
+use Rattle.calls.specs.DrawCall.{DrawCall, matrixRows, syndromeOf, choicesOf, wordOf}
 use Rattle.calls.proofs.Bounds.{bounds}
 use Rattle.calls.proofs.Exits.{positive}
 use Rattle.draw_tests.specs.Ready.{given}
@@ -24,8 +24,8 @@ use Rattle.draw_finish.proofs.finish.Statement.{statement}
 use Rattle.draw_finish.proofs.finish.Tie as tie
 
 -- the entry, and what is lent there
-abbrev entry : tie.After-slice-known6 → tie.Start
-entry c = c .before .before .before .before .before .before .before .before .before .before .before .before .before .before .before .before .before .before .before .before .before .before .before
+abbrev entry : tie.After-more-rows → tie.Start
+entry c = c .before .before .before .before .before .before .before .before .before .before .before .before .before .before .before .before .before .before .before .before .before .before .before .before .before
 
 abbrev lent : tie.Start → DrawCall
 lent s =
@@ -33,21 +33,22 @@ lent s =
     given (planes (now (a .hu-ones)) (now (a .hu-twos)) (now (a .hv-ones)) (now (a .hv-twos)) (now (a .b-ones)) (now (a .b-twos)) (now (a .c-ones)) (now (a .c-twos)))
     (now (a .p)) (now (a .y-ones)) (now (a .y-twos)) (now (a .v-order)) (now (a .v-ones)) (now (a .v-twos)) (now (a .u-order)) (now (a .u-ones)) (now (a .u-twos))
 
-sub-more-rows : tie.Need-sub-more-rows
-sub-more-rows c = omega (arith, bounds (entry c .args .z) (entry c .pre .0) .ku)
+-- as many rows as the larger matrix has
+rows : (c : tie.After-more-rows) → c .more-rows .result ≡ matrixRows (entry c .args .z)
+rows c = rw (c .before .shape-of .ensures) at (c .more-rows .ensures)
 
-sub-more-rows-2 : tie.Need-sub-more-rows-2
-sub-more-rows-2 c = omega (arith, bounds (entry c .args .z) (entry c .pre .0) .kv)
+shape-of-requires : tie.Need-shape-of-requires
+shape-of-requires c κs = search needs
 
 more-rows-requires : tie.Need-more-rows-requires
 more-rows-requires c κs = search needs
 
 make-word-requires : tie.Need-make-word-requires
 make-word-requires c κs =
-    let s = entry (c .before .before .before) in
+    let s = entry (c .before .before) in
     let z = s .args .z in
     let m = s .pre .1 .1 in
-    let e = c .before .before .more-rows .ensures in
+    let e = rows (c .before .before) in
     let p = space z (bounds z (s .pre .0)) in (
       s .pre .0,
       (
@@ -68,11 +69,11 @@ code-requires c κs = search needs
 release-word-requires : tie.Need-release-word-requires
 release-word-requires c κs =
     let k = c .before .before .before .before .before .before .before in
-    let s = entry (k .before .before .before .before .before .before .before .before .before) in
+    let s = entry (k .before .before .before .before .before .before .before .before) in
     let z = s .args .z in
     let m = s .pre .1 .1 in
     let p = space z (bounds z (s .pre .0)) in
-    (s .pre .0, (s .pre .1 .0 .p, (omega (arith, k .before .before .before .before .before .before .before .before .more-rows .ensures, p .rows), (k .before .before .before .before .before .make-word .ensures .1, (m .0, m .1, m .2, m .3)))))
+    (s .pre .0, (s .pre .1 .0 .p, (omega (arith, rows (k .before .before .before .before .before .before .before .before), p .rows), (k .before .before .before .before .before .make-word .ensures .1, (m .0, m .1, m .2, m .3)))))
 
 clear-requires : tie.Need-clear-requires
 clear-requires c κs = search needs
@@ -108,7 +109,7 @@ unfolding wordOf
 returns c =
     let j = c .before .before .before .before .before .before .before in
     let k = j .before in
-    let s = entry (k .before .before .before .before .before .before .before .before .before) in
+    let s = entry (k .before .before .before .before .before .before .before .before) in
     let z = s .args .z in
     let i = lent s in
     let told = k .before .before .before .before .before .make-word .ensures in
@@ -144,8 +145,7 @@ pub finish-spec : {M : Type 1} → statement M
 finish-spec =
     tie.close
     (tie.spec
-    sub-more-rows
-    sub-more-rows-2
+    shape-of-requires
     more-rows-requires
     make-word-requires
     code-requires

@@ -10,6 +10,7 @@ ghost use Rattle.calls.specs.Lent.{planes, halfWords, secretDiffers, secretRefu
 ghost use Rattle.calls.specs.BuildCall.{keyDiffers};
 use calls::order;
 use calls::tests;
+use scheme::sizes;
 use scheme::sizes::Sizes;
 use trits::refusal::Outcome;
 use trits::refusal::Refusal;
@@ -19,17 +20,16 @@ pub fn key_differs(z: Sizes, s: usize, p: usize, k1: usize, k2: usize, w1: usize
     requires { ⌜ sizesFit z ≡ true ⌝ }
     ensures { λ r. ⌜ r ≡ keyDiffers z s p k1 k2 w1 w2 ⌝ }
 {
-    let half = z.n as usize / 2;
-    let hw = (half + 63) / 64;
+    let sh = sizes::shape_of(z);
     let k = z.ku as usize + z.kv as usize;
-    let rows = half - z.ku as usize + (half - z.kv as usize);
-    if tests::pair_differs(half + half, s, p) {
+    let rows = sh.ru + sh.rv;
+    if tests::pair_differs(sh.half + sh.half, s, p) {
         return true;
     }
     if tests::pair_differs(k * ((rows + 63) / 64), k1, k2) {
         return true;
     }
-    tests::pair_differs(rows * (hw + hw), w1, w2)
+    tests::pair_differs(rows * (sh.words + sh.words), w1, w2)
 }
 
 // Whether a length differs from what the sizes say.

@@ -12,6 +12,7 @@ ghost use Rattle.calls.specs.Lent.{planes, secretOf, Readable};
 ghost use Rattle.calls.specs.BuildCall.{keyRowWords, buildWorkWords, keyOnesOf, keyTwosOf};
 ghost use Rattle.build_release.specs.Work.{Filled};
 use super::order;
+use scheme::sizes;
 use scheme::sizes::Sizes;
 
 // The work matrix is filled from the secret.
@@ -35,19 +36,16 @@ pub fn fill_matrix(
         (now («b_ones» .entry)) (now («b_twos» .entry)) (now («c_ones» .entry)) (now («c_twos» .entry))))
         (now («work_ones» .exit)) (now («work_twos» .exit)) ⌝ }
 {
-    let half = z.n as usize / 2;
-    let hw = (half + 63) / 64;
-    let ru = half - z.ku as usize;
-    let rv = half - z.kv as usize;
-    let rows = ru + rv + (ru + rv);
+    let s = sizes::shape_of(z);
+    let rows = s.ru + s.rv + (s.ru + s.rv);
     planes::words::zero_words(work_ones);
     planes::words::zero_words(work_twos);
     build_matrix::fill::fill_u(
         work_ones,
         work_twos,
         rows,
-        hw,
-        ru,
+        s.words,
+        s.ru,
         hu_ones,
         hu_twos,
         b_ones,
@@ -59,9 +57,9 @@ pub fn fill_matrix(
         work_ones,
         work_twos,
         rows,
-        hw,
-        ru, // the rows before those of H_V
-        rv,
+        s.words,
+        s.ru, // the rows before those of H_V
+        s.rv,
         hv_ones,
         hv_twos,
         c_ones,
@@ -98,10 +96,9 @@ pub fn release(
         (now (p .exit) ≡ keyOrder z s (now (start .entry)))
         × (now («key_ones» .exit) ≡ keyOnesOf z s (now (start .entry))) × (now («key_twos» .exit) ≡ keyTwosOf z s (now (start .entry)))) ⌝ }
 {
-    let half = z.n as usize / 2;
-    let hw = (half + 63) / 64;
+    let s = sizes::shape_of(z);
     let k = z.ku as usize + z.kv as usize;
-    let rows = half - z.ku as usize + (half - z.kv as usize);
+    let rows = s.ru + s.rv;
     let kw = (rows + 63) / 64;
     fill_matrix(
         z,
@@ -117,14 +114,22 @@ pub fn release(
         work_twos,
     );
     order::copy_order(p, start);
-    build_key::arrange::arrange(work_ones, work_twos, rows, hw + hw, half, hw, p);
+    build_key::arrange::arrange(
+        work_ones,
+        work_twos,
+        rows,
+        s.words + s.words,
+        s.half,
+        s.words,
+        p,
+    );
     build_key::key::write_key(
         work_ones,
         work_twos,
         rows,
-        hw + hw,
-        half,
-        hw,
+        s.words + s.words,
+        s.half,
+        s.words,
         p,
         k,
         kw,

@@ -7,6 +7,7 @@ ghost use Rattle.trits.specs.Planes.{tritAt};
 ghost use Rattle.trits.specs.Refusal.{codeOf};
 ghost use Rattle.scheme.specs.Sizes.{sizesFit, ru, rv};
 ghost use Rattle.calls.specs.Lent.{planes, halfWords, pairDiffers, secretDiffers, secretRefusal};
+use scheme::sizes;
 use scheme::sizes::Sizes;
 use trits::refusal::Outcome;
 use trits::refusal::Refusal;
@@ -37,18 +38,17 @@ pub fn secret_differs(
     requires { ⌜ sizesFit z ≡ true ⌝ }
     ensures { λ r. ⌜ r ≡ secretDiffers z hu1 hu2 hv1 hv2 b1 b2 c1 c2 ⌝ }
 {
-    let half = z.n as usize / 2;
-    let hw = (half + 63) / 64;
-    if pair_differs((half - z.ku as usize) * hw, hu1, hu2) {
+    let s = sizes::shape_of(z);
+    if pair_differs(s.ru * s.words, hu1, hu2) {
         return true;
     }
-    if pair_differs((half - z.kv as usize) * hw, hv1, hv2) {
+    if pair_differs(s.rv * s.words, hv1, hv2) {
         return true;
     }
-    if pair_differs(hw, b1, b2) {
+    if pair_differs(s.words, b1, b2) {
         return true;
     }
-    pair_differs(hw, c1, c2)
+    pair_differs(s.words, c1, c2)
 }
 
 // Whether one of the m trits from place `from` on is 0.

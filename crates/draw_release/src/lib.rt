@@ -11,6 +11,7 @@ ghost use Rattle.grid.specs.Grid.{Rows};
 ghost use Rattle.scheme.specs.Sizes.{sizesFit, half, places, dim, codim};
 ghost use Rattle.draw_pairs.specs.Halves.{writtenFrom};
 ghost use Rattle.calls.specs.Lent.{halfWords};
+use scheme::sizes;
 use scheme::sizes::Sizes;
 
 // The word is written in public places, and its last k trits as the signature.
@@ -35,22 +36,21 @@ pub fn release_word(
         (now («word_ones» .exit) ≡ onesOf (upTo (places z) (word 0)) (wordsFor (places z))) × (now («word_twos» .exit) ≡ twosOf (upTo (places z) (word 0)) (wordsFor (places z)))
         × (now («s_ones» .exit) ≡ onesOf (upTo (dim z) (word (codim z))) (wordsFor (dim z))) × (now («s_twos» .exit) ≡ twosOf (upTo (dim z) (word (codim z))) (wordsFor (dim z)))) ⌝ }
 {
-    let half = z.n as usize / 2;
-    let w = (half + 63) / 64;
+    let s = sizes::shape_of(z);
     let rows = l + 5;
     let u = l + 4;
     let v = l + 3;
-    let n = half + half;
+    let n = s.half + s.half;
     let k = z.ku as usize + z.kv as usize;
-    let first = half - z.ku as usize + (half - z.kv as usize);
+    let first = s.ru + s.rv;
     draw_pairs::places::write_places(
         work_ones,
         work_twos,
         rows,
-        w,
+        s.words,
         u,
         v,
-        half,
+        s.half,
         p,
         0,
         n,
@@ -61,10 +61,10 @@ pub fn release_word(
         work_ones,
         work_twos,
         rows,
-        w,
+        s.words,
         u,
         v,
-        half,
+        s.half,
         p,
         first,
         k,

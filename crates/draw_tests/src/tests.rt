@@ -1,8 +1,7 @@
 // The tests of a draw's lengths and contents.
 ghost use mathlib.Core.Path.{_≡_};
-ghost use mathlib.Core.Bool.{true, cond, _||_};
+ghost use mathlib.Core.Bool.{true, _||_};
 ghost use Prim.Native.Nat.{_*_};
-ghost use lib.Dec.{ltb};
 ghost use lib.ListN.{length};
 ghost use Rattle.trits.specs.Planes.{wordsFor};
 ghost use Rattle.trits.specs.Refusal.{codeOf, first};
@@ -12,19 +11,10 @@ ghost use Rattle.calls.specs.DrawCall.{choicesDiffer, choicesRefusal};
 ghost use Rattle.draw_tests.specs.Ready.{chosen};
 use calls::order;
 use calls::tests;
+use calls::work;
 use scheme::sizes::Sizes;
 use trits::refusal::Outcome;
 use trits::refusal::Refusal;
-
-// The larger of two numbers of rows.
-pub fn more_rows(ru: usize, rv: usize) -> usize
-    ensures { λ r. ⌜ r ≡ cond (ltb ru rv) rv ru ⌝ }
-{
-    if ru < rv {
-        return rv;
-    }
-    ru
-}
 
 // Whether a length of p, y, the choices, the word, s or the working space differs from what the sizes say.
 pub fn choices_differ(
@@ -51,7 +41,7 @@ pub fn choices_differ(
     let half = z.n as usize / 2;
     let ku = z.ku as usize;
     let kv = z.kv as usize;
-    let rows = more_rows(half - ku, half - kv) + 5;
+    let rows = work::more_rows(half - ku, half - kv) + 5;
     if p != half + half {
         return true;
     }

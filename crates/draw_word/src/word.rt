@@ -15,6 +15,7 @@ ghost use Rattle.draw_half.specs.Half.{Ends};
 ghost use Rattle.calls.specs.Lent.{planes, halfWords, secretOf, Readable};
 ghost use Rattle.draw_tests.specs.Ready.{given, ending, Ready};
 ghost use Rattle.draw_word.specs.Stages.{pairsOf, choices, startWord, Parted, SolvedWhere, Joined, MadeWhere};
+use scheme::sizes;
 use scheme::sizes::Sizes;
 use trits::refusal::Outcome;
 use trits::refusal::Refusal;
@@ -44,18 +45,17 @@ pub fn part_word(
     ensures { λ _. ⌜ Parted z l (pairsOf (now («b_ones» .entry)) (now («b_twos» .entry)) (now («c_ones» .entry)) (now («c_twos» .entry)))
         (startWord z (now (p .entry)) (tritAt (now («y_ones» .entry)) (now («y_twos» .entry)))) (matrixAt (halfWords z) (now («work_ones» .exit)) (now («work_twos» .exit))) ⌝ }
 {
-    let half = z.n as usize / 2;
-    let w = (half + 63) / 64;
-    let count = half - z.ku as usize + (half - z.kv as usize);
+    let s = sizes::shape_of(z);
+    let count = s.ru + s.rv;
     let rows = l + 5;
     calls::work::clear(work_ones, work_twos);
     draw_pairs::places::place_syndrome(
         work_ones,
         work_twos,
         rows,
-        w,
+        s.words,
         l,
-        half,
+        s.half,
         p,
         count,
         y_ones,
@@ -65,7 +65,7 @@ pub fn part_word(
         work_ones,
         work_twos,
         rows,
-        w,
+        s.words,
         l,
         b_ones,
         b_twos,
@@ -110,12 +110,9 @@ pub fn solve_halves(
         (codeOf r ≡ ranksRefusal z s ch 0) × Rows (now («work_ones» .exit)) (now («work_twos» .exit)) (l + 5) (halfWords z)
         × SolvedWhere (codeOf r) z l s ch (A l) (A (l + 1)) (matrixAt (halfWords z) (now («work_ones» .exit)) (now («work_twos» .exit)))) ⌝ }
 {
-    let half = z.n as usize / 2;
-    let w = (half + 63) / 64;
+    let s = sizes::shape_of(z);
     let gv = z.g as usize;
     let gu = z.g as usize;
-    let rv = half - z.kv as usize;
-    let ru = half - z.ku as usize;
     let rows = l + 5;
     let v = l + 3;
     let u = l + 4;
@@ -123,8 +120,8 @@ pub fn solve_halves(
         work_ones,
         work_twos,
         rows,
-        w,
-        rv,
+        s.words,
+        s.rv,
         hv_ones,
         hv_twos,
         v_order,
@@ -140,8 +137,8 @@ pub fn solve_halves(
         work_ones,
         work_twos,
         rows,
-        w,
-        ru,
+        s.words,
+        s.ru,
         hu_ones,
         hu_twos,
         u_order,
@@ -183,8 +180,7 @@ pub fn join_word(
         × Joined l (pairsOf (now («b_ones» .entry)) (now («b_twos» .entry)) (now («c_ones» .entry)) (now («c_twos» .entry))) A B
         × (r ≡ weightV (B (l + 4)) (64 * halfWords z) + weightV (B (l + 3)) (64 * halfWords z))) ⌝ }
 {
-    let half = z.n as usize / 2;
-    let w = (half + 63) / 64;
+    let s = sizes::shape_of(z);
     let rows = l + 5;
     let v = l + 3;
     let u = l + 4;
@@ -192,7 +188,7 @@ pub fn join_word(
         work_ones,
         work_twos,
         rows,
-        w,
+        s.words,
         u,
         v,
         l + 2,
@@ -201,7 +197,7 @@ pub fn join_word(
         c_ones,
         c_twos,
     );
-    grid::weights::pair_weight(work_ones, work_twos, rows, w, u, v)
+    grid::weights::pair_weight(work_ones, work_twos, rows, s.words, u, v)
 }
 
 // The halves of the word in the rows of e_U and e_V; 12, 13, and 14 where its weight is not w.

@@ -2,7 +2,9 @@
 use mathlib.Core.Bool.{Bool, _&&_}
 use Prim.Native.Nat.{ℕ, _+_, _-_, _/_, _%_}
 use lib.Dec.{eqb, leb}
+use Rattle.trits.specs.Planes.{wordsFor}
 pub use Rattle.scheme.specs.declared.sizes.Sizes.{Sizes}
+pub use Rattle.scheme.specs.declared.sizes.Shape.{Shape}
 
 -- N, the number of pairs
 abbrev pub half : Sizes → ℕ
@@ -41,3 +43,7 @@ unfoldable pub sizesFit : Sizes → Bool
 sizesFit z =
     leb 4 (z .n) && (leb (z .n) 16384 && (eqb (z .n % 2) 0 && (leb 1 (z .ku) && (leb (z .ku) (half z - 1) && (leb 1 (z .kv) && (leb (z .kv) (half z - 1)
     && (leb (gapU z) (z .ku) && (leb (gapV z) (z .kv) && (leb 1 (z .w) && leb (z .w) (z .n))))))))))
+
+-- N, the words of a row of N trits, r_U and r_V, taken together
+abbrev pub shapeOf : Sizes → Shape
+shapeOf z = record { half = half z; words = wordsFor (half z); ru = ru z; rv = rv z }

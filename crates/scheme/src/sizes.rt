@@ -1,6 +1,7 @@
-// The sizes of a key, and the test of their ranges.
+// The sizes of a key, the test of their ranges, and the numbers that they come to.
 ghost use mathlib.Core.Path.{_≡_};
-ghost use Rattle.scheme.specs.Sizes.{sizesFit};
+ghost use mathlib.Core.Bool.{true};
+ghost use Rattle.scheme.specs.Sizes.{sizesFit, shapeOf};
 
 // n places, k_U and k_V, the gap g, the weight w.
 #[repr(C)]
@@ -47,4 +48,26 @@ pub fn sizes_fit(z: Sizes) -> bool
         return false;
     }
     z.w <= z.n
+}
+
+// N, the words of a row of N trits, and the rows of H_U and of H_V.
+pub struct Shape {
+    pub half: usize,
+    pub words: usize,
+    pub ru: usize,
+    pub rv: usize,
+}
+
+// The numbers that sizes in their ranges come to.
+pub fn shape_of(z: Sizes) -> Shape
+    requires { ⌜ sizesFit z ≡ true ⌝ }
+    ensures { λ r. ⌜ r ≡ shapeOf z ⌝ }
+{
+    let half = z.n as usize / 2;
+    Shape {
+        half: half,
+        words: (half + 63) / 64,
+        ru: half - z.ku as usize,
+        rv: half - z.kv as usize,
+    }
 }

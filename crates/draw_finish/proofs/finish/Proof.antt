@@ -1,31 +1,98 @@
--- What is made is made, and the working space is 0 after it.
+-- A refusal leaves the word and s as they were; else the rows of the halves are written as the word (`word-written`); the working space is 0 after both.
 -- Assumes nothing.
-use mathlib.Core.Path.{_≡_, ap, _∙_}
+use Prim.Native.Nat.{ℕ, _+_, _*_}
+use mathlib.Core.Path.{_≡_, sym, ap, _∙_}
+use mathlib.Core.Logic.{⊎-elim}
 use mathlib.Core.List.{List}
-use Prim.Native.Nat.{ℕ}
-use Rattle.trits.specs.Planes.{zeroWords}
+use native.Mathlib.Omega.{arith}
+use lib.ListN.{length}
+use denote.Ref.{now}
+use Rattle.trits.specs.Trit.{upTo}
+use Rattle.trits.specs.Planes.{wordsFor, onesOf, twosOf, zeroWords}
+use Rattle.trits.proofs.Refusals.{exit-kept, exit-new}
+use Rattle.matrix.specs.Linear.{Vector}
+use Rattle.scheme.specs.Sizes.{places, dim}
+use Rattle.draw_pairs.proofs.DrawRows.{word-written, signature-written}
+use Rattle.calls.specs.Lent.{planes, halfWords, secretOf}
+use Rattle.calls.specs.DrawCall.{DrawCall, matrixRows, syndromeOf, choicesOf, wordOf}
+use Rattle.calls.proofs.Bounds.{bounds}
+use Rattle.calls.proofs.Exits.{positive}
+use Rattle.draw_tests.specs.Ready.{given}
+use Rattle.draw_tests.proofs.Space.{space}
 use borrow.Author.Needs.{needs}
 use Rattle.draw_finish.proofs.finish.Statement.{statement}
 use Rattle.draw_finish.proofs.finish.Tie as tie
 
-make-requires : tie.Need-make-requires
-make-requires c κs =
-    c .before .before .before .before .before .before .before .before .before .before .before .before .before .before .before .before .before .before .before .before .before .before .before .before .before .before .before .before .before .pre
+-- the entry, and what is lent there
+abbrev entry : tie.After-more-rows → tie.Start
+entry c = c .before .before .before .before .before .before .before .before .before .before .before .before .before .before .before .before .before .before .before .before .before .before .before .before .before
+
+abbrev lent : tie.Start → DrawCall
+lent s =
+    let a = s .args in
+    given (planes (now (a .hu-ones)) (now (a .hu-twos)) (now (a .hv-ones)) (now (a .hv-twos)) (now (a .b-ones)) (now (a .b-twos)) (now (a .c-ones)) (now (a .c-twos)))
+    (now (a .p)) (now (a .y-ones)) (now (a .y-twos)) (now (a .v-order)) (now (a .v-ones)) (now (a .v-twos)) (now (a .u-order)) (now (a .u-ones)) (now (a .u-twos))
+
+-- as many rows as the larger matrix has
+rows : (c : tie.After-more-rows) → c .more-rows .result ≡ matrixRows (entry c .args .z)
+rows c = rw (c .before .shape-of .ensures) at (c .more-rows .ensures)
+
+shape-of-requires : tie.Need-shape-of-requires
+shape-of-requires c κs = search needs
+
+more-rows-requires : tie.Need-more-rows-requires
+more-rows-requires c κs = search needs
+
+make-word-requires : tie.Need-make-word-requires
+make-word-requires c κs =
+    let s = entry (c .before .before) in
+    let z = s .args .z in
+    let m = s .pre .1 .1 in
+    let e = rows (c .before .before) in
+    let p = space z (bounds z (s .pre .0)) in (
+      s .pre .0,
+      (
+        s .pre .1 .0,
+        (
+          omega (arith, e, p .u),
+          omega (arith, e, p .v),
+          omega (arith, e, p .rows),
+          m .4 ∙ ap (λ (n : ℕ). (n + 5) * halfWords z) (sym e),
+          m .5 ∙ ap (λ (n : ℕ). (n + 5) * halfWords z) (sym e),
+        ),
+      ),
+    )
+
+code-requires : tie.Need-code-requires
+code-requires c κs = search needs
+
+release-word-requires : tie.Need-release-word-requires
+release-word-requires c κs =
+    let k = c .before .before .before .before .before .before .before in
+    let s = entry (k .before .before .before .before .before .before .before .before) in
+    let z = s .args .z in
+    let m = s .pre .1 .1 in
+    let p = space z (bounds z (s .pre .0)) in
+    (s .pre .0, (s .pre .1 .0 .p, (omega (arith, rows (k .before .before .before .before .before .before .before .before), p .rows), (k .before .before .before .before .before .make-word .ensures .1, (m .0, m .1, m .2, m .3)))))
 
 clear-requires : tie.Need-clear-requires
 clear-requires c κs = search needs
 
 same-length : tie.Need-same-length
-same-length c = search needs
+same-length c =
+    ⊎-elim (λ w. omega (arith, ap length (w .16), w .8 .given)) (λ w. omega (arith, ap length (w .1))) (c .before .before .before .before .before .before .before .if1 .came)
 
 same-length-2 : tie.Need-same-length-2
-same-length-2 c = search needs
+same-length-2 c =
+    ⊎-elim (λ w. omega (arith, ap length (w .17), w .10 .given)) (λ w. omega (arith, ap length (w .2))) (c .before .before .before .before .before .before .before .if1 .came)
 
 same-length-3 : tie.Need-same-length-3
-same-length-3 c = search needs
+same-length-3 c =
+    ⊎-elim (λ w. omega (arith, ap length (w .18), w .12 .given)) (λ w. omega (arith, ap length (w .3))) (c .before .before .before .before .before .before .before .if1 .came)
 
 same-length-4 : tie.Need-same-length-4
-same-length-4 c = search needs
+same-length-4 c =
+    ⊎-elim (λ w. omega (arith, ap length (w .19), w .14 .given)) (λ w. omega (arith, ap length (w .4))) (c .before .before .before .before .before .before .before .if1 .came)
 
 same-length-5 : tie.Need-same-length-5
 same-length-5 c = search needs
@@ -38,14 +105,51 @@ cleared : {w : List ℕ} {n m : ℕ} → w ≡ zeroWords n → n ≡ m → w ≡
 cleared e d = e ∙ ap zeroWords d
 
 returns : tie.Need-returns
+unfolding wordOf
 returns c =
-    (search needs, search needs, search needs, search needs, search needs, search (needs, cleared), search (needs, cleared))
+    let j = c .before .before .before .before .before .before .before in
+    let k = j .before in
+    let s = entry (k .before .before .before .before .before .before .before .before) in
+    let z = s .args .z in
+    let i = lent s in
+    let told = k .before .before .before .before .before .make-word .ensures in
+    let e = k .code .ensures ∙ told .0 in
+    ⊎-elim
+    (λ w.
+    let n = sym (k .code .ensures) ∙ w .0 .taken in
+    let f = sym e ∙ w .0 .taken in
+    let d = word-written z (secretOf z (i .secret)) (i .p) (syndromeOf i) (choicesOf i) _ _ (told .2 .left n) (told .2 .right n) in
+    let t = signature-written z (secretOf z (i .secret)) (i .p) (syndromeOf i) (choicesOf i) _ _ (told .2 .left n) (told .2 .right n) in
+    let g = w .7 .ensures in (
+      told .0,
+      w .16 ∙ g .0 ∙ ap (λ (v : Vector). onesOf (upTo (places z) v) (wordsFor (places z))) d ∙ exit-new _ _ f,
+      w .17 ∙ g .1 ∙ ap (λ (v : Vector). twosOf (upTo (places z) v) (wordsFor (places z))) d ∙ exit-new _ _ f,
+      w .18 ∙ g .2 ∙ ap (λ (v : Vector). onesOf (upTo (dim z) v) (wordsFor (dim z))) t ∙ exit-new _ _ f,
+      w .19 ∙ g .3 ∙ ap (λ (v : Vector). twosOf (upTo (dim z) v) (wordsFor (dim z))) t ∙ exit-new _ _ f,
+      cleared (c .before .before .before .before .clear .ensures .0) (k .before .before .before .before .work-ones .given),
+      cleared (c .before .before .before .before .clear .ensures .1) (k .before .before .work-twos .given),
+    ))
+    (λ w.
+    let h = positive _ (w .0 .left) in (
+      told .0,
+      w .1 ∙ exit-kept _ _ e h,
+      w .2 ∙ exit-kept _ _ e h,
+      w .3 ∙ exit-kept _ _ e h,
+      w .4 ∙ exit-kept _ _ e h,
+      cleared (c .before .before .before .before .clear .ensures .0) (k .before .before .before .before .work-ones .given),
+      cleared (c .before .before .before .before .clear .ensures .1) (k .before .before .work-twos .given),
+    ))
+    (j .if1 .came)
 
 pub finish-spec : {M : Type 1} → statement M
 finish-spec =
     tie.close
     (tie.spec
-    make-requires
+    shape-of-requires
+    more-rows-requires
+    make-word-requires
+    code-requires
+    release-word-requires
     clear-requires
     same-length
     same-length-2

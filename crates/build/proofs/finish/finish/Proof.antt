@@ -1,34 +1,88 @@
--- What is made is made, and the working space is 0 after it.
+-- The ranks are tested and nothing written where they refuse; else the key is released; the working space is 0 after both.
 -- Assumes nothing.
-use mathlib.Core.Path.{_≡_, ap, _∙_}
+use mathlib.Core.Path.{_≡_, refl, sym, ap, _∙_}
+use mathlib.Core.Logic.{⊎-elim}
 use mathlib.Core.List.{List}
 use Prim.Native.Nat.{ℕ}
+use native.Mathlib.Omega.{arith}
+use lib.ListN.{length}
+use denote.Ref.{now}
 use Rattle.trits.specs.Planes.{zeroWords}
+use Rattle.trits.specs.Refusal.{codeOf}
+use Rattle.trits.proofs.Refusals.{exit-kept, exit-new}
+use Rattle.scheme.specs.Secret.{Secret}
+use Rattle.scheme.specs.Build.{buildRefusal}
+use Rattle.calls.specs.Lent.{planes, secretOf}
+use Rattle.calls.proofs.Exits.{positive}
+use Rattle.build_ranks.specs.Matrices.{matrices}
+use Rattle.build_release.proofs.Released.{full-rank, same-ranks}
 use borrow.Author.Needs.{needs}
 use Rattle.build.proofs.finish.finish.Statement.{statement}
 use Rattle.build.proofs.finish.finish.Tie as tie
 
-make-requires : tie.Need-make-requires
-make-requires c κs =
-    c .before .before .before .before .before .before .before .before .before .before .before .before .before .before .before .before .before .before .before .pre
+-- the entry, and the secret lent there
+abbrev entry : tie.After-code → tie.Start
+entry c = c .before .before .before .before .before .before .before .before .before .before .before .before .before .before .before .before .before .before .before .before .before .before
+
+abbrev secret : tie.Start → Secret
+secret s =
+    let a = s .args in
+    secretOf (a .z) (planes (now (a .hu-ones)) (now (a .hu-twos)) (now (a .hv-ones)) (now (a .hv-twos)) (now (a .b-ones)) (now (a .b-twos)) (now (a .c-ones)) (now (a .c-twos)))
+
+-- the test of the ranks tells the refusal that the definition says
+told : (c : tie.After-code) → codeOf (c .before .before .before .before .before .test-ranks .result) ≡ buildRefusal (entry c .args .z) (secret (entry c))
+told c =
+    let a = entry c .args in
+    c .before .before .before .before .before .test-ranks .ensures
+    ∙ same-ranks (a .z) (matrices (a .z) (now (a .hu-ones)) (now (a .hu-twos)) (now (a .hv-ones)) (now (a .hv-twos))) (secret (entry c)) refl refl
+
+test-ranks-requires : tie.Need-test-ranks-requires
+test-ranks-requires c κs = (search needs, (search needs, (search needs, (search needs, search needs))))
+
+code-requires : tie.Need-code-requires
+code-requires c κs = search needs
+
+release-requires : tie.Need-release-requires
+release-requires c κs =
+    let k = c .before .before .before .before .before .before in
+    let s = entry k in
+    let l = s .pre .1 .1 .1 in
+    let f = sym (told k) ∙ sym (k .code .ensures) ∙ c .before .before .before .before .before .if1 .taken in (
+      s .pre .0,
+      (
+        s .pre .1 .0,
+        (
+          s .pre .1 .1 .0,
+          (
+            full-rank (s .args .z) (secret s) f,
+            (l .0, l .1, l .2, omega (arith, k .before .before .before .before .work-ones .given, l .3), omega (arith, k .before .before .work-twos .given, l .4)),
+          ),
+        ),
+      ),
+    )
 
 clear-requires : tie.Need-clear-requires
 clear-requires c κs = search needs
 
 same-length : tie.Need-same-length
-same-length c = search needs
+same-length c =
+    ⊎-elim (λ w. omega (arith, ap length (w .17), w .7 .given)) (λ w. omega (arith, ap length (w .1))) (c .before .before .before .before .before .before .before .if1 .came)
 
 same-length-2 : tie.Need-same-length-2
-same-length-2 c = search needs
+same-length-2 c =
+    ⊎-elim (λ w. omega (arith, ap length (w .18), w .9 .given)) (λ w. omega (arith, ap length (w .2))) (c .before .before .before .before .before .before .before .if1 .came)
 
 same-length-3 : tie.Need-same-length-3
-same-length-3 c = search needs
+same-length-3 c =
+    ⊎-elim (λ w. omega (arith, ap length (w .19), w .11 .given)) (λ w. omega (arith, ap length (w .3))) (c .before .before .before .before .before .before .before .if1 .came)
 
 same-length-4 : tie.Need-same-length-4
-same-length-4 c = search needs
+same-length-4 c =
+    ⊎-elim (λ w. omega (arith, ap length (w .20), w .13 .given, c .before .before .before .before .before .before .before .before .before .before .before .before .work-ones .given, c .before .before .before .work-ones3 .given)) (λ w. omega (arith, ap length (w .4), c .before .before .before .before .before .before .before .before .before .before .before .before .work-ones .given, c .before .before .before .work-ones3 .given)) (c .before .before .before .before .before .before .before .if1 .came)
 
 same-length-5 : tie.Need-same-length-5
-same-length-5 c = search needs
+same-length-5 c =
+    ⊎-elim (λ w. omega (arith, ap length (w .21), w .15 .given, c .before .before .before .before .before .before .before .before .before .before .work-twos .given, c .before .work-twos3 .given)) (λ w. omega (arith, ap length (w .5), c .before .before .before .before .before .before .before .before .before .before .work-twos .given, c .before .work-twos3 .given)) (c .before .before .before .before .before .before .before .if1 .came)
 
 -- words made 0 at a length that is also the entry's
 cleared : {w : List ℕ} {n m : ℕ} → w ≡ zeroWords n → n ≡ m → w ≡ zeroWords m
@@ -36,13 +90,37 @@ cleared e d = e ∙ ap zeroWords d
 
 returns : tie.Need-returns
 returns c =
-    (search needs, search needs, search needs, search needs, search (needs, cleared), search (needs, cleared))
+    let j = c .before .before .before .before .before .before .before in
+    let k = j .before in
+    let e = k .code .ensures ∙ told k in
+    ⊎-elim
+    (λ w.
+    let f = sym e ∙ w .0 .taken in (
+      told k,
+      w .17 ∙ w .6 .ensures .0 ∙ exit-new _ _ f,
+      w .18 ∙ w .6 .ensures .1 ∙ exit-new _ _ f,
+      w .19 ∙ w .6 .ensures .2 ∙ exit-new _ _ f,
+      cleared (c .before .before .before .before .clear .ensures .0) (omega (arith, ap length (w .20), w .13 .given, k .before .before .before .before .work-ones .given)),
+      cleared (c .before .before .before .before .clear .ensures .1) (omega (arith, ap length (w .21), w .15 .given, k .before .before .work-twos .given)),
+    ))
+    (λ w.
+    let h = positive _ (w .0 .left) in (
+      told k,
+      w .1 ∙ exit-kept _ _ e h,
+      w .2 ∙ exit-kept _ _ e h,
+      w .3 ∙ exit-kept _ _ e h,
+      cleared (c .before .before .before .before .clear .ensures .0) (omega (arith, ap length (w .4), k .before .before .before .before .work-ones .given)),
+      cleared (c .before .before .before .before .clear .ensures .1) (omega (arith, ap length (w .5), k .before .before .work-twos .given)),
+    ))
+    (j .if1 .came)
 
 pub finish-spec : {M : Type 1} → statement M
 finish-spec =
     tie.close
     (tie.spec
-    make-requires
+    test-ranks-requires
+    code-requires
+    release-requires
     clear-requires
     same-length
     same-length-2

@@ -9,29 +9,20 @@ use borrow.Author.Needs.{needs}
 use Rattle.build.proofs.tests.key_differs.Statement.{statement}
 use Rattle.build.proofs.tests.key_differs.Tie as tie
 
-add-hw : tie.Need-add-hw
-add-hw c =
-    let s = c in let b = bounds (s .args .z) (s .pre) in let p = products (s .args .z) b in omega (arith, b .low, b .high, b .ku, b .kv, p .key, p .work)
+shape-of-requires : tie.Need-shape-of-requires
+shape-of-requires c κs = search needs
 
 add-k : tie.Need-add-k
 add-k c =
-    let s = c in let b = bounds (s .args .z) (s .pre) in let p = products (s .args .z) b in omega (arith, b .low, b .high, b .ku, b .kv, p .key, p .work)
-
-sub-rows : tie.Need-sub-rows
-sub-rows c =
-    let s = c in let b = bounds (s .args .z) (s .pre) in let p = products (s .args .z) b in omega (arith, b .low, b .high, b .ku, b .kv, p .key, p .work)
-
-sub-rows-2 : tie.Need-sub-rows-2
-sub-rows-2 c =
-    let s = c in let b = bounds (s .args .z) (s .pre) in let p = products (s .args .z) b in omega (arith, b .low, b .high, b .ku, b .kv, p .key, p .work)
+    let s = c .before in let b = bounds (s .args .z) (s .pre) in omega (arith, b .high, b .ku, b .kv)
 
 add-rows : tie.Need-add-rows
 add-rows c =
-    let s = c in let b = bounds (s .args .z) (s .pre) in let p = products (s .args .z) b in omega (arith, b .low, b .high, b .ku, b .kv, p .key, p .work)
+    let s = c .before .before in rw (c .before .shape-of .ensures) (omega (arith, bounds (s .args .z) (s .pre) .high))
 
 add-pair-differs : tie.Need-add-pair-differs
 add-pair-differs c =
-    let s = c in let b = bounds (s .args .z) (s .pre) in let p = products (s .args .z) b in omega (arith, b .low, b .high, b .ku, b .kv, p .key, p .work)
+    let s = c .before .before .before in rw (c .before .before .shape-of .ensures) (omega (arith, bounds (s .args .z) (s .pre) .high))
 
 pair-differs-requires : tie.Need-pair-differs-requires
 pair-differs-requires c κs = search needs
@@ -39,15 +30,16 @@ pair-differs-requires c κs = search needs
 returns : tie.Need-returns
 unfolding keyDiffers
 returns c =
-    rw (sym (c .before .pair-differs .ensures) ∙ c .if1 .taken)
+    let e = c .before .before .before .before .shape-of .ensures in
+    rw (rw e at (sym (c .before .pair-differs .ensures) ∙ c .if1 .taken))
 
 add-pair-differs-2 : tie.Need-add-pair-differs-2
 add-pair-differs-2 c =
-    let s = c .before .before in let b = bounds (s .args .z) (s .pre) in let p = products (s .args .z) b in omega (arith, b .low, b .high, b .ku, b .kv, p .key, p .work)
+    let s = c .before .before .before .before .before in rw (c .before .before .before .before .shape-of .ensures) (omega (arith, bounds (s .args .z) (s .pre) .high))
 
 mul-pair-differs : tie.Need-mul-pair-differs
 mul-pair-differs c =
-    let s = c .before .before in let b = bounds (s .args .z) (s .pre) in let p = products (s .args .z) b in omega (arith, b .low, b .high, b .ku, b .kv, p .key, p .work)
+    let s = c .before .before .before .before .before in rw (c .before .before .before .before .shape-of .ensures) (omega (arith, products (s .args .z) (bounds (s .args .z) (s .pre)) .key))
 
 pair-differs-requires-2 : tie.Need-pair-differs-requires-2
 pair-differs-requires-2 c κs = search needs
@@ -55,15 +47,16 @@ pair-differs-requires-2 c κs = search needs
 returns-2 : tie.Need-returns-2
 unfolding keyDiffers
 returns-2 c =
-    rw (sym (c .before .before .before .pair-differs .ensures) ∙ c .before .before .if1 .left, sym (c .before .pair-differs2 .ensures) ∙ c .if2 .taken)
+    let e = c .before .before .before .before .before .before .shape-of .ensures in
+    rw (rw e at (sym (c .before .before .before .pair-differs .ensures) ∙ c .before .before .if1 .left), rw e at (sym (c .before .pair-differs2 .ensures) ∙ c .if2 .taken))
 
 add-pair-differs-3 : tie.Need-add-pair-differs-3
 add-pair-differs-3 c =
-    let s = c .before .before .before .before in let b = bounds (s .args .z) (s .pre) in let p = products (s .args .z) b in omega (arith, b .low, b .high, b .ku, b .kv, p .key, p .work)
+    let s = c .before .before .before .before .before .before .before .before in rw (c .before .before .before .before .before .before .before .shape-of .ensures) (omega (arith, bounds (s .args .z) (s .pre) .high))
 
 mul-pair-differs-2 : tie.Need-mul-pair-differs-2
 mul-pair-differs-2 c =
-    let s = c .before .before .before .before in let b = bounds (s .args .z) (s .pre) in let p = products (s .args .z) b in omega (arith, b .low, b .high, b .ku, b .kv, p .key, p .work)
+    let s = c .before .before .before .before .before .before .before .before in rw (c .before .before .before .before .before .before .before .shape-of .ensures) (omega (arith, products (s .args .z) (bounds (s .args .z) (s .pre)) .work))
 
 pair-differs-requires-3 : tie.Need-pair-differs-requires-3
 pair-differs-requires-3 c κs = search needs
@@ -71,16 +64,15 @@ pair-differs-requires-3 c κs = search needs
 returns-3 : tie.Need-returns-3
 unfolding keyDiffers
 returns-3 c =
-    rw (sym (c .before .before .before .before .pair-differs .ensures) ∙ c .before .before .before .if1 .left, sym (c .before .before .pair-differs2 .ensures) ∙ c .before .if2 .left) (c .pair-differs3 .ensures)
+    let e = c .before .before .before .before .before .before .before .before .shape-of .ensures in
+    rw (rw e at (sym (c .before .before .before .before .before .pair-differs .ensures) ∙ c .before .before .before .before .if1 .left), rw e at (sym (c .before .before .before .pair-differs2 .ensures) ∙ c .before .before .if2 .left)) (rw e at (c .pair-differs3 .ensures))
 
 pub key-differs-spec : {M : Type 1} → statement M
 key-differs-spec =
     tie.close
     (tie.spec
-    add-hw
+    shape-of-requires
     add-k
-    sub-rows
-    sub-rows-2
     add-rows
     add-pair-differs
     pair-differs-requires

@@ -8,17 +8,14 @@ use borrow.Author.Needs.{needs}
 use Rattle.calls.proofs.tests.secret_differs.Statement.{statement}
 use Rattle.calls.proofs.tests.secret_differs.Tie as tie
 
-add-hw : tie.Need-add-hw
-add-hw c =
-    let s = c in let b = bounds (s .args .z) (s .pre) in let p = words (s .args .z) b in omega (arith, b .low, b .high, b .ku, b .kv, p .u, p .v)
-
-sub-pair-differs : tie.Need-sub-pair-differs
-sub-pair-differs c =
-    let s = c in let b = bounds (s .args .z) (s .pre) in let p = words (s .args .z) b in omega (arith, b .low, b .high, b .ku, b .kv, p .u, p .v)
+shape-of-requires : tie.Need-shape-of-requires
+shape-of-requires c κs = search needs
 
 mul-pair-differs : tie.Need-mul-pair-differs
 mul-pair-differs c =
-    let s = c in let b = bounds (s .args .z) (s .pre) in let p = words (s .args .z) b in omega (arith, b .low, b .high, b .ku, b .kv, p .u, p .v)
+    let s = c .before .before in
+    let p = words (s .args .z) (bounds (s .args .z) (s .pre)) in
+    rw (c .before .shape-of .ensures) (omega (arith, p .u))
 
 pair-differs-requires : tie.Need-pair-differs-requires
 pair-differs-requires c κs = search needs
@@ -26,15 +23,14 @@ pair-differs-requires c κs = search needs
 returns : tie.Need-returns
 unfolding secretDiffers
 returns c =
-    rw (sym (c .before .pair-differs .ensures) ∙ c .if1 .taken)
-
-sub-pair-differs-2 : tie.Need-sub-pair-differs-2
-sub-pair-differs-2 c =
-    let s = c .before .before in let b = bounds (s .args .z) (s .pre) in let p = words (s .args .z) b in omega (arith, b .low, b .high, b .ku, b .kv, p .u, p .v)
+    let e = c .before .before .before .shape-of .ensures in
+    rw (rw e at (sym (c .before .pair-differs .ensures) ∙ c .if1 .taken))
 
 mul-pair-differs-2 : tie.Need-mul-pair-differs-2
 mul-pair-differs-2 c =
-    let s = c .before .before in let b = bounds (s .args .z) (s .pre) in let p = words (s .args .z) b in omega (arith, b .low, b .high, b .ku, b .kv, p .u, p .v)
+    let s = c .before .before .before .before .before in
+    let p = words (s .args .z) (bounds (s .args .z) (s .pre)) in
+    rw (c .before .before .before .before .shape-of .ensures) (omega (arith, p .v))
 
 pair-differs-requires-2 : tie.Need-pair-differs-requires-2
 pair-differs-requires-2 c κs = search needs
@@ -42,7 +38,8 @@ pair-differs-requires-2 c κs = search needs
 returns-2 : tie.Need-returns-2
 unfolding secretDiffers
 returns-2 c =
-    rw (sym (c .before .before .before .pair-differs .ensures) ∙ c .before .before .if1 .left, sym (c .before .pair-differs2 .ensures) ∙ c .if2 .taken)
+    let e = c .before .before .before .before .before .before .shape-of .ensures in
+    rw (rw e at (sym (c .before .before .before .before .pair-differs .ensures) ∙ c .before .before .before .if1 .left), rw e at (sym (c .before .pair-differs2 .ensures) ∙ c .if2 .taken))
 
 pair-differs-requires-3 : tie.Need-pair-differs-requires-3
 pair-differs-requires-3 c κs = search needs
@@ -50,7 +47,12 @@ pair-differs-requires-3 c κs = search needs
 returns-3 : tie.Need-returns-3
 unfolding secretDiffers
 returns-3 c =
-    rw (sym (c .before .before .before .before .before .pair-differs .ensures) ∙ c .before .before .before .before .if1 .left, sym (c .before .before .before .pair-differs2 .ensures) ∙ c .before .before .if2 .left, sym (c .before .pair-differs3 .ensures) ∙ c .if3 .taken)
+    let e = c .before .before .before .before .before .before .before .before .shape-of .ensures in
+    rw (
+      rw e at (sym (c .before .before .before .before .before .before .pair-differs .ensures) ∙ c .before .before .before .before .before .if1 .left),
+      rw e at (sym (c .before .before .before .pair-differs2 .ensures) ∙ c .before .before .if2 .left),
+      rw e at (sym (c .before .pair-differs3 .ensures) ∙ c .if3 .taken),
+    )
 
 pair-differs-requires-4 : tie.Need-pair-differs-requires-4
 pair-differs-requires-4 c κs = search needs
@@ -58,18 +60,21 @@ pair-differs-requires-4 c κs = search needs
 returns-4 : tie.Need-returns-4
 unfolding secretDiffers
 returns-4 c =
-    rw (sym (c .before .before .before .before .before .before .pair-differs .ensures) ∙ c .before .before .before .before .before .if1 .left, sym (c .before .before .before .before .pair-differs2 .ensures) ∙ c .before .before .before .if2 .left, sym (c .before .before .pair-differs3 .ensures) ∙ c .before .if3 .left) (c .pair-differs4 .ensures)
+    let e = c .before .before .before .before .before .before .before .before .before .shape-of .ensures in
+    rw (
+      rw e at (sym (c .before .before .before .before .before .before .before .pair-differs .ensures) ∙ c .before .before .before .before .before .before .if1 .left),
+      rw e at (sym (c .before .before .before .before .pair-differs2 .ensures) ∙ c .before .before .before .if2 .left),
+      rw e at (sym (c .before .before .pair-differs3 .ensures) ∙ c .before .if3 .left),
+    ) (rw e at (c .pair-differs4 .ensures))
 
 pub secret-differs-spec : {M : Type 1} → statement M
 secret-differs-spec =
     tie.close
     (tie.spec
-    add-hw
-    sub-pair-differs
+    shape-of-requires
     mul-pair-differs
     pair-differs-requires
     returns
-    sub-pair-differs-2
     mul-pair-differs-2
     pair-differs-requires-2
     returns-2

@@ -10,33 +10,33 @@ use borrow.Author.Needs.{needs}
 use Rattle.draw_word.proofs.word.join_word.Statement.{statement}
 use Rattle.draw_word.proofs.word.join_word.Tie as tie
 
-add-w : tie.Need-add-w
-add-w c =
-    let s = c .before .before .before .before .before .before in let a = s .args in let b = bounds (a .z) (s .pre .0) in omega (arith, b .low, b .high, b .ku, b .kv, s .pre .1 .1 .1 .0)
+shape-of-requires : tie.Need-shape-of-requires
+shape-of-requires c κs = search needs
 
 add-rows : tie.Need-add-rows
-add-rows c =
-    let s = c .before .before .before .before .before .before in let a = s .args in let b = bounds (a .z) (s .pre .0) in omega (arith, b .low, b .high, b .ku, b .kv, s .pre .1 .1 .1 .0)
+add-rows c = omega (arith, c .before .before .before .before .before .before .before .pre .1 .1 .1 .0)
 
 add-v : tie.Need-add-v
-add-v c =
-    let s = c .before .before .before .before .before .before in let a = s .args in let b = bounds (a .z) (s .pre .0) in omega (arith, b .low, b .high, b .ku, b .kv, s .pre .1 .1 .1 .0)
+add-v c = omega (arith, c .before .before .before .before .before .before .before .pre .1 .1 .1 .0)
 
 add-u : tie.Need-add-u
-add-u c =
-    let s = c .before .before .before .before .before .before in let a = s .args in let b = bounds (a .z) (s .pre .0) in omega (arith, b .low, b .high, b .ku, b .kv, s .pre .1 .1 .1 .0)
+add-u c = omega (arith, c .before .before .before .before .before .before .before .pre .1 .1 .1 .0)
 
 add-join-halves : tie.Need-add-join-halves
-add-join-halves c =
-    let s = c .before .before .before .before .before .before .before .before in let a = s .args in let b = bounds (a .z) (s .pre .0) in omega (arith, b .low, b .high, b .ku, b .kv, s .pre .1 .1 .1 .0)
+add-join-halves c = omega (arith, c .before .before .before .before .before .before .before .before .before .pre .1 .1 .1 .0)
 
 join-halves-requires : tie.Need-join-halves-requires
 join-halves-requires c κs =
-    let s = c .before .before .before .before .before .before .before .before in let a = s .args in let b = bounds (a .z) (s .pre .0) in let y = s .pre .1 .1 .0 in (s .pre .1 .1 .1 .1, (s .pre .1 .0, (omega arith, omega arith, omega arith, λ w. omega arith, λ w. omega arith, y .0, y .1)))
+    let s = c .before .before .before .before .before .before .before .before .before in
+    let y = s .pre .1 .1 .0 in
+    rw (c .before .before .shape-of .ensures) (s .pre .1 .1 .1 .1, (s .pre .1 .0, (omega arith, omega arith, omega arith, λ w. omega arith, λ w. omega arith, y .0, y .1)))
 
 pair-weight-requires : tie.Need-pair-weight-requires
 pair-weight-requires c κs =
-    let s = c .before .before .before .before .before .before .before .before .before .before .before .before .before .before .before in let a = s .args in let b = bounds (a .z) (s .pre .0) in (c .before .before .before .before .before .before .join-halves .ensures .rows, (omega (arith, s .pre .1 .1 .1 .0), omega (arith, b .high), omega arith, omega arith))
+    let s = c .before .before .before .before .before .before .before .before .before .before .before .before .before .before .before .before in
+    let b = bounds (s .args .z) (s .pre .0) in
+    let e = c .before .before .before .before .before .before .before .before .before .shape-of .ensures in
+    rw e ((rw e at (c .before .before .before .before .before .before .join-halves .ensures)) .rows, (omega (arith, s .pre .1 .1 .1 .0), omega (arith, b .high), omega arith, omega arith))
 
 same-length : tie.Need-same-length
 same-length c = search needs
@@ -46,13 +46,16 @@ same-length-2 c = search needs
 
 returns : tie.Need-returns
 returns c =
-    let s = c .before .before .before .before .before .before .before .before .before .before .before .before .before .before .before .before in let a = s .args in let b = bounds (a .z) (s .pre .0) in (c .before .before .before .before .before .before .before .join-halves .ensures .rows, word-joined (a .l) (pairsOf (now (a .b-ones)) (now (a .b-twos)) (now (a .c-ones)) (now (a .c-twos))) (halfWords (a .z)) _ _ _ _ (c .before .before .before .before .before .before .before .join-halves .ensures), c .pair-weight .ensures)
+    let a = c .before .before .before .before .before .before .before .before .before .before .before .before .before .before .before .before .before .args in
+    let e = c .before .before .before .before .before .before .before .before .before .before .shape-of .ensures in
+    let j = rw e at (c .before .before .before .before .before .before .before .join-halves .ensures) in
+    (j .rows, word-joined (a .l) (pairsOf (now (a .b-ones)) (now (a .b-twos)) (now (a .c-ones)) (now (a .c-twos))) (halfWords (a .z)) _ _ _ _ j, rw e at (c .pair-weight .ensures))
 
 pub join-word-spec : {M : Type 1} → statement M
 join-word-spec =
     tie.close
     (tie.spec
-    add-w
+    shape-of-requires
     add-rows
     add-v
     add-u

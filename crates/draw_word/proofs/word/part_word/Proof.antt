@@ -12,36 +12,44 @@ use borrow.Author.Needs.{needs}
 use Rattle.draw_word.proofs.word.part_word.Statement.{statement}
 use Rattle.draw_word.proofs.word.part_word.Tie as tie
 
-add-w : tie.Need-add-w
-add-w c =
-    let s = c .before .before .before .before .before .before .before .before .before in let a = s .args in let b = bounds (a .z) (s .pre .0) in omega (arith, b .low, b .high, b .ku, b .kv, s .pre .1 .1 .1 .1 .1 .0)
-
-sub-count : tie.Need-sub-count
-sub-count c =
-    let s = c .before .before .before .before .before .before .before .before .before in let a = s .args in let b = bounds (a .z) (s .pre .0) in omega (arith, b .low, b .high, b .ku, b .kv, s .pre .1 .1 .1 .1 .1 .0)
-
-sub-count-2 : tie.Need-sub-count-2
-sub-count-2 c =
-    let s = c .before .before .before .before .before .before .before .before .before in let a = s .args in let b = bounds (a .z) (s .pre .0) in omega (arith, b .low, b .high, b .ku, b .kv, s .pre .1 .1 .1 .1 .1 .0)
+shape-of-requires : tie.Need-shape-of-requires
+shape-of-requires c κs = search needs
 
 add-count : tie.Need-add-count
 add-count c =
-    let s = c .before .before .before .before .before .before .before .before .before in let a = s .args in let b = bounds (a .z) (s .pre .0) in omega (arith, b .low, b .high, b .ku, b .kv, s .pre .1 .1 .1 .1 .1 .0)
+    let s = c .before .before .before .before .before .before .before .before .before .before .before in rw (c .before .shape-of .ensures) (omega (arith, bounds (s .args .z) (s .pre .0) .high))
 
 add-rows : tie.Need-add-rows
-add-rows c =
-    let s = c .before .before .before .before .before .before .before .before .before in let a = s .args in let b = bounds (a .z) (s .pre .0) in omega (arith, b .low, b .high, b .ku, b .kv, s .pre .1 .1 .1 .1 .1 .0)
+add-rows c = omega (arith, c .before .before .before .before .before .before .before .before .before .before .before .pre .1 .1 .1 .1 .1 .0)
 
 clear-requires : tie.Need-clear-requires
 clear-requires c κs = search needs
 
 place-syndrome-requires : tie.Need-place-syndrome-requires
 place-syndrome-requires c κs =
-    let s = c .before .before .before .before .before .before .before .before .before .before .before .before .before .before .before .before .before .before in let a = s .args in let b = bounds (a .z) (s .pre .0) in let m = s .pre .1 .1 .1 .1 .1 in let q = c .before .before .before .before .before .before .clear .ensures in let h = b .high in let big = prod (a .l + 5) (halfWords (a .z)) 8197 128 (omega (arith, m .0)) (omega (arith, h)) in let r = space-rows _ _ (a .l + 5) (halfWords (a .z)) (q .0) (q .1) (m .1) (m .2) in let y = s .pre .1 .1 .1 .1 .0 in (r, ((space-empty _ _ (a .l + 5) (halfWords (a .z)) (q .0) (q .1) (m .1) (m .2) (a .l), space-empty _ _ (a .l + 5) (halfWords (a .z)) (q .0) (q .1) (m .1) (m .2) (a .l + 1)), (s .pre .1 .1 .1 .0, ((omega (arith, r .size, big), omega arith, omega (arith, h)), (omega (arith, b .ku, b .kv), omega (arith, y .0), y .1)))))
+    let s = c .before .before .before .before .before .before .before .before .before .before .before .before .before .before .before .before .before .before .before .before in
+    let a = s .args in
+    let b = bounds (a .z) (s .pre .0) in
+    let m = s .pre .1 .1 .1 .1 .1 in
+    let y = s .pre .1 .1 .1 .1 .0 in
+    let q = c .before .before .before .before .before .before .clear .ensures in
+    let h = b .high in
+    let big = prod (a .l + 5) (halfWords (a .z)) 8197 128 (omega (arith, m .0)) (omega (arith, h)) in
+    let r = space-rows _ _ (a .l + 5) (halfWords (a .z)) (q .0) (q .1) (m .1) (m .2) in
+    let none = space-empty _ _ (a .l + 5) (halfWords (a .z)) (q .0) (q .1) (m .1) (m .2) in
+    rw (c .before .before .before .before .before .before .before .before .before .before .shape-of .ensures) (
+      r,
+      (
+        (none (a .l), none (a .l + 1)),
+        (s .pre .1 .1 .1 .0, ((omega (arith, r .size, big), omega arith, omega (arith, h)), (omega (arith, b .ku, b .kv), omega (arith, y .0), y .1))),
+      ),
+    )
 
 part-halves-requires : tie.Need-part-halves-requires
 part-halves-requires c κs =
-    let s = c .before .before .before .before .before .before .before .before .before .before .before .before .before .before .before .before .before .before .before .before .before .before .before .before .before in let a = s .args in let b = bounds (a .z) (s .pre .0) in (c .before .before .before .before .before .before .place-syndrome .ensures .rows, (s .pre .1 .0, (omega arith, s .pre .1 .1 .0 .0, s .pre .1 .1 .0 .1)))
+    let s = c .before .before .before .before .before .before .before .before .before .before .before .before .before .before .before .before .before .before .before .before .before .before .before .before .before .before .before in
+    let e = c .before .before .before .before .before .before .before .before .before .before .before .before .before .before .before .before .before .shape-of .ensures in
+    rw e ((rw e at (c .before .before .before .before .before .before .place-syndrome .ensures)) .rows, (s .pre .1 .0, (omega arith, s .pre .1 .1 .0 .0, s .pre .1 .1 .0 .1)))
 
 same-length : tie.Need-same-length
 same-length c = search needs
@@ -51,15 +59,23 @@ same-length-2 c = search needs
 
 returns : tie.Need-returns
 returns c =
-    let s = c .before .before .before .before .before .before .before .before .before .before .before .before .before .before .before .before .before .before .before .before .before .before .before .before .before .before .before .before .before .before in let a = s .args in let b = bounds (a .z) (s .pre .0) in let m = s .pre .1 .1 .1 .1 .1 in let q = c .before .before .before .before .before .before .before .before .before .before .before .before .before .before .before .before .before .before .clear .ensures in (c .before .before .before .before .part-halves .ensures .rows, word-parted (a .z) (a .l) (pairsOf (now (a .b-ones)) (now (a .b-twos)) (now (a .c-ones)) (now (a .c-twos))) (startWord (a .z) (now (a .p)) (tritAt (now (a .y-ones)) (now (a .y-twos)))) (halfWords (a .z)) _ _ _ _ _ _ (space-empty _ _ (a .l + 5) (halfWords (a .z)) (q .0) (q .1) (m .1) (m .2)) (c .before .before .before .before .before .before .before .before .before .before .before .place-syndrome .ensures) (c .before .before .before .before .part-halves .ensures))
+    let s = c .before .before .before .before .before .before .before .before .before .before .before .before .before .before .before .before .before .before .before .before .before .before .before .before .before .before .before .before .before .before .before .before in
+    let a = s .args in
+    let m = s .pre .1 .1 .1 .1 .1 in
+    let q = c .before .before .before .before .before .before .before .before .before .before .before .before .before .before .before .before .before .before .clear .ensures in
+    let e = c .before .before .before .before .before .before .before .before .before .before .before .before .before .before .before .before .before .before .before .before .before .before .shape-of .ensures in
+    let h = rw e at (c .before .before .before .before .part-halves .ensures) in (
+      h .rows,
+      word-parted (a .z) (a .l) (pairsOf (now (a .b-ones)) (now (a .b-twos)) (now (a .c-ones)) (now (a .c-twos)))
+          (startWord (a .z) (now (a .p)) (tritAt (now (a .y-ones)) (now (a .y-twos)))) (halfWords (a .z)) _ _ _ _ _ _
+          (space-empty _ _ (a .l + 5) (halfWords (a .z)) (q .0) (q .1) (m .1) (m .2)) (rw e at (c .before .before .before .before .before .before .before .before .before .before .before .place-syndrome .ensures)) h,
+    )
 
 pub part-word-spec : {M : Type 1} → statement M
 part-word-spec =
     tie.close
     (tie.spec
-    add-w
-    sub-count
-    sub-count-2
+    shape-of-requires
     add-count
     add-rows
     clear-requires

@@ -1,8 +1,8 @@
 -- By the comparison.
 -- Assumes nothing.
 use borrow.Author.Tests.{lt-ltb, le-ltb}
-use Rattle.draw_tests.proofs.tests.more_rows.Statement.{statement}
-use Rattle.draw_tests.proofs.tests.more_rows.Tie as tie
+use Rattle.calls.proofs.work.more_rows.Statement.{statement}
+use Rattle.calls.proofs.work.more_rows.Tie as tie
 
 returns : tie.Need-returns
 returns c =

@@ -12,17 +12,17 @@ use lib.ListN.{length, getD}
 use Rattle.trits.specs.Rows.{matrixAt}
 use Rattle.matrix.specs.Linear.{Matrix, rank, range}
 use Rattle.matrix.specs.Orders.{Order}
-use Rattle.matrix.specs.Eliminate.{pivotRow, hasPivot, stepOf}
+use Rattle.matrix.specs.Steps.{pivotRow, hasPivot, stepOf}
 use Rattle.matrix.proofs.Dimension.{Reaches}
 use Rattle.matrix.proofs.Places.{elem-at}
 use Rattle.matrix.proofs.Orders.{order-good}
 use Rattle.matrix.proofs.Rank.{full-reaches}
 use Rattle.matrix.proofs.Steps.{has-row, has-none, step-has, step-none}
-use Rattle.grid.specs.Grid.{Rows, Grid}
+use Rattle.grid.specs.Steps.{Rows, Grid}
 use Rattle.scheme.specs.Build.{swap, Arrangement, arranged}
 use Rattle.scheme_laws.proofs.Build.{State, begin, turned, taken, left, finished, swap-length}
-use Rattle.build_matrix.specs.Work.{colOf, placedAt}
-use Rattle.build_key.specs.KeyRows.{Keyed}
+use Rattle.build_matrix.specs.Steps.{colOf, placedAt}
+use Rattle.build_key.specs.Steps.{Keyed}
 
 -- ---- columns
 

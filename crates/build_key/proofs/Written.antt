@@ -15,8 +15,8 @@ use Rattle.trits.proofs.Reading.{length-ones, length-twos}
 use Rattle.trits.proofs.Ends.{upto-same}
 use Rattle.matrix.specs.Linear.{Matrix, column}
 use Rattle.scheme.specs.Build.{rowOfR}
-use Rattle.build_matrix.specs.Work.{colOf, placedAt}
-use Rattle.build_key.specs.KeyRows.{Keyed, readDown, keyOnes, keyTwos}
+use Rattle.build_matrix.specs.Steps.{colOf, placedAt}
+use Rattle.build_key.specs.Steps.{Keyed, readDown, keyOnes, keyTwos}
 
 -- ---- rows of words, one after another
 

@@ -1,2 +1,2 @@
 -- The definitions that the contracts cite: the key read out of the work matrix.
-pub mod KeyRows
+pub mod Steps

@@ -6,11 +6,11 @@ ghost use lib.ListN.{length};
 ghost use Rattle.trits.specs.Rows.{matrixAt};
 ghost use Rattle.matrix.specs.Linear.{rank, range};
 ghost use Rattle.matrix.specs.Orders.{Order};
-ghost use Rattle.matrix.specs.Eliminate.{hasPivot, stepOf};
-ghost use Rattle.grid.specs.Grid.{Rows, Grid};
+ghost use Rattle.matrix.specs.Steps.{hasPivot, stepOf};
+ghost use Rattle.grid.specs.Steps.{Rows, Grid};
 ghost use Rattle.scheme.specs.Build.{swap, arranged};
-ghost use Rattle.build_matrix.specs.Work.{colOf, placedAt};
-ghost use Rattle.build_key.specs.KeyRows.{Keyed};
+ghost use Rattle.build_matrix.specs.Steps.{colOf, placedAt};
+ghost use Rattle.build_key.specs.Steps.{Keyed};
 
 // The column of a secret place.
 pub fn column(q: usize, half: usize, hw: usize) -> usize

@@ -7,8 +7,8 @@ ghost use Rattle.trits.specs.Planes.{Reads, onesOf, twosOf};
 ghost use Rattle.trits.specs.Rows.{matrixAt};
 ghost use Rattle.matrix.specs.Linear.{column};
 ghost use Rattle.matrix.specs.Orders.{Order};
-ghost use Rattle.grid.specs.Grid.{Rows};
-ghost use Rattle.build_key.specs.KeyRows.{keyOnes, keyTwos};
+ghost use Rattle.grid.specs.Steps.{Rows};
+ghost use Rattle.build_key.specs.Steps.{keyOnes, keyTwos};
 use super::arrange;
 
 // The trits of column c are put at the first places of a row that holds 0.

@@ -13,9 +13,9 @@ use Rattle.trits.specs.Planes.{tritAt, Reads}
 use Rattle.trits.specs.Rows.{matrixAt}
 use Rattle.trits.proofs.Arithmetic.{law2, law3}
 use Rattle.matrix.specs.Linear.{Vector, Matrix}
-use Rattle.grid.specs.Grid.{Grid, putRow}
+use Rattle.grid.specs.Steps.{Grid, putRow}
 use Rattle.grid.proofs.Cells.{grid-to}
-use Rattle.build_matrix.specs.Work.{scaledBy, negativeBy, halvesIn}
+use Rattle.build_matrix.specs.Steps.{scaledBy, negativeBy, halvesIn}
 
 -- ---- the products
 

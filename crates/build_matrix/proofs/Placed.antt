@@ -11,12 +11,12 @@ use lib.Dec.{ltb}
 use Rattle.trits.specs.Planes.{tritAt}
 use Rattle.trits.specs.Rows.{matrixAt}
 use Rattle.matrix.specs.Linear.{Vector, Matrix}
-use Rattle.grid.specs.Grid.{Rows, Grid}
+use Rattle.grid.specs.Steps.{Rows, Grid}
 use Rattle.grid.proofs.Cells.{cell, cell-past, cell-none}
 use Rattle.scheme.specs.declared.sizes.Sizes.{Sizes}
 use Rattle.scheme.specs.Sizes.{half, ru, rv, codim}
 use Rattle.scheme.specs.Secret.{Secret, secretMatrix, join}
-use Rattle.build_matrix.specs.Work.{colOf, placedAt, halvesIn, leftU, rightU, leftV}
+use Rattle.build_matrix.specs.Steps.{colOf, placedAt, halvesIn, leftU, rightU, leftV}
 use Rattle.build_matrix.proofs.HalfRows.{halves-left, halves-right, halves-before, negative-past}
 
 -- a matrix of r rows of two halves is one of twice as many rows

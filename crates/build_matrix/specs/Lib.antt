@@ -1,2 +1,2 @@
 -- The definitions that the contracts cite: the work matrix in planes, and its half-rows.
-pub mod Work
+pub mod Steps

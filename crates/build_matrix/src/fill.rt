@@ -4,8 +4,8 @@ ghost use Prim.Native.Nat.{_+_, _≤_};
 ghost use lib.ListN.{length};
 ghost use Rattle.trits.specs.Planes.{tritAt, Row};
 ghost use Rattle.trits.specs.Rows.{matrixAt};
-ghost use Rattle.grid.specs.Grid.{Rows, Grid};
-ghost use Rattle.build_matrix.specs.Work.{halvesIn, leftU, rightU, leftV};
+ghost use Rattle.grid.specs.Steps.{Rows, Grid};
+ghost use Rattle.build_matrix.specs.Steps.{halvesIn, leftU, rightU, leftV};
 use super::halves;
 
 // The rows (d·H_U | -b·H_U), ru of them, in a matrix of `rows` half-rows of w words.

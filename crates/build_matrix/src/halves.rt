@@ -4,8 +4,8 @@ ghost use Prim.Native.Nat.{_*_, _<_};
 ghost use lib.ListN.{length};
 ghost use Rattle.trits.specs.Planes.{tritAt, Row, Reads};
 ghost use Rattle.trits.specs.Rows.{matrixAt};
-ghost use Rattle.grid.specs.Grid.{Rows, Grid, putRow};
-ghost use Rattle.build_matrix.specs.Work.{scaledBy, negativeBy};
+ghost use Rattle.grid.specs.Steps.{Rows, Grid, putRow};
+ghost use Rattle.build_matrix.specs.Steps.{scaledBy, negativeBy};
 
 // The row becomes h times 1 + b·c: h times b times c, and h added.
 pub fn scaled(

@@ -7,7 +7,7 @@ use native.Mathlib.Omega.{arith}
 use lib.ListN.{length, getD}
 use lib.Seq.{ext-getD}
 use Rattle.trits.proofs.Patches.{Patched}
-use Rattle.grid.specs.Grid.{Rows}
+use Rattle.grid.specs.Steps.{Rows}
 
 pub copy-done : {src d₀ d : List ℕ} {k : ℕ} → Patched (λ j. getD src j 0) 0 k d₀ d → length src ≡ length d₀ → length d₀ ≤ k → d ≡ src
 copy-done {src} {d₀} {d} {k} p e h =

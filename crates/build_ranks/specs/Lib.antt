@@ -1,2 +1,2 @@
 -- The definitions that the contracts cite; those of the call stand in `calls`.
-pub mod Matrices
+pub mod Steps

@@ -16,7 +16,7 @@ use Rattle.trits.proofs.Refusals.{passed-demand}
 use Rattle.matrix.specs.Linear.{Vector, Matrix, rank, range}
 use Rattle.matrix.specs.Orders.{Order}
 use Rattle.matrix.proofs.Rank.{full-reaches}
-use Rattle.grid.specs.Grid.{Rows, Grid}
+use Rattle.grid.specs.Steps.{Rows, Grid}
 use Rattle.grid.proofs.Cells.{grid-to}
 use Rattle.scheme.specs.declared.sizes.Sizes.{Sizes}
 use Rattle.scheme.specs.Sizes.{half, places, dim, ru, rv, codim}
@@ -24,15 +24,15 @@ use Rattle.scheme.specs.Secret.{Secret, secretMatrix}
 use Rattle.scheme.specs.Build.{arranged, rowOfR, keyOrder, buildRefusal}
 use Rattle.scheme_laws.proofs.Pairs.{secret-reaches}
 use Rattle.scheme_laws.proofs.Build.{arranged-good}
-use Rattle.build_matrix.specs.Work.{placedAt, halvesIn, leftU, rightU, leftV}
+use Rattle.build_matrix.specs.Steps.{placedAt, halvesIn, leftU, rightU, leftV}
 use Rattle.build_matrix.proofs.Placed.{rows-joined, placed-secret}
-use Rattle.build_key.specs.KeyRows.{Keyed, readDown, keyOnes, keyTwos}
+use Rattle.build_key.specs.Steps.{Keyed, readDown, keyOnes, keyTwos}
 use Rattle.build_key.proofs.Written.{rows-same, down-row}
 use Rattle.calls.specs.Lent.{Planes, halfWords, secretOf, Readable}
 use Rattle.calls.specs.BuildCall.{keyRowWords, buildWorkWords, keyOnesOf, keyTwosOf}
 use Rattle.calls.proofs.Bounds.{Bounds}
 use Rattle.build_ranks.proofs.Copies.{copied-rows}
-use Rattle.build_release.specs.Work.{Filled}
+use Rattle.build_release.specs.Steps.{Filled}
 
 -- working planes of 0, as half-rows
 pub zero-rows : (z : Sizes) {o t : List ℕ} (n k : ℕ) → o ≡ zeroWords n → t ≡ zeroWords k → n ≡ buildWorkWords z → k ≡ buildWorkWords z → Rows o t (codim z + codim z) (halfWords z)

@@ -10,7 +10,7 @@ ghost use Rattle.scheme.specs.Sizes.{sizesFit, places, dim, codim};
 ghost use Rattle.matrix.specs.Orders.{Order};
 ghost use Rattle.calls.specs.Lent.{planes, secretOf, Readable};
 ghost use Rattle.calls.specs.BuildCall.{keyRowWords, buildWorkWords, keyOnesOf, keyTwosOf};
-ghost use Rattle.build_release.specs.Work.{Filled};
+ghost use Rattle.build_release.specs.Steps.{Filled};
 use super::order;
 use scheme::sizes;
 use scheme::sizes::Sizes;

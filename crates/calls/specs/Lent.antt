@@ -10,7 +10,7 @@ use Rattle.trits.specs.Planes.{Row, tritAt, wordsFor}
 use Rattle.trits.specs.Rows.{matrixAt}
 use Rattle.trits.specs.Refusal.{refuse, first, planesRefusal}
 use Rattle.matrix.specs.Linear.{elem}
-use Rattle.grid.specs.Grid.{Rows}
+use Rattle.grid.specs.Steps.{Rows}
 use Rattle.scheme.specs.declared.sizes.Sizes.{Sizes}
 use Rattle.scheme.specs.Sizes.{half, ru, rv}
 use Rattle.scheme.specs.Secret.{Secret, hasZero}

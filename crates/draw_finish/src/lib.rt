@@ -9,7 +9,7 @@ ghost use Rattle.scheme.specs.Sizes.{sizesFit, places, dim};
 ghost use Rattle.scheme.specs.Draw.{signature};
 ghost use Rattle.calls.specs.Lent.{planes};
 ghost use Rattle.calls.specs.DrawCall.{drawWorkWords, wordOf};
-ghost use Rattle.draw_tests.specs.Ready.{given, ending, Ready};
+ghost use Rattle.draw_tests.specs.Steps.{given, ending, Ready};
 use draw_word::word;
 use scheme::sizes;
 use scheme::sizes::Sizes;

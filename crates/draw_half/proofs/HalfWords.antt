@@ -13,7 +13,7 @@ use Rattle.trits.specs.Trit.{t0, subT, dotV, upTo}
 use Rattle.trits.proofs.Ends.{upto-in, upto-out}
 use Rattle.matrix.specs.Linear.{Vector, Matrix, zeros, times, elem, solve, orZeros, rank, without, fill}
 use Rattle.matrix.specs.Orders.{Order}
-use Rattle.matrix.specs.Eliminate.{eliminated}
+use Rattle.matrix.specs.Steps.{eliminated}
 use Rattle.matrix.proofs.Dots.{dot-right, dot-past}
 use Rattle.matrix.proofs.Places.{Below, fill-off}
 use Rattle.matrix.proofs.Greedy.{bool-cases, pivots-kept, pivots-elem}
@@ -21,17 +21,17 @@ use Rattle.matrix.proofs.Orders.{order-good}
 use Rattle.matrix.proofs.Counts.{without-out}
 use Rattle.matrix.proofs.Kept.{eliminated-reduced}
 use Rattle.matrix.proofs.Values.{solve-by-rows}
-use Rattle.grid.specs.Grid.{putRow, joinRow}
+use Rattle.grid.specs.Steps.{putRow, joinRow}
 use Rattle.scheme.specs.declared.sizes.Sizes.{Sizes}
 use Rattle.scheme.specs.Sizes.{half, ru, rv, gapU, gapV}
 use Rattle.scheme.specs.Secret.{Secret}
 use Rattle.scheme.specs.Draw.{Choices, pivotsV, suppliedV, drawV, pivotsU, suppliedU, drawU}
 use Rattle.scheme_laws.proofs.Draws.{parts, first-below, last-in}
-use Rattle.draw_reduce.specs.Walk.{over, taken, passed}
+use Rattle.draw_reduce.specs.Steps.{over, taken, passed}
 use Rattle.draw_reduce.proofs.Walked.{first-taken, first-passed, order-taken, order-passed, taken-cong, over-row, over-rest, passed-over}
 use Rattle.scheme.specs.Draw.{forcedBy}
 use Rattle.draw_walk.proofs.Supplied.{fill-same, walk-length, put-here, put-else, put-again}
-use Rattle.draw_half.specs.Half.{Ends, halfPivots, wordV, wordU, Solved, SolvedWhere}
+use Rattle.draw_half.specs.Steps.{Ends, halfPivots, wordV, wordU, Solved, SolvedWhere}
 
 -- ---- the words are those of a draw
 

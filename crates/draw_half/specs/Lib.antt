@@ -1,2 +1,2 @@
 -- The definitions that the contracts cite: one half of a draw.
-pub mod Half
+pub mod Steps

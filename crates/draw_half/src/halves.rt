@@ -8,8 +8,8 @@ ghost use Rattle.trits.specs.Planes.{tritAt, Row};
 ghost use Rattle.trits.specs.Rows.{matrixAt};
 ghost use Rattle.matrix.specs.Linear.{zeros, rank};
 ghost use Rattle.matrix.specs.Orders.{Order};
-ghost use Rattle.grid.specs.Grid.{Rows};
-ghost use Rattle.draw_half.specs.Half.{Ends, wordV, wordU, SolvedWhere};
+ghost use Rattle.grid.specs.Steps.{Rows};
+ghost use Rattle.draw_half.specs.Steps.{Ends, wordV, wordU, SolvedWhere};
 use draw_walk::walk;
 
 // V: the whole order's places that are no pivot take the trits, and the pivots what the syndrome asks; false where the first part lacks rank.

@@ -24,7 +24,7 @@ use Rattle.scheme.specs.Sizes.{half, places, ru, rv, codim, gapU}
 use Rattle.scheme.specs.Secret.{Secret, join, uOf, vOf, leftOf, rightOf}
 use Rattle.scheme.specs.Draw.{Choices, placed, firstU, lastU, pivotsV, pivotsU, suppliedV, suppliedU, forced, drawV, drawU, drawn, signature}
 use Rattle.scheme_laws.proofs.Draws.{Valid, keptV, keptU, drawV-good, drawU-good, first-below, last-below}
-use Rattle.draw_pairs.specs.Halves.{placedRows, partedRows, joinedRows, writtenFrom}
+use Rattle.draw_pairs.specs.Steps.{placedRows, partedRows, joinedRows, writtenFrom}
 use Rattle.draw_pairs.proofs.PlacedHalves.{Paired, placed-left, placed-right, placed-else, parted-left, parted-right, parted-else, joined-left, joined-right, joined-else}
 use Rattle.draw_pairs.proofs.Weighed.{pair-weighs}
 

@@ -18,14 +18,14 @@ use Rattle.matrix.proofs.Dots.{put-other}
 use Rattle.matrix.proofs.Places.{elem-at, fill-at, fill-off}
 use Rattle.matrix.proofs.Greedy.{bool-cases}
 use Rattle.matrix.proofs.Orders.{order-good, elem-index}
-use Rattle.grid.specs.Grid.{Rows, Grid, putRow, joinProduct}
+use Rattle.grid.specs.Steps.{Rows, Grid, putRow, joinProduct}
 use Rattle.grid.proofs.Cells.{cell, grid-to}
 use Rattle.grid.proofs.RowParts.{put-here, put-else}
 use Rattle.grid.proofs.RowProducts.{product-at, product-else}
 use Rattle.scheme.specs.Secret.{join}
 use Rattle.scheme.specs.Draw.{placed}
 use Rattle.scheme_laws.proofs.Pairs.{join-low}
-use Rattle.draw_pairs.specs.Halves.{putPlace, placedRows, partedRows, joinedRows}
+use Rattle.draw_pairs.specs.Steps.{putPlace, placedRows, partedRows, joinedRows}
 
 -- ---- what is said of two rows
 

@@ -1,2 +1,2 @@
 -- The definitions that the contracts cite: the halves of a word in two rows of a grid.
-pub mod Halves
+pub mod Steps

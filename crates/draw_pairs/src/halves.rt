@@ -5,8 +5,8 @@ ghost use Prim.Native.Nat.{_+_, _<_};
 ghost use lib.ListN.{length};
 ghost use Rattle.trits.specs.Planes.{tritAt, Row};
 ghost use Rattle.trits.specs.Rows.{matrixAt};
-ghost use Rattle.grid.specs.Grid.{Rows, Grid};
-ghost use Rattle.draw_pairs.specs.Halves.{partedRows, joinedRows};
+ghost use Rattle.grid.specs.Steps.{Rows, Grid};
+ghost use Rattle.draw_pairs.specs.Steps.{partedRows, joinedRows};
 
 // Rows l and l + 1 become x_U and x_V: R - c·L, then L - b·x_V. Row l + 2 is used for the products.
 pub fn part_halves(

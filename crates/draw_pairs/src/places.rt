@@ -7,10 +7,10 @@ ghost use Rattle.trits.specs.Planes.{tritAt, Reads, onesOf, twosOf};
 ghost use Rattle.trits.specs.Rows.{matrixAt};
 ghost use Rattle.matrix.specs.Linear.{zeros};
 ghost use Rattle.matrix.specs.Orders.{Order};
-ghost use Rattle.grid.specs.Grid.{Rows, Grid};
+ghost use Rattle.grid.specs.Steps.{Rows, Grid};
 ghost use Rattle.scheme.specs.Secret.{join};
 ghost use Rattle.scheme.specs.Draw.{placed};
-ghost use Rattle.draw_pairs.specs.Halves.{putPlace, placedRows, writtenFrom};
+ghost use Rattle.draw_pairs.specs.Steps.{putPlace, placedRows, writtenFrom};
 
 // The trit t is put at secret place q: in row u below half, in row v from half on.
 pub fn put_place(

@@ -20,10 +20,10 @@ use Rattle.matrix.specs.Orders.{Order}
 use Rattle.matrix.proofs.Places.{elem-at}
 use Rattle.matrix.proofs.Orders.{order-good}
 use Rattle.matrix.proofs.Counts.{range-none}
-use Rattle.grid.specs.Grid.{Rows, Grid}
+use Rattle.grid.specs.Steps.{Rows, Grid}
 use Rattle.grid.proofs.Cells.{cell, cell-past, grid-by}
 use Rattle.elimination.proofs.Went.{Went, went-none}
-use Rattle.draw_reduce.specs.Walk.{over}
+use Rattle.draw_reduce.specs.Steps.{over}
 use Rattle.draw_reduce.proofs.Walked.{over-row, over-rest}
 
 -- ---- places of an order

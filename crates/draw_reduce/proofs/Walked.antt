@@ -12,7 +12,7 @@ use Rattle.trits.specs.Trit.{Trit, t0, t1, subT, mulT, isSet, putV, dotV}
 use Rattle.trits.proofs.Arithmetic.{add-zero-r, mul-assoc, add-neg}
 use Rattle.matrix.specs.Linear.{Vector, Matrix, zeros, times, elem, pivots, rank, without}
 use Rattle.matrix.specs.Orders.{Distinct, Order}
-use Rattle.matrix.specs.Eliminate.{swapRows, clearRows, pivotRow, hasPivot, stepOf, Stage, tried, eliminate, eliminated, begun}
+use Rattle.matrix.specs.Steps.{swapRows, clearRows, pivotRow, hasPivot, stepOf, Stage, tried, eliminate, eliminated, begun}
 use Rattle.matrix.proofs.Field.{mul-zero, mul-one, square}
 use Rattle.matrix.proofs.Dots.{put-same, put-other}
 use Rattle.matrix.proofs.Places.{Below, or-false-left, or-false-right, or-none}
@@ -22,7 +22,7 @@ use Rattle.matrix.proofs.Elimination.{Reduced, reduced-cong}
 use Rattle.matrix.proofs.Steps.{has-row, has-none, step-has, step-none}
 use Rattle.matrix.proofs.Kept.{tried-cells, tried-kept, tried-count, eliminate-pivots, eliminated-reduced}
 use Rattle.scheme_laws.proofs.Draws.{parts, first-below}
-use Rattle.draw_reduce.specs.Walk.{over, isNext, taken, passed}
+use Rattle.draw_reduce.specs.Steps.{over, isNext, taken, passed}
 
 -- ---- what one step leaves of a column
 

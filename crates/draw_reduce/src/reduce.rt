@@ -5,9 +5,9 @@ ghost use lib.ListN.{length, take};
 ghost use Rattle.trits.specs.Rows.{matrixAt};
 ghost use Rattle.matrix.specs.Linear.{rank};
 ghost use Rattle.matrix.specs.Orders.{Order};
-ghost use Rattle.matrix.specs.Eliminate.{eliminated};
-ghost use Rattle.grid.specs.Grid.{Rows, Grid};
-ghost use Rattle.draw_reduce.specs.Walk.{over};
+ghost use Rattle.matrix.specs.Steps.{eliminated};
+ghost use Rattle.grid.specs.Steps.{Rows, Grid};
+ghost use Rattle.draw_reduce.specs.Steps.{over};
 
 // The columns at the first m places of an order are tried one after another, and those with a pivot counted.
 pub fn eliminate_by(

@@ -25,7 +25,7 @@ use Rattle.calls.specs.Lent.{pairDiffers, secretDiffers, secretRefusal, Readabl
 use Rattle.calls.specs.DrawCall.{DrawCall, drawWorkWords, choicesDiffer, drawLengthsDiffer, choicesRefusal, drawAnswer}
 use Rattle.calls.proofs.Exits.{planes-le, first-le}
 use Rattle.calls.proofs.Secrets.{or-none, pair-same, SecretLengths, secret-same, secret-le, row-of}
-use Rattle.draw_tests.specs.Ready.{given, chosen, ending, Ready}
+use Rattle.draw_tests.specs.Steps.{given, chosen, ending, Ready}
 
 -- ---- the answer
 

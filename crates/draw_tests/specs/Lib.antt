@@ -1,2 +1,2 @@
 -- The definitions that the inner contracts of a draw cite; those of the call stand in `calls`.
-pub mod Ready
+pub mod Steps

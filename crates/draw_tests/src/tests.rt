@@ -8,7 +8,7 @@ ghost use Rattle.trits.specs.Refusal.{codeOf, first};
 ghost use Rattle.scheme.specs.Sizes.{sizesFit, half, places, ru, rv, codim};
 ghost use Rattle.calls.specs.Lent.{planes, halfWords, secretDiffers, secretRefusal};
 ghost use Rattle.calls.specs.DrawCall.{choicesDiffer, choicesRefusal};
-ghost use Rattle.draw_tests.specs.Ready.{chosen};
+ghost use Rattle.draw_tests.specs.Steps.{chosen};
 use calls::order;
 use calls::tests;
 use calls::work;

@@ -15,10 +15,10 @@ use Rattle.trits.specs.Planes.{tritAt}
 use Rattle.trits.specs.Rows.{matrixAt}
 use Rattle.trits.proofs.Arithmetic.{at, every}
 use Rattle.matrix.specs.Linear.{Vector, Matrix}
-use Rattle.grid.specs.Grid.{Rows, Grid, putRow}
+use Rattle.grid.specs.Steps.{Rows, Grid, putRow}
 use Rattle.grid.proofs.RowParts.{read-trit}
 use Rattle.grid.proofs.Cells.{cell, grid-to, read-set, read-unset}
-use Rattle.draw_reduce.specs.Walk.{isNext}
+use Rattle.draw_reduce.specs.Steps.{isNext}
 use Rattle.scheme.specs.Draw.{forcedBy}
 
 -- ---- trits as numbers

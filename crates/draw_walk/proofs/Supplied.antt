@@ -19,9 +19,9 @@ use Rattle.matrix.proofs.Places.{or-false-left, or-false-right, or-none, elem-h
 use Rattle.matrix.proofs.Greedy.{bool-cases}
 use Rattle.matrix.proofs.Orders.{order-good}
 use Rattle.matrix.proofs.Counts.{distinct-parts}
-use Rattle.grid.specs.Grid.{Rows, Grid, putRow}
+use Rattle.grid.specs.Steps.{Rows, Grid, putRow}
 use Rattle.grid.proofs.Cells.{grid-to}
-use Rattle.draw_reduce.specs.Walk.{isNext, taken, passed}
+use Rattle.draw_reduce.specs.Steps.{isNext, taken, passed}
 use Rattle.draw_reduce.proofs.Walked.{taken-append, passed-append, taken-within, next-cong}
 use Rattle.draw_reduce.proofs.Fronts.{take-next}
 use Rattle.scheme.specs.Draw.{forcedBy}

@@ -9,8 +9,8 @@ ghost use Rattle.trits.specs.Planes.{tritAt, Row};
 ghost use Rattle.trits.specs.Rows.{matrixAt};
 ghost use Rattle.matrix.specs.Linear.{times, fill};
 ghost use Rattle.matrix.specs.Orders.{Order};
-ghost use Rattle.grid.specs.Grid.{Rows, Grid, putRow};
-ghost use Rattle.draw_reduce.specs.Walk.{isNext, taken, passed};
+ghost use Rattle.grid.specs.Steps.{Rows, Grid, putRow};
+ghost use Rattle.draw_reduce.specs.Steps.{isNext, taken, passed};
 ghost use Rattle.scheme.specs.Draw.{forcedBy};
 
 // Whether place q has the next pivot, c of the r rows having theirs.

@@ -17,7 +17,7 @@ use Rattle.trits.proofs.Ends.{zeros-hold, upto-none}
 use Rattle.trits.proofs.Refusals.{passed-demand}
 use Rattle.matrix.specs.Linear.{Vector, Matrix, zeros, rank}
 use Rattle.matrix.specs.Orders.{Order}
-use Rattle.grid.specs.Grid.{Rows, Grid}
+use Rattle.grid.specs.Steps.{Rows, Grid}
 use Rattle.grid.proofs.Cells.{cell, cell-past}
 use Rattle.scheme.specs.declared.sizes.Sizes.{Sizes}
 use Rattle.scheme.specs.Sizes.{half, places, ru, rv, gapV, gapU}
@@ -25,14 +25,14 @@ use Rattle.scheme.specs.Secret.{Secret, uOf, vOf, leftOf, rightOf}
 use Rattle.scheme.specs.Draw.{Choices, firstV, firstU, pivotsV, pivotsU, drawV, drawU, drawn, drawRefusal, ranksRefusal}
 use Rattle.scheme_laws.proofs.Pairs.{no-zero}
 use Rattle.scheme_laws.proofs.Draws.{Valid}
-use Rattle.draw_half.specs.Half.{Ends, Solved}
+use Rattle.draw_half.specs.Steps.{Ends, Solved}
 use Rattle.draw_half.proofs.HalfWords.{word-drawV, word-drawU, upto-ends}
-use Rattle.draw_pairs.specs.Halves.{placedRows, partedRows, joinedRows}
+use Rattle.draw_pairs.specs.Steps.{placedRows, partedRows, joinedRows}
 use Rattle.draw_pairs.proofs.DrawRows.{placed-parted, joined-halves, drawV-half, drawU-half, drawn-weighs}
 use Rattle.calls.specs.Lent.{secretOf}
 use Rattle.calls.specs.DrawCall.{DrawCall, syndromeOf, choicesOf}
-use Rattle.draw_tests.specs.Ready.{ending, Ready}
-use Rattle.draw_word.specs.Stages.{pairsOf, startWord, Parted, SolvedWhere, Joined, eVOf, eUOf, MadeWhere}
+use Rattle.draw_tests.specs.Steps.{ending, Ready}
+use Rattle.draw_word.specs.Steps.{pairsOf, startWord, Parted, SolvedWhere, Joined, eVOf, eUOf, MadeWhere}
 
 -- ---- a working space of 0
 
@@ -83,10 +83,10 @@ module _ (z : Sizes) (l : ℕ) (s : Secret) (ch : Choices) where
   test-u e = ap (λ (n : ℕ). eqb (rank (ru z) n (s .hu) (firstU z ch)) (ru z)) e
 
   module _ {A B : Matrix} (e : length (ch .orderV) ≡ half z)
-      (h : Solved (rv z) (l + 1) (l + 3) A B (Rattle.draw_half.specs.Half.wordV (rv z) (length (ch .orderV)) (s .hv) (ch .orderV) (gapV z) (ch .tritsV) (A (l + 1)))) where
+      (h : Solved (rv z) (l + 1) (l + 3) A B (Rattle.draw_half.specs.Steps.wordV (rv z) (length (ch .orderV)) (s .hv) (ch .orderV) (gapV z) (ch .tritsV) (A (l + 1)))) where
     pub row-v : B (l + 3) ≡ drawV z s (A (l + 1)) ch
     row-v =
-        h .word ∙ ap (λ (n : ℕ). Rattle.draw_half.specs.Half.wordV (rv z) n (s .hv) (ch .orderV) (gapV z) (ch .tritsV) (A (l + 1))) e
+        h .word ∙ ap (λ (n : ℕ). Rattle.draw_half.specs.Steps.wordV (rv z) n (s .hv) (ch .orderV) (gapV z) (ch .tritsV) (A (l + 1))) e
         ∙ word-drawV z s (A (l + 1)) ch
 
     module _ (g : rv z ≤ l) where
@@ -97,10 +97,10 @@ module _ (z : Sizes) (l : ℕ) (s : Secret) (ch : Choices) where
       kept-u = h .kept (l + 4) (omega arith) (λ y. omega arith) (λ y. omega arith)
 
       module _ {C : Matrix} (f : length (ch .orderU) ≡ half z) (m : ru z ≤ l)
-          (k : Solved (ru z) l (l + 4) B C (Rattle.draw_half.specs.Half.wordU (ru z) (length (ch .orderU)) (s .hu) (s .b) (s .c) (ch .orderU) (gapU z) (ch .valuesU) (B (l + 3)) (B l))) where
+          (k : Solved (ru z) l (l + 4) B C (Rattle.draw_half.specs.Steps.wordU (ru z) (length (ch .orderU)) (s .hu) (s .b) (s .c) (ch .orderU) (gapU z) (ch .valuesU) (B (l + 3)) (B l))) where
         row-u : C (l + 4) ≡ drawU z s (A l) (drawV z s (A (l + 1)) ch) ch
         row-u =
-            k .word ∙ ap (λ (n : ℕ). Rattle.draw_half.specs.Half.wordU (ru z) n (s .hu) (s .b) (s .c) (ch .orderU) (gapU z) (ch .valuesU) (B (l + 3)) (B l)) f
+            k .word ∙ ap (λ (n : ℕ). Rattle.draw_half.specs.Steps.wordU (ru z) n (s .hu) (s .b) (s .c) (ch .orderU) (gapU z) (ch .valuesU) (B (l + 3)) (B l)) f
             ∙ word-drawU z s (B l) (B (l + 3)) ch ∙ ap₂ (λ (x y : Vector). drawU z s x y ch) kept-x row-v
 
         pub halves-solved : SolvedWhere 0 z l s ch (A l) (A (l + 1)) C

@@ -1,2 +1,2 @@
 -- The definitions that the contracts cite: the working space, stage after stage.
-pub mod Stages
+pub mod Steps

@@ -12,10 +12,10 @@ use Rattle.trits.specs.Trit.{Trit, t0, t1, t2, addT, subT, mulT, isSet}
 use Rattle.trits.specs.Rows.{matrixAt}
 use Rattle.trits.proofs.Arithmetic.{add-zero-r}
 use Rattle.matrix.specs.Linear.{Matrix}
-use Rattle.matrix.specs.Eliminate.{swapRows, clearRows, scaleRow, takeOut, pivotRow, hasPivot, stepOf}
+use Rattle.matrix.specs.Steps.{swapRows, clearRows, scaleRow, takeOut, pivotRow, hasPivot, stepOf}
 use Rattle.matrix.proofs.Field.{neg-neg}
 use Rattle.matrix.proofs.Steps.{first-found, take-scaled, a-pivot}
-use Rattle.grid.specs.Grid.{Rows, Grid, joinRow, clearRow, takenOut}
+use Rattle.grid.specs.Steps.{Rows, Grid, joinRow, clearRow, takenOut}
 use Rattle.grid.proofs.Cells.{cell-none, grid-to}
 
 -- ---- the pivot's row

@@ -8,11 +8,11 @@ use native.Mathlib.Omega.{arith}
 use lib.ListN.{length}
 use Rattle.trits.specs.Rows.{matrixAt}
 use Rattle.matrix.specs.Linear.{Matrix, rank, range}
-use Rattle.matrix.specs.Eliminate.{hasPivot, stepOf, Stage, tried, eliminate, eliminated, begun}
+use Rattle.matrix.specs.Steps.{hasPivot, stepOf, Stage, tried, eliminate, eliminated, begun}
 use Rattle.matrix.proofs.Places.{Below}
 use Rattle.matrix.proofs.Steps.{count-room}
 use Rattle.matrix.proofs.Kept.{tried-cells, tried-count, eliminate-more, eliminate-rank}
-use Rattle.grid.specs.Grid.{Rows, Grid}
+use Rattle.grid.specs.Steps.{Rows, Grid}
 
 -- a count that one column raised, or left
 pub yes-count : {b : Bool} (n : ℕ) → b ≡ true → n + 1 ≡ cond b (suc n) n

@@ -5,8 +5,8 @@ ghost use Prim.Native.Nat.{suc, _*_, _<_, _≤_};
 ghost use lib.ListN.{length};
 ghost use Rattle.trits.specs.Rows.{matrixAt};
 ghost use Rattle.matrix.specs.Linear.{rank, range};
-ghost use Rattle.matrix.specs.Eliminate.{hasPivot, stepOf, eliminated};
-ghost use Rattle.grid.specs.Grid.{Rows, Grid};
+ghost use Rattle.matrix.specs.Steps.{hasPivot, stepOf, eliminated};
+ghost use Rattle.grid.specs.Steps.{Rows, Grid};
 use super::step;
 
 // The column c is tried, and counted where it has a pivot.

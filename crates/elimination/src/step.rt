@@ -6,8 +6,8 @@ ghost use Prim.Native.Nat.{_*_, _<_, _≤_};
 ghost use lib.ListN.{length};
 ghost use Rattle.trits.specs.Trit.{isSet};
 ghost use Rattle.trits.specs.Rows.{matrixAt};
-ghost use Rattle.matrix.specs.Eliminate.{pivotRow, hasPivot, stepOf, scaleRow, takeOut};
-ghost use Rattle.grid.specs.Grid.{Rows, Grid, clearRow, takenOut};
+ghost use Rattle.matrix.specs.Steps.{pivotRow, hasPivot, stepOf, scaleRow, takeOut};
+ghost use Rattle.grid.specs.Steps.{Rows, Grid, clearRow, takenOut};
 use grid::one_row;
 use grid::two_rows;
 

@@ -14,7 +14,7 @@ use Rattle.trits.specs.Rows.{matrixAt}
 use Rattle.trits.proofs.Reading.{read-past, tritAt-word}
 use Rattle.matrix.specs.Linear.{Matrix}
 use Rattle.matrix.proofs.Field.{number-set, number-unset, number-two, number-one}
-use Rattle.grid.specs.Grid.{Rows, Grid}
+use Rattle.grid.specs.Steps.{Rows, Grid}
 
 module _ (w : ℕ) (ones twos : List ℕ) (i q : ℕ) where
   pub cell : q < 64 * w → matrixAt w ones twos i q ≡ tritAt ones twos (64 * (i * w) + q)

@@ -19,8 +19,8 @@ use Rattle.trits.proofs.Patches.{Patched, zip-at, zip-below, zip-above, wordsAt
 use Rattle.trits.proofs.Parts.{part-back, part-trit}
 use Rattle.trits.proofs.Matrix.{row-le, rows-apart}
 use Rattle.matrix.specs.Linear.{Matrix}
-use Rattle.matrix.specs.Eliminate.{scaleRow}
-use Rattle.grid.specs.Grid.{Rows, Grid, joinRow}
+use Rattle.matrix.specs.Steps.{scaleRow}
+use Rattle.grid.specs.Steps.{Rows, Grid, joinRow}
 use Rattle.grid.proofs.Cells.{cell, cell-past, grid-by}
 
 -- ---- the planes from a word on

@@ -18,7 +18,7 @@ use Rattle.trits.proofs.Lists.{length-zeros}
 use Rattle.trits.proofs.Parts.{part-back, part-row, length-mid}
 use Rattle.trits.proofs.Matrix.{row-le, rows-apart, part-there, part-reads, part-length, part-trits}
 use Rattle.matrix.specs.Linear.{Vector, Matrix, zeros}
-use Rattle.grid.specs.Grid.{Rows, Grid, putRow}
+use Rattle.grid.specs.Steps.{Rows, Grid, putRow}
 use Rattle.grid.proofs.Cells.{cell, cell-past, grid-by, grid-to}
 use Rattle.grid.proofs.Joins.{row-op}
 

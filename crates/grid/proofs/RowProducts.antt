@@ -11,7 +11,7 @@ use Rattle.trits.specs.Planes.{tritAt, Reads}
 use Rattle.trits.specs.Rows.{matrixAt}
 use Rattle.trits.proofs.Reading.{reads-to}
 use Rattle.matrix.specs.Linear.{Vector, Matrix, zeros}
-use Rattle.grid.specs.Grid.{Rows, Grid, putRow, joinRow, joinProduct}
+use Rattle.grid.specs.Steps.{Rows, Grid, putRow, joinRow, joinProduct}
 use Rattle.grid.proofs.Cells.{cell-past, grid-to}
 use Rattle.grid.proofs.RowParts.{put-grid, lent-trits, put-here, put-else}
 

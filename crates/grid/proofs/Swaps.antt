@@ -13,8 +13,8 @@ use lib.Bits.{bitAnd}
 use Rattle.trits.specs.Planes.{bit, trit}
 use Rattle.trits.specs.Rows.{matrixAt}
 use Rattle.trits.proofs.Matrix.{row-le, rows-apart}
-use Rattle.matrix.specs.Eliminate.{swapRows}
-use Rattle.grid.specs.Grid.{Rows, Grid, Swapped, other}
+use Rattle.matrix.specs.Steps.{swapRows}
+use Rattle.grid.specs.Steps.{Rows, Grid, Swapped, other}
 use Rattle.grid.proofs.Cells.{cell, cell-past, cell-word, grid-by}
 
 -- ---- places of two rows

@@ -1,2 +1,2 @@
 -- The definitions that the contracts cite: a matrix in planes, and the row operations on it.
-pub mod Grid
+pub mod Steps

@@ -6,8 +6,8 @@ ghost use Rattle.trits.specs.Trit.{t2};
 ghost use Rattle.trits.specs.Planes.{tritAt, Row};
 ghost use Rattle.trits.specs.Rows.{matrixAt};
 ghost use Rattle.matrix.specs.Linear.{zeros};
-ghost use Rattle.matrix.specs.Eliminate.{scaleRow};
-ghost use Rattle.grid.specs.Grid.{Rows, Grid, putRow};
+ghost use Rattle.matrix.specs.Steps.{scaleRow};
+ghost use Rattle.grid.specs.Steps.{Rows, Grid, putRow};
 
 // Row i becomes 0.
 pub fn zero_row(ones: &mut [u64], twos: &mut [u64], rows: usize, w: usize, i: usize)

@@ -4,7 +4,7 @@ ghost use lib.ListN.{length};
 ghost use Rattle.trits.specs.Trit.{tritOf, putV};
 ghost use Rattle.trits.specs.Planes.{tritAt, Row};
 ghost use Rattle.trits.specs.Rows.{matrixAt};
-ghost use Rattle.grid.specs.Grid.{Rows, Grid, putRow};
+ghost use Rattle.grid.specs.Steps.{Rows, Grid, putRow};
 
 // The trit t is put at place q of row i.
 pub fn put_at(ones: &mut [u64], twos: &mut [u64], rows: usize, w: usize, i: usize, q: usize, t: u8)

@@ -6,7 +6,7 @@ ghost use lib.ListN.{length};
 ghost use Rattle.trits.specs.Trit.{addT, subT, mulT, zipV};
 ghost use Rattle.trits.specs.Planes.{tritAt, Row};
 ghost use Rattle.trits.specs.Rows.{matrixAt};
-ghost use Rattle.grid.specs.Grid.{Rows, Grid, putRow, joinProduct};
+ghost use Rattle.grid.specs.Steps.{Rows, Grid, putRow, joinProduct};
 use super::one_row;
 use super::two_rows;
 

@@ -5,8 +5,8 @@ ghost use Prim.Native.Nat.{_*_, _<_, _≤_};
 ghost use lib.ListN.{length};
 ghost use Rattle.trits.specs.Trit.{addT, subT, number, dotV};
 ghost use Rattle.trits.specs.Rows.{matrixAt};
-ghost use Rattle.matrix.specs.Eliminate.{swapRows};
-ghost use Rattle.grid.specs.Grid.{Rows, Grid, Swapped, joinRow};
+ghost use Rattle.matrix.specs.Steps.{swapRows};
+ghost use Rattle.grid.specs.Steps.{Rows, Grid, Swapped, joinRow};
 
 // Rows a and b of one plane change places.
 pub fn swap_plane(plane: &mut [u64], rows: usize, w: usize, a: usize, b: usize)

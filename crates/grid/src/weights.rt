@@ -3,7 +3,7 @@ ghost use mathlib.Core.Path.{_≡_};
 ghost use Prim.Native.Nat.{_+_, _*_, _<_, _≤_};
 ghost use Rattle.trits.specs.Trit.{weightV};
 ghost use Rattle.trits.specs.Rows.{matrixAt};
-ghost use Rattle.grid.specs.Grid.{Rows};
+ghost use Rattle.grid.specs.Steps.{Rows};
 
 // The weight of row i.
 pub fn row_weight(ones: &[u64], twos: &[u64], rows: usize, w: usize, i: usize) -> u64

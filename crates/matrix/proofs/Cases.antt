@@ -4,7 +4,7 @@ use Rattle.trits.specs.Trit.{anyTo, dotV}
 use Rattle.trits.specs.Planes.{tabulate}
 use Rattle.trits.specs.InDigits.{digitRows}
 use Rattle.matrix.specs.Linear.{agree, find, solve, inSpan, keep, pivots, rank}
-use Rattle.matrix.specs.Eliminate.{firstRow, hasPivot, stepOf, tried, eliminate, eliminated}
+use Rattle.matrix.specs.Steps.{firstRow, hasPivot, stepOf, tried, eliminate, eliminated}
 use Rattle.matrix.specs.Cases.{Cases}
 
 pub cases : Cases

@@ -8,7 +8,7 @@ use lib.Dec.{eqb}
 use lib.ListN.{length, length-append}
 use Rattle.trits.specs.Trit.{t0, isSet}
 use Rattle.matrix.specs.Linear.{Matrix, elem, keep, pivots, rank}
-use Rattle.matrix.specs.Eliminate.{swapRows, clearRows, pivotRow, hasPivot, stepOf, Stage, tried, eliminate, eliminated, begun}
+use Rattle.matrix.specs.Steps.{swapRows, clearRows, pivotRow, hasPivot, stepOf, Stage, tried, eliminate, eliminated, begun}
 use Rattle.matrix.proofs.Places.{Below, elem-here, or-true-right}
 use Rattle.matrix.proofs.Greedy.{Kept, empty-kept, grow, keep-in, keep-out}
 use Rattle.matrix.proofs.Elimination.{Reduced, start-reduced, stepped-reduced, test-in, test-out}

@@ -4,7 +4,7 @@ use mathlib.Core.List.{[], _∷_}
 use Prim.Native.Nat.{ℕ}
 use Rattle.trits.specs.InDigits.{vector, digits, matrix, digitRows}
 use Rattle.matrix.specs.Linear.{Matrix, zeros, solve, orZeros, pivots, rank}
-use Rattle.matrix.specs.Eliminate.{eliminated}
+use Rattle.matrix.specs.Steps.{eliminated}
 
 -- columns 10, 10, 01 and 11
 abbrev pub columns4 : Matrix

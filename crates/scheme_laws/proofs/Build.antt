@@ -13,7 +13,7 @@ use Rattle.trits.specs.Trit.{t0, addT, mulT, isSet, dotV}
 use Rattle.trits.proofs.Arithmetic.{mul-comm}
 use Rattle.matrix.specs.Linear.{Vector, Matrix, zeros, column, times, elem, fill, inSpan, orZeros}
 use Rattle.matrix.specs.Orders.{Order}
-use Rattle.matrix.specs.Eliminate.{swapRows, clearRows}
+use Rattle.matrix.specs.Steps.{swapRows, clearRows}
 use Rattle.matrix.proofs.Field.{mul-zero}
 use Rattle.matrix.proofs.Dots.{dot-add, dot-mul, dot-zeros, dot-cong}
 use Rattle.matrix.proofs.Dimension.{Reaches}

@@ -17,7 +17,7 @@ use Rattle.calls.specs.Lent.{planes, halfWords, secretOf}
 use Rattle.calls.specs.DrawCall.{DrawCall, matrixRows, syndromeOf, choicesOf, wordOf}
 use Rattle.calls.proofs.Bounds.{bounds}
 use Rattle.calls.proofs.Exits.{positive}
-use Rattle.draw_tests.specs.Ready.{given}
+use Rattle.draw_tests.specs.Steps.{given}
 use Rattle.draw_tests.proofs.Space.{space}
 use borrow.Author.Needs.{needs}
 use Rattle.draw_finish.proofs.finish.Statement.{statement}

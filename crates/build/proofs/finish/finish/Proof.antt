@@ -14,7 +14,7 @@ use Rattle.scheme.specs.Secret.{Secret}
 use Rattle.scheme.specs.Build.{buildRefusal}
 use Rattle.calls.specs.Lent.{planes, secretOf}
 use Rattle.calls.proofs.Exits.{positive}
-use Rattle.build_ranks.specs.Matrices.{matrices}
+use Rattle.build_ranks.specs.Steps.{matrices}
 use Rattle.build_release.proofs.Released.{full-rank, same-ranks}
 use borrow.Author.Needs.{needs}
 use Rattle.build.proofs.finish.finish.Statement.{statement}

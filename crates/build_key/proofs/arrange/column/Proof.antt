@@ -1,7 +1,7 @@
 -- By the two cases of the definition.
 -- Assumes nothing.
 use borrow.Author.Needs.{needs}
-use Rattle.build_matrix.specs.Work.{colOf}
+use Rattle.build_matrix.specs.Steps.{colOf}
 use borrow.Author.Tests.{lt-ltb, le-ltb}
 use native.Mathlib.Omega.{arith}
 use Prim.Native.Nat.{_-_}

@@ -8,9 +8,9 @@ use denote.Ref.{now}
 use Rattle.trits.specs.Planes.{tritAt}
 use Rattle.trits.specs.Rows.{matrixAt}
 use Rattle.matrix.specs.Linear.{Vector}
-use Rattle.grid.specs.Grid.{Grid}
+use Rattle.grid.specs.Steps.{Grid}
 use Rattle.grid.proofs.Cells.{grid-of}
-use Rattle.build_matrix.specs.Work.{negativeBy, halvesIn, leftV}
+use Rattle.build_matrix.specs.Steps.{negativeBy, halvesIn, leftV}
 use Rattle.grid.proofs.RowParts.{handed-row, handed-size, handed-trits}
 use Rattle.build_matrix.proofs.HalfRows.{halves-none, halves-turn, halves-done}
 use Rattle.build_matrix.proofs.fill.fill_v.Statement.{statement}

@@ -7,11 +7,11 @@ use denote.Ref.{now}
 use Rattle.trits.specs.Rows.{matrixAt}
 use Rattle.trits.specs.Planes.{tritAt}
 use Rattle.matrix.specs.Linear.{zeros}
-use Rattle.grid.specs.Grid.{Grid}
+use Rattle.grid.specs.Steps.{Grid}
 use Rattle.grid.proofs.RowParts.{read-lt, read-trit}
 use Rattle.scheme.specs.Draw.{placed}
 use Rattle.scheme.specs.Secret.{join}
-use Rattle.draw_pairs.specs.Halves.{placedRows}
+use Rattle.draw_pairs.specs.Steps.{placedRows}
 use Rattle.draw_pairs.proofs.PlacedHalves.{order-below, place-begun, place-turn, place-done}
 use Rattle.draw_pairs.proofs.places.place_syndrome.Statement.{statement}
 use Rattle.draw_pairs.proofs.places.place_syndrome.Tie as tie

@@ -9,7 +9,7 @@ use Rattle.trits.specs.Rows.{matrixAt}
 use Rattle.trits.specs.Planes.{Reads}
 use Rattle.trits.specs.Trit.{upTo}
 use Rattle.grid.proofs.RowParts.{trit-lt, read-trit, column-turn}
-use Rattle.draw_pairs.specs.Halves.{writtenFrom}
+use Rattle.draw_pairs.specs.Steps.{writtenFrom}
 use Rattle.draw_pairs.proofs.PlacedHalves.{order-below}
 use Rattle.draw_pairs.proofs.places.put_places.Statement.{statement}
 use Rattle.draw_pairs.proofs.places.put_places.Tie as tie

@@ -9,7 +9,7 @@ use Rattle.trits.specs.Rows.{matrixAt}
 use Rattle.trits.proofs.Reading.{reads-words}
 use Rattle.trits.proofs.Lists.{length-zeros}
 use Rattle.trits.proofs.Ends.{zeros-hold}
-use Rattle.draw_pairs.specs.Halves.{writtenFrom}
+use Rattle.draw_pairs.specs.Steps.{writtenFrom}
 use Rattle.draw_pairs.proofs.places.write_places.Statement.{statement}
 use Rattle.draw_pairs.proofs.places.write_places.Tie as tie
 

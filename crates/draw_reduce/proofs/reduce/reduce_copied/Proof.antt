@@ -6,7 +6,7 @@ use borrow.Author.Needs.{needs}
 use denote.Ref.{now}
 use lib.ListN.{length, take}
 use Rattle.matrix.specs.Linear.{Matrix, rank}
-use Rattle.matrix.specs.Eliminate.{eliminated}
+use Rattle.matrix.specs.Steps.{eliminated}
 use Rattle.grid.proofs.Cells.{grid-to}
 use Rattle.draw_reduce.proofs.Fronts.{copied-rows, copied-cells}
 use Rattle.draw_reduce.proofs.reduce.reduce_copied.Statement.{statement}

@@ -2,7 +2,7 @@
 -- Assumes nothing.
 use Rattle.draw_reduce.proofs.Fronts.{place-below}
 use Rattle.draw_walk.proofs.Supplied.{Walking, walking-none, taken-nil, solve-turn}
-use Rattle.draw_reduce.specs.Walk.{taken}
+use Rattle.draw_reduce.specs.Steps.{taken}
 use Rattle.matrix.specs.Linear.{times, fill}
 use Rattle.trits.specs.Rows.{matrixAt}
 use denote.Ref.{now}

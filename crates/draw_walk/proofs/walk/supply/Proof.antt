@@ -2,7 +2,7 @@
 -- Assumes nothing.
 use Rattle.draw_reduce.proofs.Fronts.{place-below}
 use Rattle.draw_walk.proofs.Supplied.{Walking, walking-none, passed-nil, passed-count, supply-room, supply-turn}
-use Rattle.draw_reduce.specs.Walk.{passed}
+use Rattle.draw_reduce.specs.Steps.{passed}
 use Rattle.matrix.specs.Linear.{fill}
 use Rattle.trits.specs.Rows.{matrixAt}
 use Rattle.trits.specs.Planes.{tritAt}

@@ -2,7 +2,7 @@
 -- Assumes nothing.
 use Rattle.draw_reduce.proofs.Fronts.{place-below}
 use Rattle.draw_walk.proofs.Supplied.{forcedAt, forced-start, forced-turn, forced-all}
-use Rattle.grid.specs.Grid.{Grid, putRow}
+use Rattle.grid.specs.Steps.{Grid, putRow}
 use Rattle.matrix.specs.Linear.{fill}
 use Rattle.trits.specs.Rows.{matrixAt}
 use Rattle.trits.specs.Planes.{tritAt}

@@ -4,7 +4,7 @@ use native.Mathlib.Omega.{arith}
 use denote.Ref.{now}
 use Rattle.calls.specs.Lent.{halfWords}
 use Rattle.calls.proofs.Bounds.{bounds}
-use Rattle.draw_word.specs.Stages.{pairsOf}
+use Rattle.draw_word.specs.Steps.{pairsOf}
 use Rattle.draw_word.proofs.Stages.{word-joined}
 use borrow.Author.Needs.{needs}
 use Rattle.draw_word.proofs.word.join_word.Statement.{statement}

@@ -8,7 +8,7 @@ use lib.Dec.{lit<}
 use Rattle.calls.specs.Lent.{planes, halfWords}
 use Rattle.calls.proofs.Bounds.{bounds}
 use Rattle.calls.proofs.Exits.{positive}
-use Rattle.draw_tests.specs.Ready.{given}
+use Rattle.draw_tests.specs.Steps.{given}
 use Rattle.draw_word.proofs.Stages.{upto-row, ending-ranks, ending-fourteen, ending-none, made, unmade}
 use borrow.Author.Needs.{needs}
 use Rattle.draw_word.proofs.word.make_word.Statement.{statement}

@@ -6,7 +6,7 @@ use denote.Ref.{now}
 use Rattle.trits.specs.Planes.{tritAt}
 use Rattle.calls.specs.Lent.{halfWords}
 use Rattle.calls.proofs.Bounds.{bounds, prod}
-use Rattle.draw_word.specs.Stages.{pairsOf, startWord}
+use Rattle.draw_word.specs.Steps.{pairsOf, startWord}
 use Rattle.draw_word.proofs.Stages.{space-rows, space-empty, word-parted}
 use borrow.Author.Needs.{needs}
 use Rattle.draw_word.proofs.word.part_word.Statement.{statement}

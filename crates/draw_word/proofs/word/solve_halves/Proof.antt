@@ -10,7 +10,7 @@ use Rattle.scheme.specs.Secret.{Secret}
 use Rattle.scheme.specs.Draw.{Choices}
 use Rattle.calls.specs.Lent.{planes, halfWords, secretOf}
 use Rattle.calls.proofs.Bounds.{bounds, prod}
-use Rattle.draw_word.specs.Stages.{choices}
+use Rattle.draw_word.specs.Steps.{choices}
 use Rattle.draw_word.proofs.Stages.{order-own, ends-own, ends-to, test-v, test-u, kept-x, kept-u, halves-solved, unsolved}
 use borrow.Author.Needs.{needs}
 use Rattle.draw_word.proofs.word.solve_halves.Statement.{statement}

@@ -4,7 +4,7 @@ use Prim.Native.Nat.{_-_, _≤_}
 use native.Mathlib.Omega.{arith}
 use denote.Ref.{now}
 use Rattle.trits.specs.Rows.{matrixAt}
-use Rattle.grid.specs.Grid.{Grid, takenOut}
+use Rattle.grid.specs.Steps.{Grid, takenOut}
 use Rattle.grid.proofs.Cells.{grid-of}
 use Rattle.elimination.proofs.Clears.{apart-from, taken-none, rows-turn, rows-done}
 use Rattle.elimination.proofs.step.clear_rows.Statement.{statement}

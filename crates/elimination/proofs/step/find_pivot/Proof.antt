@@ -5,7 +5,7 @@ use mathlib.Core.Path.{_≡_, refl, sym, _∙_}
 use native.Mathlib.Omega.{arith}
 use denote.Ref.{now}
 use Rattle.trits.proofs.Matrix.{row-le}
-use Rattle.matrix.specs.Eliminate.{firstRow, pivotRow}
+use Rattle.matrix.specs.Steps.{firstRow, pivotRow}
 use Rattle.trits.specs.Rows.{matrixAt}
 use Rattle.grid.proofs.Cells.{read-set, read-unset}
 use Rattle.matrix.proofs.Steps.{first-here, first-next, first-end}

@@ -2,11 +2,11 @@
 use mathlib.Core.Path.{_≡_}
 use mathlib.Core.List.{List}
 use Prim.Native.Nat.{ℕ, _+_}
-use Rattle.grid.specs.Grid.{Rows}
+use Rattle.grid.specs.Steps.{Rows}
 use Rattle.scheme.specs.declared.sizes.Sizes.{Sizes}
 use Rattle.scheme.specs.Sizes.{half, codim}
 use Rattle.scheme.specs.Secret.{Secret, secretMatrix}
-use Rattle.build_matrix.specs.Work.{placedAt}
+use Rattle.build_matrix.specs.Steps.{placedAt}
 use Rattle.calls.specs.Lent.{halfWords}
 
 -- the working planes hold the secret matrix, in secret places

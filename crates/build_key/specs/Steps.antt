@@ -8,7 +8,7 @@ use Rattle.trits.specs.Planes.{onesOf, twosOf}
 use Rattle.matrix.specs.Linear.{Vector, Matrix, column}
 use Rattle.trits.specs.Rows.{rowsOf}
 use Rattle.scheme.specs.Build.{rowOfR}
-use Rattle.build_matrix.specs.Work.{colOf}
+use Rattle.build_matrix.specs.Steps.{colOf}
 
 -- the key of the order p stands in the matrix A: row i of it in the column at place p(r + i)
 pub record Keyed (r n : ℕ) (H A : Matrix) (p : List ℕ) : Type 0 where

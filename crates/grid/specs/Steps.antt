@@ -9,7 +9,7 @@ use Rattle.trits.specs.Trit.{Trit, subT, mulT, zipV}
 use Rattle.trits.specs.Planes.{Row}
 use Rattle.trits.specs.Rows.{matrixAt}
 use Rattle.matrix.specs.Linear.{Vector, Matrix}
-use Rattle.matrix.specs.Eliminate.{takeOut}
+use Rattle.matrix.specs.Steps.{takeOut}
 
 -- planes of r rows of w words that can be read
 pub record Rows (ones twos : List ℕ) (r w : ℕ) : Type 0 where

@@ -6,7 +6,7 @@ use lib.Dec.{ltb}
 use lib.ListN.{getD}
 use Rattle.trits.specs.Trit.{Trit, addT, subT, putV, upTo}
 use Rattle.matrix.specs.Linear.{Vector, Matrix}
-use Rattle.grid.specs.Grid.{putRow, joinProduct}
+use Rattle.grid.specs.Steps.{putRow, joinProduct}
 use Rattle.scheme.specs.Secret.{join}
 
 -- ---- placing

@@ -8,7 +8,7 @@ use borrow.Author.Tests.{leb-true}
 use lib.Dec.{leb}
 use Rattle.scheme.specs.declared.sizes.Sizes.{Sizes}
 use Rattle.scheme.specs.Sizes.{half, places, ru, rv, gapV, gapU, sizesFit}
-use Rattle.scheme_laws.proofs.Ranges.{sizes-fit}
+use Rattle.scheme.proofs.Ranges.{sizes-fit}
 use Rattle.calls.specs.Lent.{halfWords}
 
 pub record Bounds (z : Sizes) : Type 0 where

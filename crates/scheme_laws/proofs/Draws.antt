@@ -25,7 +25,7 @@ use Rattle.scheme.specs.Sizes.{half, places, ru, rv, gapV, gapU}
 use Rattle.scheme.specs.Secret.{Secret, leftOf, rightOf}
 use Rattle.scheme.specs.Draw.{Choices, choicesFit, firstV, pivotsV, suppliedV, drawV, firstU, pivotsU, lastU, forced, suppliedU, drawU, drawn, drawRefusal}
 use Rattle.scheme_laws.proofs.Pairs.{no-zero, zero-no, forced-pair}
-use Rattle.scheme_laws.proofs.Ranges.{Ranges}
+use Rattle.scheme.proofs.Ranges.{Ranges}
 
 -- ---- parts of an order
 

@@ -1,5 +1,5 @@
--- The laws of the pairs, of the build, of the sizes and of a draw.
+-- The laws of the pairs, of the build and its end, and of a draw.
 pub mod Pairs
 pub mod Build
-pub mod Ranges
+pub mod Ended
 pub mod Draws

@@ -16,7 +16,7 @@ use Rattle.scheme.specs.declared.sizes.Sizes.{Sizes}
 use Rattle.scheme.specs.Sizes.{half, places, ru, rv, codim, gapV, gapU}
 use Rattle.scheme.specs.Secret.{Secret, join, uOf, vOf, whole}
 use Rattle.scheme.specs.Draw.{Choices, placed, firstV, pivotsV, suppliedV, drawV, firstU, pivotsU, lastU, forced, suppliedU, drawU, drawn, drawRefusal}
-use Rattle.scheme_laws.proofs.Ranges.{Ranges}
+use Rattle.scheme.proofs.Ranges.{Ranges}
 use Rattle.scheme_laws.proofs.Draws.{Valid, choices-valid, Passes, passes-released, released-passes, parts, first-in, keptV, keptU}
 use Rattle.wave.specs.Vectors.{Releases}
 

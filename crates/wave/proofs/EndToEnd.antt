@@ -38,7 +38,7 @@ use Rattle.scheme.specs.declared.sizes.Sizes.{Sizes}
 use Rattle.scheme.specs.Sizes.{half, places, dim, codim, gapV, gapU, sizesFit}
 use Rattle.scheme.specs.Build.{keyRow}
 use Rattle.scheme.specs.Draw.{signature}
-use Rattle.scheme_laws.proofs.Ranges.{sizes-fit, codim-dim}
+use Rattle.scheme.proofs.Ranges.{sizes-fit, codim-dim}
 use Rattle.calls.specs.Lent.{secretOf, pairDiffers}
 use Rattle.calls.specs.BuildCall.{BuildCall, keyRowWords, keyOnesExit, keyTwosExit}
 use Rattle.calls.specs.DrawCall.{DrawCall, choicesDiffer, drawLengthsDiffer, drawAnswer, wordOf, sOnesExit, sTwosExit}

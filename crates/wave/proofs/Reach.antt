@@ -28,7 +28,8 @@ use Rattle.scheme.specs.Secret.{Secret, join, leftOf, rightOf, uOf, vOf, whole,
 use Rattle.scheme.specs.Build.{arranged, keyOrder, keyRow}
 use Rattle.scheme.specs.Draw.{Choices, placed, pivotsV, suppliedV, drawV, firstU, pivotsU, lastU, forced, suppliedU, drawU, drawn}
 use Rattle.scheme_laws.proofs.Pairs.{pair-left, pair-right, pair-forced, join-low, join-high, secret-u, secret-v, whole-u, whole-v, by-rows}
-use Rattle.scheme_laws.proofs.Ranges.{sizes-fit, codim-dim, Builds, build-passed, build-ends}
+use Rattle.scheme.proofs.Ranges.{sizes-fit, codim-dim}
+use Rattle.scheme_laws.proofs.Ended.{Builds, build-passed, build-ends}
 use Rattle.scheme_laws.proofs.Draws.{Valid, choices-valid, valid-choices, Passes, passes-released, released-passes, parts, first-below, either-part, keptV, keptU, drawV-good, drawU-good, last-below, last-pair}
 use Rattle.wave.specs.Terms.{sized, Terms}
 use Rattle.wave.specs.Vectors.{Released, Releases}

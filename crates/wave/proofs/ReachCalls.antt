@@ -26,7 +26,7 @@ use Rattle.scheme.specs.Secret.{Secret, noZero}
 use Rattle.scheme.specs.Build.{keyOrder, keyRow}
 use Rattle.scheme.specs.Draw.{Choices, drawn, drawRefusal, signature}
 use Rattle.scheme_laws.proofs.Pairs.{zero-no}
-use Rattle.scheme_laws.proofs.Ranges.{sizes-fit}
+use Rattle.scheme.proofs.Ranges.{sizes-fit}
 use Rattle.scheme_laws.proofs.Draws.{Valid}
 use Rattle.calls.specs.Lent.{secretOf, secretDiffers, secretRefusal}
 use Rattle.calls.specs.BuildCall.{BuildCall, keyRowWords, orderExit, keyOnesOf, keyTwosOf, keyOnesExit, keyTwosExit}

@@ -15,7 +15,8 @@ use Rattle.scheme.specs.Sizes.{places, dim, codim, sizesFit}
 use Rattle.scheme.specs.Secret.{Secret, secretMatrix}
 use Rattle.scheme.specs.Build.{arranged}
 use Rattle.scheme.specs.Draw.{signature}
-use Rattle.scheme_laws.proofs.Ranges.{codim-dim, build-passed, build-ends}
+use Rattle.scheme.proofs.Ranges.{codim-dim}
+use Rattle.scheme_laws.proofs.Ended.{build-passed, build-ends}
 use Rattle.wave.specs.Terms.{sized}
 use Rattle.wave.specs.Vectors.{Released, Releases}
 use Rattle.wave.proofs.Reach.{reach}

@@ -100,7 +100,8 @@ pub extern "C" fn bench_weigh(
 ) -> Checked
     ensures { λ r. ⌜ (let c = checkOf held number (now (ones .entry)) (now (twos .entry)) (now («y_ones» .entry)) (now («y_twos» .entry))
         (now («s_ones» .entry)) (now («s_twos» .entry)) (now («work_ones» .entry)) (now («work_twos» .entry)) in
-        (r ≡ answered (checkRefusal c) (after times (checkWeight c)) (held .w)) × (now («work_ones» .exit) ≡ checkWorkOnes c) × (now («work_twos» .exit) ≡ checkWorkTwos c)) ⌝ }
+        (r ≡ answered (checkRefusal c) (after times (checkWeight c)) (held .w))
+        × (now («work_ones» .exit) ≡ checkWorkOnes c) × (now («work_twos» .exit) ≡ checkWorkTwos c)) ⌝ }
 {
     let tested = check_tests::test_check(
         held,
@@ -175,7 +176,8 @@ pub extern "C" fn bench_weigh_packed(
 ) -> Checked
     ensures { λ r. ⌜ (let c = packedCheckOf held number (now (ones .entry)) (now (twos .entry)) (now (y .entry)) (now (s .entry))
         (now («work_ones» .entry)) (now («work_twos» .entry)) in
-        (r ≡ answered (checkPackedRefusal c) (after times (checkPackedWeight c)) (held .w)) × (now («work_ones» .exit) ≡ checkPackedWorkOnes c) × (now («work_twos» .exit) ≡ checkPackedWorkTwos c)) ⌝ }
+        (r ≡ answered (checkPackedRefusal c) (after times (checkPackedWeight c)) (held .w))
+        × (now («work_ones» .exit) ≡ checkPackedWorkOnes c) × (now («work_twos» .exit) ≡ checkPackedWorkTwos c)) ⌝ }
 {
     let tested = check_tests::test_packed_check(
         held,

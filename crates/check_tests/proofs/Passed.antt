@@ -12,7 +12,8 @@ use Rattle.trits.proofs.Refusals.{passed-refuse, passed-demand, passed-first}
 use Rattle.packed.specs.Packed.{bytesFor, packedRefusal}
 use Rattle.held_key.specs.declared.state.Held.{Held}
 use Rattle.held_key.specs.Held.{sound, rowTrits, rowWords, keyWords}
-use Rattle.check_tests.specs.Check.{Check, PackedCheck, callRefusal, planesLengths, planesContents, packedLengths, packedContents, checkRefusal, checkPackedRefusal}
+use Rattle.check_tests.specs.Check.{Check, checkRefusal, PackedCheck, checkPackedRefusal}
+use Rattle.check_tests.specs.Check.{callRefusal, planesLengths, planesContents, packedLengths, packedContents}
 use Rattle.held_key.specs.Steps.{Whole}
 
 pub record Called (h : Held) (number ones twos workOnes workTwos : ℕ) : Type 0 where

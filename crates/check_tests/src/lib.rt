@@ -201,8 +201,8 @@ pub fn test_check(
     work_ones: &[u64],
     work_twos: &[u64],
 ) -> Outcome
-    ensures { λ r. ⌜ codeOf r ≡ checkRefusal (checkOf held number (now (ones .entry)) (now (twos .entry)) (now («y_ones» .entry)) (now («y_twos» .entry)) (now («s_ones» .entry)) (now («s_twos» .entry))
-        (now («work_ones» .entry)) (now («work_twos» .entry))) ⌝ }
+    ensures { λ r. ⌜ codeOf r ≡ checkRefusal (checkOf held number (now (ones .entry)) (now (twos .entry)) (now («y_ones» .entry)) (now («y_twos» .entry))
+        (now («s_ones» .entry)) (now («s_twos» .entry)) (now («work_ones» .entry)) (now («work_twos» .entry))) ⌝ }
 {
     let called = test_call(
         held,

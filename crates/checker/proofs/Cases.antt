@@ -14,7 +14,8 @@ use Rattle.verdict.specs.Verdict.{timesKey, fullWord, fullWeight}
 use Rattle.held_key.specs.Held.{numbersFit, sound, heldRow, heldKey}
 use Rattle.held_key.specs.Store.{beginRefusal, begunHeld, beginHeld, packedStoreOf, rowRefusal, storePackedRefusal, nextHeld, storedHeld, storedPlane}
 use Rattle.held_key.specs.Load.{offer, offerAll}
-use Rattle.check_tests.specs.Check.{checkOf, packedCheckOf, callRefusal, planesLengths, planesContents, packedLengths, packedContents, checkRefusal, checkPackedRefusal, heldWeight, answered, checkAnswer, checkPackedAnswer, checkPackedWorkOnes, checkPackedWorkTwos}
+use Rattle.check_tests.specs.Check.{callRefusal, planesLengths, planesContents, packedLengths, packedContents, heldWeight, answered}
+use Rattle.check_tests.specs.Check.{checkOf, checkRefusal, checkAnswer, packedCheckOf, checkPackedRefusal, checkPackedAnswer, checkPackedWorkOnes, checkPackedWorkTwos}
 
 -- P 7 4 2 4, over a state of any numbers
 abbrev held : ℕ → Held
@@ -63,22 +64,26 @@ unfolding storePackedRefusal first rowRefusal sound numbersFit
 third = refl
 
 -- S 7 12 12 11: weight 4, yes
-line-1 : checkPackedAnswer (packedCheckOf (held 2) 7 (0 ∷ 0 ∷ []) (2 ∷ 3 ∷ []) (7 ∷ []) (4 ∷ []) (5 ∷ []) (5 ∷ [])) ≡ record { refusal = 0; yes = 1; weight = 4 }
+line-1 : checkPackedAnswer (packedCheckOf (held 2) 7 (0 ∷ 0 ∷ []) (2 ∷ 3 ∷ []) (7 ∷ []) (4 ∷ []) (5 ∷ []) (5 ∷ []))
+    ≡ record { refusal = 0; yes = 1; weight = 4 }
 unfolding checkPackedAnswer answered checkPackedRefusal first callRefusal sound numbersFit packedLengths packedContents planesRefusal bothSet anyTo bitAt bit rowsPastEnd rowPart heldRow pastEnd tritAt packedRefusal badByte heldWeight fullWeight sumTo fullWord timesKey dotV heldKey packedRow packedAt digitOf upTo
 line-1 = refl
 
 -- S 7 13 12 12: weight 3, no
-line-2 : checkPackedAnswer (packedCheckOf (held 2) 7 (0 ∷ 0 ∷ []) (2 ∷ 3 ∷ []) (7 ∷ []) (7 ∷ []) (5 ∷ []) (5 ∷ [])) ≡ record { refusal = 0; yes = 0; weight = 3 }
+line-2 : checkPackedAnswer (packedCheckOf (held 2) 7 (0 ∷ 0 ∷ []) (2 ∷ 3 ∷ []) (7 ∷ []) (7 ∷ []) (5 ∷ []) (5 ∷ []))
+    ≡ record { refusal = 0; yes = 0; weight = 3 }
 unfolding checkPackedAnswer answered checkPackedRefusal first callRefusal sound numbersFit packedLengths packedContents planesRefusal bothSet anyTo bitAt bit rowsPastEnd rowPart heldRow pastEnd tritAt packedRefusal badByte heldWeight fullWeight sumTo fullWord timesKey dotV heldKey packedRow packedAt digitOf upTo
 line-2 = refl
 
 -- S 8 14 12 11: 22
-line-3 : checkPackedAnswer (packedCheckOf (held 2) 8 (0 ∷ 0 ∷ []) (2 ∷ 3 ∷ []) (7 ∷ []) (4 ∷ []) (5 ∷ []) (5 ∷ [])) ≡ record { refusal = 22; yes = 0; weight = 0 }
+line-3 : checkPackedAnswer (packedCheckOf (held 2) 8 (0 ∷ 0 ∷ []) (2 ∷ 3 ∷ []) (7 ∷ []) (4 ∷ []) (5 ∷ []) (5 ∷ []))
+    ≡ record { refusal = 22; yes = 0; weight = 0 }
 unfolding checkPackedAnswer answered checkPackedRefusal first callRefusal sound numbersFit
 line-3 = refl
 
 -- the first of them in planes
-line-1-planes : checkAnswer (checkOf (held 2) 7 (0 ∷ 0 ∷ []) (2 ∷ 3 ∷ []) (1 ∷ []) (2 ∷ []) (3 ∷ []) (0 ∷ []) (5 ∷ []) (5 ∷ [])) ≡ record { refusal = 0; yes = 1; weight = 4 }
+line-1-planes : checkAnswer (checkOf (held 2) 7 (0 ∷ 0 ∷ []) (2 ∷ 3 ∷ []) (1 ∷ []) (2 ∷ []) (3 ∷ []) (0 ∷ []) (5 ∷ []) (5 ∷ []))
+    ≡ record { refusal = 0; yes = 1; weight = 4 }
 unfolding checkAnswer answered checkRefusal first callRefusal sound numbersFit planesLengths planesContents planesRefusal bothSet anyTo bitAt bit rowsPastEnd rowPart heldRow pastEnd tritAt heldWeight fullWeight sumTo fullWord timesKey dotV heldKey
 line-1-planes = refl
 

@@ -17,9 +17,11 @@ use Rattle.packed.proofs.Turned.{bytes-good}
 use Rattle.held_key.specs.declared.state.Held.{Held}
 use Rattle.verdict.specs.Verdict.{Key, fullWeight}
 use Rattle.held_key.specs.Held.{numbersFit, sound, heldKey}
-use Rattle.held_key.specs.Store.{beginRefusal, begunHeld, beginHeld, PackedStore, packedStoreOf, rowRefusal, storePackedRefusal, nextHeld, storedHeld, storePackedOnes, storePackedTwos}
+use Rattle.held_key.specs.Store.{beginRefusal, begunHeld, beginHeld, rowRefusal, nextHeld, storedHeld}
+use Rattle.held_key.specs.Store.{PackedStore, packedStoreOf, storePackedRefusal, storePackedOnes, storePackedTwos}
 use Rattle.held_key.specs.Load.{Holding, offer, offerAll}
-use Rattle.check_tests.specs.Check.{PackedCheck, packedCheckOf, callRefusal, packedLengths, packedContents, checkPackedRefusal, checkPackedWeight, heldWeight, answered, checkPackedAnswer}
+use Rattle.check_tests.specs.Check.{callRefusal, packedLengths, packedContents, heldWeight, answered}
+use Rattle.check_tests.specs.Check.{PackedCheck, packedCheckOf, checkPackedRefusal, checkPackedWeight, checkPackedAnswer}
 use Rattle.held_key.specs.Steps.{Whole}
 use Rattle.verdict.proofs.FullWord.{weight-cong}
 use Rattle.held_key.proofs.Room.{stored-packed-passed}
@@ -132,7 +134,8 @@ module _ (number n k w : ℕ) (z : numbersFit number n k w ≡ true) (rows : ℕ
     weight-is = weight-cong (n - k) k (heldKey (heldAt k) (s .ones) (s .twos)) (packedRow (n - k) y) (packedRow k t) key (λ i q l. ap (λ (r : ℕ → Trit). r q) (filled-row whole key (g .rows-are) i l))
 
     -- the answer is that of the rows offered
-    pub answer : checkPackedAnswer (packedCheckOf (heldAt k) number (s .ones) (s .twos) y t wo wt) ≡ answered 0 (fullWeight (n - k) k key (packedRow (n - k) y) (packedRow k t)) w
+    pub answer : checkPackedAnswer (packedCheckOf (heldAt k) number (s .ones) (s .twos) y t wo wt)
+        ≡ answered 0 (fullWeight (n - k) k key (packedRow (n - k) y) (packedRow k t)) w
     unfolding checkPackedAnswer
     answer = ap₂ (λ (a b : ℕ). answered a b w) accepted weight-is
 
@@ -140,10 +143,12 @@ module _ (number n k w : ℕ) (z : numbersFit number n k w ≡ true) (rows : ℕ
   pub loaded : (h : Held) (ones twos y t wo wt : List ℕ) → length ones ≡ k * wordsFor (n - k) → length twos ≡ k * wordsFor (n - k) → length y ≡ bytesFor (n - k) → length t ≡ bytesFor k
       → badByte y ≡ false → badByte t ≡ false → length wo ≡ wordsFor (n - k) → length wt ≡ wordsFor (n - k)
       → let s = offerAll rows k (record { held = beginHeld h number n k w; ones = ones; twos = twos }) in
-      checkPackedAnswer (packedCheckOf (s .held) number (s .ones) (s .twos) y t wo wt) ≡ answered 0 (fullWeight (n - k) k key (packedRow (n - k) y) (packedRow k t)) w
+      checkPackedAnswer (packedCheckOf (s .held) number (s .ones) (s .twos) y t wo wt)
+      ≡ answered 0 (fullWeight (n - k) k key (packedRow (n - k) y) (packedRow k t)) w
   loaded h ones twos y t wo wt p q yl tl yg tg ol pl =
       let g = offered ones twos p q k (le-refl k) in
       let s = offerAll rows k (record { held = heldAt 0; ones = ones; twos = twos }) in
-      ap (λ (x : Held). let u = offerAll rows k (record { held = x; ones = ones; twos = twos }) in checkPackedAnswer (packedCheckOf (u .held) number (u .ones) (u .twos) y t wo wt)) (begun h .1)
+      let asked : Holding → PackedCheck = λ u. packedCheckOf (u .held) number (u .ones) (u .twos) y t wo wt in
+      ap (λ (x : Held). checkPackedAnswer (asked (offerAll rows k (record { held = x; ones = ones; twos = twos })))) (begun h .1)
       ∙ ap (λ (x : Held). checkPackedAnswer (packedCheckOf x number (s .ones) (s .twos) y t wo wt)) (g .held-is)
       ∙ answer s g y t wo wt yl tl yg tg ol pl

@@ -20,7 +20,8 @@ use Rattle.packed.proofs.Turned.{bytes-good}
 use Rattle.held_key.specs.declared.state.Held.{Held}
 use Rattle.verdict.specs.Verdict.{fullWeight, Extending, Found}
 use Rattle.held_key.specs.Held.{sound, rowTrits, heldKey}
-use Rattle.check_tests.specs.Check.{Check, PackedCheck, callRefusal, packedLengths, packedContents, checkRefusal, checkPackedRefusal, heldWeight, answered, checkAnswer, checkPackedAnswer}
+use Rattle.check_tests.specs.Check.{callRefusal, packedLengths, packedContents, heldWeight, answered}
+use Rattle.check_tests.specs.Check.{Check, checkRefusal, checkAnswer, PackedCheck, checkPackedRefusal, checkPackedAnswer}
 use Rattle.held_key.proofs.Sizes.{sizes}
 use Rattle.verdict.proofs.FullWord.{verifier, extends-once, yes-weight}
 use Rattle.check_tests.proofs.Passed.{Fitted, fitted, contents, check-passed}
@@ -99,7 +100,8 @@ module _ (c : Check) (e : checkRefusal c ≡ 0) where
   fit : Fitted h (length (c .yOnes)) (length (c .yTwos)) (length (c .sOnes)) (length (c .sTwos))
   fit = fitted h (length (c .yOnes)) (length (c .yTwos)) (length (c .sOnes)) (length (c .sTwos)) (check-passed c e .1)
 
-  right : (planesRefusal (c .ones) (c .twos) (h .k) (rowTrits h) ≡ 0) × (planesRefusal (c .yOnes) (c .yTwos) 1 (rowTrits h) ≡ 0) × (planesRefusal (c .sOnes) (c .sTwos) 1 (h .k) ≡ 0)
+  right : (planesRefusal (c .ones) (c .twos) (h .k) (rowTrits h) ≡ 0)
+      × (planesRefusal (c .yOnes) (c .yTwos) 1 (rowTrits h) ≡ 0) × (planesRefusal (c .sOnes) (c .sTwos) 1 (h .k) ≡ 0)
   right = contents h (c .ones) (c .twos) (c .yOnes) (c .yTwos) (c .sOnes) (c .sTwos) (check-passed c e .2)
 
   call-passes : callRefusal h (c .number) (length (c .ones)) (length (c .twos)) (length (c .workOnes)) (length (c .workTwos)) ≡ 0

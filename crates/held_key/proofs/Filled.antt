@@ -21,7 +21,8 @@ use Rattle.packed.specs.Packed.{packedRow}
 use Rattle.held_key.specs.declared.state.Held.{Held}
 use Rattle.verdict.specs.Verdict.{Key}
 use Rattle.held_key.specs.Held.{rowTrits, rowWords, keyWords, heldRow, heldKey}
-use Rattle.held_key.specs.Store.{Store, PackedStore, storeRefusal, storePackedRefusal, nextHeld, storeOnes, storeTwos, newOnes, newTwos, storePackedOnes, storePackedTwos}
+use Rattle.held_key.specs.Store.{Store, storeRefusal, nextHeld, storeOnes, storeTwos}
+use Rattle.held_key.specs.Store.{PackedStore, storePackedRefusal, newOnes, newTwos, storePackedOnes, storePackedTwos}
 use Rattle.held_key.specs.Steps.{Whole}
 use Rattle.held_key.proofs.Sizes.{sizes}
 use Rattle.held_key.proofs.Stretch.{ones-row, twos-row, ones-length}
@@ -90,15 +91,16 @@ written-tested v m n z l = record {
 }
 
 -- a packed row
-pub filled-packed : (c : PackedStore) (K : Key) → storePackedRefusal c ≡ 0 → packedRow (rowTrits (c .held)) (c .row) ≡ K (c .held .rows) → Filled (c .held) (c .ones) (c .twos) K
-    → Filled (nextHeld (c .held)) (storePackedOnes c) (storePackedTwos c) K
+pub filled-packed : (c : PackedStore) (K : Key) → storePackedRefusal c ≡ 0 → packedRow (rowTrits (c .held)) (c .row) ≡ K (c .held .rows)
+    → Filled (c .held) (c .ones) (c .twos) K → Filled (nextHeld (c .held)) (storePackedOnes c) (storePackedTwos c) K
 filled-packed c K e r g =
     let h = c .held in
     let p = stored-packed-passed c e in
     let v = packedRow (rowTrits h) (c .row) in
     subst₂ (λ (x y : List ℕ). Filled (nextHeld h) x y K) (plane-put h (c .ones) (newOnes c) e) (plane-put h (c .twos) (newTwos c) e)
     (filled-put (p .0) (newOnes c) (newTwos c) (length-ones v (rowWords h)) (length-twos v (rowWords h)) K
-    (holds-reads (newOnes c) (newTwos c) (rowWords h) v (λ i l. packed-out (c .row) (rowTrits h) i (omega arith)) (record { ones-are = refl; twos-are = refl }) .trits ∙ r)
+    (holds-reads (newOnes c) (newTwos c) (rowWords h) v (λ i l. packed-out (c .row) (rowTrits h) i (omega arith))
+    (record { ones-are = refl; twos-are = refl }) .trits ∙ r)
     (written-tested v (rowTrits h) (rowWords h) (packed-out (c .row) (rowTrits h)) (omega arith)) g)
 
 -- ---- the whole key

@@ -19,7 +19,8 @@ use Rattle.trits.proofs.Reading.{length-ones, length-twos, holds-reads}
 use Rattle.packed.specs.Packed.{packedRow}
 use Rattle.held_key.specs.declared.state.Held.{Held}
 use Rattle.held_key.specs.Held.{numbersFit, sound, rowTrits, rowWords, keyWords, heldRow, heldKey}
-use Rattle.held_key.specs.Store.{Store, PackedStore, storeRefusal, storePackedRefusal, nextHeld, storeOnes, storeTwos, newOnes, newTwos, storePackedOnes, storePackedTwos}
+use Rattle.held_key.specs.Store.{Store, storeRefusal, nextHeld, storeOnes, storeTwos}
+use Rattle.held_key.specs.Store.{PackedStore, storePackedRefusal, newOnes, newTwos, storePackedOnes, storePackedTwos}
 use Rattle.held_key.proofs.Sizes.{and-both}
 use Rattle.held_key.proofs.Stretch.{row-there}
 use Rattle.packed.proofs.Digits.{packed-out}
@@ -102,8 +103,10 @@ module _ (c : Store) (e : storeRefusal c ≡ 0) where
   stored-new =
       let p = stored-passed c e in
       ap₂ tritAt
-      (ap (λ (l : List ℕ). heldRow (nextHeld h) l (h .rows)) (sym (plane-put h (c .ones) (c .rowOnes) e)) ∙ put-new (p .0) (c .ones) (c .rowOnes) (p .0 .ones-are) (p .1))
-      (ap (λ (l : List ℕ). heldRow (nextHeld h) l (h .rows)) (sym (plane-put h (c .twos) (c .rowTwos) e)) ∙ put-new (p .0) (c .twos) (c .rowTwos) (p .0 .twos-are) (p .2))
+      (ap (λ (l : List ℕ). heldRow (nextHeld h) l (h .rows)) (sym (plane-put h (c .ones) (c .rowOnes) e))
+      ∙ put-new (p .0) (c .ones) (c .rowOnes) (p .0 .ones-are) (p .1))
+      (ap (λ (l : List ℕ). heldRow (nextHeld h) l (h .rows)) (sym (plane-put h (c .twos) (c .rowTwos) e))
+      ∙ put-new (p .0) (c .twos) (c .rowTwos) (p .0 .twos-are) (p .2))
 
   -- the rows before it are as they were
   pub stored-old : (i : ℕ) → i < c .held .rows → heldKey (nextHeld (c .held)) (storeOnes c) (storeTwos c) i ≡ heldKey (c .held) (c .ones) (c .twos) i
@@ -111,8 +114,10 @@ module _ (c : Store) (e : storeRefusal c ≡ 0) where
   stored-old i l =
       let p = stored-passed c e in
       ap₂ tritAt
-      (ap (λ (x : List ℕ). heldRow (nextHeld h) x i) (sym (plane-put h (c .ones) (c .rowOnes) e)) ∙ put-old (p .0) (c .ones) (c .rowOnes) (p .0 .ones-are) (p .1) i l)
-      (ap (λ (x : List ℕ). heldRow (nextHeld h) x i) (sym (plane-put h (c .twos) (c .rowTwos) e)) ∙ put-old (p .0) (c .twos) (c .rowTwos) (p .0 .twos-are) (p .2) i l)
+      (ap (λ (x : List ℕ). heldRow (nextHeld h) x i) (sym (plane-put h (c .ones) (c .rowOnes) e))
+      ∙ put-old (p .0) (c .ones) (c .rowOnes) (p .0 .ones-are) (p .1) i l)
+      (ap (λ (x : List ℕ). heldRow (nextHeld h) x i) (sym (plane-put h (c .twos) (c .rowTwos) e))
+      ∙ put-old (p .0) (c .twos) (c .rowTwos) (p .0 .twos-are) (p .2) i l)
 
 -- ---- a packed row
 module _ (c : PackedStore) (e : storePackedRefusal c ≡ 0) where
@@ -128,15 +133,21 @@ module _ (c : PackedStore) (e : storePackedRefusal c ≡ 0) where
   packed-new =
       let p = stored-packed-passed c e in
       ap₂ tritAt
-      (ap (λ (l : List ℕ). heldRow (nextHeld g) l (g .rows)) (sym (plane-put g (c .ones) (newOnes c) e)) ∙ put-new (p .0) (c .ones) (newOnes c) (p .0 .ones-are) (length-ones v (rowWords g)))
-      (ap (λ (l : List ℕ). heldRow (nextHeld g) l (g .rows)) (sym (plane-put g (c .twos) (newTwos c) e)) ∙ put-new (p .0) (c .twos) (newTwos c) (p .0 .twos-are) (length-twos v (rowWords g)))
-      ∙ holds-reads (newOnes c) (newTwos c) (rowWords g) v (λ i l. packed-out (c .row) (rowTrits g) i (omega arith)) (record { ones-are = refl; twos-are = refl }) .trits
+      (ap (λ (l : List ℕ). heldRow (nextHeld g) l (g .rows)) (sym (plane-put g (c .ones) (newOnes c) e))
+      ∙ put-new (p .0) (c .ones) (newOnes c) (p .0 .ones-are) (length-ones v (rowWords g)))
+      (ap (λ (l : List ℕ). heldRow (nextHeld g) l (g .rows)) (sym (plane-put g (c .twos) (newTwos c) e))
+      ∙ put-new (p .0) (c .twos) (newTwos c) (p .0 .twos-are) (length-twos v (rowWords g)))
+      ∙ holds-reads (newOnes c) (newTwos c) (rowWords g) v (λ i l. packed-out (c .row) (rowTrits g) i (omega arith))
+      (record { ones-are = refl; twos-are = refl }) .trits
 
   -- the rows before it are as they were
-  pub packed-old : (i : ℕ) → i < c .held .rows → heldKey (nextHeld (c .held)) (storePackedOnes c) (storePackedTwos c) i ≡ heldKey (c .held) (c .ones) (c .twos) i
+  pub packed-old : (i : ℕ) → i < c .held .rows
+      → heldKey (nextHeld (c .held)) (storePackedOnes c) (storePackedTwos c) i ≡ heldKey (c .held) (c .ones) (c .twos) i
   unfolding heldKey
   packed-old i l =
       let p = stored-packed-passed c e in
       ap₂ tritAt
-      (ap (λ (x : List ℕ). heldRow (nextHeld g) x i) (sym (plane-put g (c .ones) (newOnes c) e)) ∙ put-old (p .0) (c .ones) (newOnes c) (p .0 .ones-are) (length-ones v (rowWords g)) i l)
-      (ap (λ (x : List ℕ). heldRow (nextHeld g) x i) (sym (plane-put g (c .twos) (newTwos c) e)) ∙ put-old (p .0) (c .twos) (newTwos c) (p .0 .twos-are) (length-twos v (rowWords g)) i l)
+      (ap (λ (x : List ℕ). heldRow (nextHeld g) x i) (sym (plane-put g (c .ones) (newOnes c) e))
+      ∙ put-old (p .0) (c .ones) (newOnes c) (p .0 .ones-are) (length-ones v (rowWords g)) i l)
+      (ap (λ (x : List ℕ). heldRow (nextHeld g) x i) (sym (plane-put g (c .twos) (newTwos c) e))
+      ∙ put-old (p .0) (c .twos) (newTwos c) (p .0 .twos-are) (length-twos v (rowWords g)) i l)

@@ -39,7 +39,8 @@ room h ones twos e =
 
 -- a row in planes passed
 pub stored-passed : (c : Store) → storeRefusal c ≡ 0 → let h = c .held in
-    Room h (length (c .ones)) (length (c .twos)) × (length (c .rowOnes) ≡ rowWords h) × (length (c .rowTwos) ≡ rowWords h) × (planesRefusal (c .rowOnes) (c .rowTwos) 1 (rowTrits h) ≡ 0)
+    Room h (length (c .ones)) (length (c .twos)) × (length (c .rowOnes) ≡ rowWords h) × (length (c .rowTwos) ≡ rowWords h)
+    × (planesRefusal (c .rowOnes) (c .rowTwos) 1 (rowTrits h) ≡ 0)
 unfolding storeRefusal
 stored-passed c e =
     let h = c .held in

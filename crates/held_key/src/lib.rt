@@ -70,7 +70,8 @@ pub fn store_row(
 // A packed row becomes the next row of the held key.
 pub fn store_packed_row(held: Held, ones: &mut [u64], twos: &mut [u64], row: &[u8]) -> Stored
     ensures { λ r. ⌜ (let c = packedStoreOf held (now (ones .entry)) (now (twos .entry)) (now (row .entry)) in
-        (codeOf (r .outcome) ≡ storePackedRefusal c) × (r .held ≡ storePackedHeld c) × (now (ones .exit) ≡ storePackedOnes c) × (now (twos .exit) ≡ storePackedTwos c)) ⌝ }
+        (codeOf (r .outcome) ≡ storePackedRefusal c) × (r .held ≡ storePackedHeld c)
+        × (now (ones .exit) ≡ storePackedOnes c) × (now (twos .exit) ≡ storePackedTwos c)) ⌝ }
 {
     let tested = key::test_packed_row(held, ones, twos, row);
     if trits::refusal::code(tested) != 0 {

@@ -9,7 +9,8 @@ use Rattle.trits.specs.Rows.{rowPart, rowsPastEnd}
 use Rattle.trits.specs.Refusal.{planesRefusal}
 use Rattle.packed.specs.Packed.{byteOf, digitOf, packedAt, packedRow, packedBytes, badByte, packedRefusal}
 use Rattle.packed.specs.Stream.{kept, streamRow, tooShort}
-use Rattle.packed.specs.Calls.{packOf, packRefusal, packExit, unpackOf, unpackRefusal, unpackOnes, unpackTwos, streamOf, streamRefusal, streamOnes, streamTwos}
+use Rattle.packed.specs.Calls.{packOf, packRefusal, packExit, unpackOf, unpackRefusal, unpackOnes, unpackTwos}
+use Rattle.packed.specs.Calls.{streamOf, streamRefusal, streamOnes, streamTwos}
 
 -- a list of trits as a vector
 abbrev vector : List Trit → ℕ → Trit
@@ -34,7 +35,8 @@ unfolding unpackOnes unpackTwos unpackRefusal packedRefusal badByte onesOf twosO
 five-unpack = (refl, refl)
 
 -- ★ 243 gives 5, and the planes stay
-pub large-refused : (unpackRefusal (unpackOf 5 (243 ∷ []) (7 ∷ []) (9 ∷ [])) ≡ 5) × (unpackOnes (unpackOf 5 (243 ∷ []) (7 ∷ []) (9 ∷ [])) ≡ 7 ∷ []) × (unpackTwos (unpackOf 5 (243 ∷ []) (7 ∷ []) (9 ∷ [])) ≡ 9 ∷ [])
+pub large-refused : (unpackRefusal (unpackOf 5 (243 ∷ []) (7 ∷ []) (9 ∷ [])) ≡ 5)
+    × (unpackOnes (unpackOf 5 (243 ∷ []) (7 ∷ []) (9 ∷ [])) ≡ 7 ∷ []) × (unpackTwos (unpackOf 5 (243 ∷ []) (7 ∷ []) (9 ∷ [])) ≡ 9 ∷ [])
 unfolding unpackOnes unpackTwos unpackRefusal packedRefusal badByte anyTo
 large-refused = (refl, refl, refl)
 
@@ -44,7 +46,8 @@ unfolding unpackTwos unpackRefusal packedRefusal badByte twosOf tabulate fromBit
 last-ignored = refl
 
 -- a byte of 243 or more is skipped, and the last byte gives only what is missing
-pub stream-skips : (streamOnes (streamOf 6 (243 ∷ 1 ∷ 255 ∷ 4 ∷ 9 ∷ []) (7 ∷ []) (9 ∷ [])) ≡ 33 ∷ []) × (streamTwos (streamOf 6 (243 ∷ 1 ∷ 255 ∷ 4 ∷ 9 ∷ []) (7 ∷ []) (9 ∷ [])) ≡ 0 ∷ [])
+pub stream-skips : (streamOnes (streamOf 6 (243 ∷ 1 ∷ 255 ∷ 4 ∷ 9 ∷ []) (7 ∷ []) (9 ∷ [])) ≡ 33 ∷ [])
+    × (streamTwos (streamOf 6 (243 ∷ 1 ∷ 255 ∷ 4 ∷ 9 ∷ []) (7 ∷ []) (9 ∷ [])) ≡ 0 ∷ [])
 unfolding streamOnes streamTwos streamRefusal tooShort kept onesOf twosOf tabulate fromBits streamRow packedAt digitOf upTo
 stream-skips = (refl, refl)
 

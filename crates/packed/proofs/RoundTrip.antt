@@ -157,14 +157,17 @@ module _ (c : Pack) (e : packRefusal c ≡ 0) (ho : (j : ℕ) → Fits w64 (getD
 
   holds : Holds (c .ones) (c .twos) (wordsFor m) (packedRow m (packExit c))
   holds =
-      let s : v ≡ packedRow m (packExit c) = sym (ap (packedRow m) wrote ∙ packed-back m v ∙ upto-ended v m (past-zero (c .ones) (c .twos) m (row .same) (p .past))) in
-      subst (λ (u : ℕ → Trit). Holds (c .ones) (c .twos) (wordsFor m) u) s (read-holds (c .ones) (c .twos) (wordsFor m) row (p .ones-size) (λ j. ho j .fits) (λ j. ht j .fits))
+      let z = past-zero (c .ones) (c .twos) m (row .same) (p .past) in
+      let s : v ≡ packedRow m (packExit c) = sym (ap (packedRow m) wrote ∙ packed-back m v ∙ upto-ended v m z) in
+      subst (λ (u : ℕ → Trit). Holds (c .ones) (c .twos) (wordsFor m) u) s
+      (read-holds (c .ones) (c .twos) (wordsFor m) row (p .ones-size) (λ j. ho j .fits) (λ j. ht j .fits))
 
   module _ (o t : List ℕ) (lo : length o ≡ wordsFor (c .m)) (lt : length t ≡ wordsFor (c .m)) where
     -- unpack does not refuse it
     pub back-passes : unpackRefusal (unpackOf (c .m) (packExit c) o t) ≡ 0
     back-passes =
-        sym (bytes-good (packExit c) (ap badByte wrote ∙ packed-good m v) ∙ unpack-passed m o t (packExit c) (p .few) (ap length wrote ∙ packed-length m v) lo lt)
+        sym (bytes-good (packExit c) (ap badByte wrote ∙ packed-good m v)
+        ∙ unpack-passed m o t (packExit c) (p .few) (ap length wrote ∙ packed-length m v) lo lt)
 
     -- and gives back the words that were packed, whatever the planes held
     pub back-ones : unpackOnes (unpackOf (c .m) (packExit c) o t) ≡ c .ones

@@ -6,7 +6,8 @@ pub mod read; // bytes made from a row
 
 ghost use mathlib.Core.Path.{_≡_};
 ghost use Rattle.trits.specs.Refusal.{codeOf};
-ghost use Rattle.packed.specs.Calls.{packOf, packRefusal, packExit, unpackOf, unpackRefusal, unpackOnes, unpackTwos, streamOf, streamRefusal, streamOnes, streamTwos};
+ghost use Rattle.packed.specs.Calls.{packOf, packRefusal, packExit, unpackOf, unpackRefusal, unpackOnes, unpackTwos};
+ghost use Rattle.packed.specs.Calls.{streamOf, streamRefusal, streamOnes, streamTwos};
 use trits::refusal::Outcome;
 use trits::refusal::Refusal;
 

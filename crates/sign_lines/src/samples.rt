@@ -43,7 +43,8 @@ pub struct Filled {
 // A row of m trits, unpacked from such bytes.
 fn unpack_row(m: usize, x: u64, bytes: &mut [u8], ones: &mut [u64], twos: &mut [u64]) -> Filled
     ensures { λ r. ⌜ (let c = unpackOf m (packedAfter (length (now (bytes .entry))) x) (now (ones .entry)) (now (twos .entry)) in
-        (r .refusal ≡ unpackRefusal c) × (r .last ≡ numberAfter (length (now (bytes .entry))) x) × (now (ones .exit) ≡ unpackOnes c) × (now (twos .exit) ≡ unpackTwos c)) ⌝ }
+        (r .refusal ≡ unpackRefusal c) × (r .last ≡ numberAfter (length (now (bytes .entry))) x)
+        × (now (ones .exit) ≡ unpackOnes c) × (now (twos .exit) ≡ unpackTwos c)) ⌝ }
 {
     let last = fill_bytes(bytes, x);
     let outcome = packing::unpack(m, bytes, ones, twos);
@@ -57,7 +58,8 @@ fn unpack_row(m: usize, x: u64, bytes: &mut [u8], ones: &mut [u64], twos: &mut [
 pub fn fill_row(m: usize, x: u64, ones: &mut [u64], twos: &mut [u64]) -> Filled
     requires { ⌜ m ≤ 16384 ⌝ }
     ensures { λ r. ⌜ (let c = unpackOf m (packedAfter ((m + 4) / 5) x) (now (ones .entry)) (now (twos .entry)) in
-        (r .refusal ≡ unpackRefusal c) × (r .last ≡ numberAfter ((m + 4) / 5) x) × (now (ones .exit) ≡ unpackOnes c) × (now (twos .exit) ≡ unpackTwos c)) ⌝ }
+        (r .refusal ≡ unpackRefusal c) × (r .last ≡ numberAfter ((m + 4) / 5) x)
+        × (now (ones .exit) ≡ unpackOnes c) × (now (twos .exit) ≡ unpackTwos c)) ⌝ }
 {
     let b = (m + 4) / 5;
     let mut bytes = [0u8; 3277];

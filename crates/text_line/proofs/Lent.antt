@@ -100,6 +100,7 @@ module _ (h : Held) (ones twos : List ℕ) {p q : List ℕ} (ep : p ≡ keyPart 
         ∙ (λ i. let c = storeOf h (ep i) (eq i) (ex i) (ey i) in holding (storeHeld c) (storeOnes c ++ eu i) (storeTwos c ++ ev i))
 
   pub sign-answer : (number : ℕ) (y s : List ℕ) {a b c d e f : List ℕ} → a ≡ offeredOnes (rowTrits h) y → b ≡ offeredTwos (rowTrits h) y → c ≡ offeredOnes (h .k) s → d ≡ offeredTwos (h .k) s
-      → e ≡ zeroWords (asked h (rowWords h)) → f ≡ zeroWords (asked h (rowWords h)) → checkAnswer (checkOf h number p q a b c d e f) ≡ signAnswer (holding h ones twos) number y s
+      → e ≡ zeroWords (asked h (rowWords h)) → f ≡ zeroWords (asked h (rowWords h))
+      → checkAnswer (checkOf h number p q a b c d e f) ≡ signAnswer (holding h ones twos) number y s
   unfolding signAnswer
   sign-answer number y s ea eb ec ed ee ef = λ i. checkAnswer (checkOf h number (ep i) (eq i) (ea i) (eb i) (ec i) (ed i) (ee i) (ef i))

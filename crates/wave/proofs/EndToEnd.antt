@@ -30,7 +30,8 @@ use Rattle.held_key.specs.declared.state.Held.{Held}
 use Rattle.check_tests.specs.declared.Checked.{Checked}
 use Rattle.held_key.specs.Held.{rowTrits}
 use Rattle.held_key.specs.Load.{Holding, offerAll}
-use Rattle.check_tests.specs.Check.{packedCheckOf, callRefusal, planesLengths, planesContents, checkRefusal, checkPackedRefusal, answered, checkAnswer, checkPackedAnswer}
+use Rattle.check_tests.specs.Check.{callRefusal, planesLengths, planesContents, answered}
+use Rattle.check_tests.specs.Check.{checkRefusal, checkAnswer, packedCheckOf, checkPackedRefusal, checkPackedAnswer}
 use Rattle.check_tests.proofs.Passed.{check-packed-passed, packed-contents}
 use Rattle.checker.proofs.EndToEnd.{begun, offered, loaded}
 use Rattle.checker.proofs.Verdicts.{packed-agrees}

@@ -55,7 +55,9 @@ pub record Host (z : Sizes) : Type 0 where
 
 -- row j of the built key, packed by a call of `pack` from its stretch of the key's words
 abbrev pub packedKeyRow : (z : Sizes) → BuildCall → Host z → ℕ → List ℕ
-packedKeyRow z i m j = packExit (packOf (codim z) (rowPart (keyOnesExit z i) (dim z) (keyRowWords z) j) (rowPart (keyTwosExit z i) (dim z) (keyRowWords z) j) (m .rowBytes j))
+packedKeyRow z i m j =
+    let part : List ℕ → List ℕ = λ plane. rowPart plane (dim z) (keyRowWords z) j in
+    packExit (packOf (codim z) (part (keyOnesExit z i)) (part (keyTwosExit z i)) (m .rowBytes j))
 
 -- the module begins a key with these numbers, and its k packed rows are stored one after another
 abbrev pub carried : (z : Sizes) → BuildCall → ℕ → Host z → Holding

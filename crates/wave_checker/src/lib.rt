@@ -1,6 +1,7 @@
 // The module's half for C: each call in numbers. Nothing but what a host needs is exported.
 ghost use mathlib.Core.Path.{_≡_};
-ghost use Rattle.packed.specs.Calls.{packOf, packRefusal, packExit, unpackOf, unpackRefusal, unpackOnes, unpackTwos, streamOf, streamRefusal, streamOnes, streamTwos};
+ghost use Rattle.packed.specs.Calls.{packOf, packRefusal, packExit, unpackOf, unpackRefusal, unpackOnes, unpackTwos};
+ghost use Rattle.packed.specs.Calls.{streamOf, streamRefusal, streamOnes, streamTwos};
 ghost use Rattle.held_key.specs.Store.{beginRefusal, beginHeld, packedStoreOf, storePackedRefusal, storePackedHeld, storePackedOnes, storePackedTwos};
 ghost use Rattle.check_tests.specs.Check.{packedCheckOf, checkPackedAnswer, checkPackedWorkOnes, checkPackedWorkTwos};
 use check_tests::Checked;
@@ -37,7 +38,8 @@ pub extern "C" fn wave_store_row(
     row: &[u8],
 ) -> StoredNumbers
     ensures { λ r. ⌜ (let c = packedStoreOf held (now (ones .entry)) (now (twos .entry)) (now (row .entry)) in
-        (r .refusal ≡ storePackedRefusal c) × (r .held ≡ storePackedHeld c) × (now (ones .exit) ≡ storePackedOnes c) × (now (twos .exit) ≡ storePackedTwos c)) ⌝ }
+        (r .refusal ≡ storePackedRefusal c) × (r .held ≡ storePackedHeld c)
+        × (now (ones .exit) ≡ storePackedOnes c) × (now (twos .exit) ≡ storePackedTwos c)) ⌝ }
 {
     let stored = held_key::store_packed_row(held, ones, twos, row);
     let outcome = stored.outcome;

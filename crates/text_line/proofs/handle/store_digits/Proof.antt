@@ -89,7 +89,9 @@ returns c =
     let ex = front-part (c .before .before .before .before .before .before .before .before .before .before .before .before .before .before .before .before .offer .result) (c .before .before .before .before .before .before .before .before .before .before .before .before .before .before .before .before .offer .last .1 .1 .0) ∙ o .1 .0 ∙ ap (λ (x : ℕ). offeredOnes x d) m in
     let ey = front-part (c .before .before .before .before .before .before .before .before .before .before .before .before .before .before .before .before .offer .result) (c .before .before .before .before .before .before .before .before .before .before .before .before .before .before .before .before .offer .last .1 .1 .1 .0) ∙ o .1 .1 ∙ ap (λ (x : ℕ). offeredTwos x d) m in
     let e = c .before .before .before .before .before .before .store-row .ensures in
-    (c .code .ensures ∙ e .0 ∙ row-refusal h ones twos (part-key h ones w) (part-key h twos w) d ex ey, row-kept h ones twos (part-key h ones w) (part-key h twos w) d ex ey (e .1) (e .2) (e .3) (part-after h ones w) (part-after h twos w))
+    let p = part-key h ones w in
+    let q = part-key h twos w in
+    (c .code .ensures ∙ e .0 ∙ row-refusal h ones twos p q d ex ey, row-kept h ones twos p q d ex ey (e .1) (e .2) (e .3) (part-after h ones w) (part-after h twos w))
 
 pub store-digits-spec : {M : Type 1} → statement M
 store-digits-spec =

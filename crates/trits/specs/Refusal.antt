@@ -3,7 +3,7 @@ use mathlib.Core.Bool.{Bool, cond}
 use mathlib.Core.List.{List}
 use Prim.Native.Nat.{ℕ}
 use lib.Dec.{eqb}
-use Rattle.trits.specs.Planes.{bothSet}
+use Rattle.trits.specs.Planes.{Pair, pairOf, bothSet}
 use Rattle.trits.specs.Rows.{rowsPastEnd}
 use Rattle.trits.specs.declared.refusal.Refusal.{Refusal}
 use Rattle.trits.specs.declared.refusal.Refusal.the-variants.{Size, Length, BothPlanes, PastEnd, PackedByte, StreamEnd, NoPermutation, ZeroTrit, RankU, RankV, Line, FirstPartV, FirstPartU, Weight, NoKey, WholeKey, OtherKey}
@@ -52,6 +52,10 @@ first a b = cond (eqb a 0) b a
 -- "a refusal returns its number alone; state and output stay": what a lent buffer is at exit
 abbrev pub atExit : ℕ → List ℕ → List ℕ → List ℕ
 atExit refusal new old = cond (eqb refusal 0) new old
+
+-- and what a lent pair of planes is
+abbrev pub pairAtExit : ℕ → Pair → Pair → Pair
+pairAtExit refusal new old = pairOf (atExit refusal (new .ones) (old .ones)) (atExit refusal (new .twos) (old .twos))
 
 -- ---- the contents of one pair of planes, of `rows` rows of m trits: 3 over the whole buffer before 4
 unfoldable pub planesRefusal : List ℕ → List ℕ → ℕ → ℕ → ℕ

@@ -17,8 +17,8 @@ use Rattle.held_key.specs.Load.{Holding, offerAll}
 use Rattle.check_tests.specs.Check.{checkAnswer, checkPackedAnswer}
 use Rattle.scheme.specs.declared.sizes.Sizes.{Sizes}
 use Rattle.scheme.specs.Sizes.{dim, codim}
-use Rattle.calls.specs.BuildCall.{BuildCall, keyRowWords, keyOnesExit, keyTwosExit}
-use Rattle.calls.specs.DrawCall.{DrawCall, sOnesExit, sTwosExit}
+use Rattle.calls.specs.BuildCall.{BuildCall, keyRowWords, keyExit}
+use Rattle.calls.specs.DrawCall.{DrawCall, sExit}
 use Rattle.wave.specs.Terms.{sized}
 
 -- ---- a call of the check
@@ -85,7 +85,7 @@ pub record Host (z : Sizes) : Type 0 where
 
 -- row j of the built key, packed by a call of `pack` from its stretch of the key's words
 abbrev pub packedKeyRow : (z : Sizes) → BuildCall → Host z → ℕ → List ℕ
-packedKeyRow z i m j = packExit (codim z) (rowPart (keyOnesExit z i) (dim z) (keyRowWords z) j) (rowPart (keyTwosExit z i) (dim z) (keyRowWords z) j) (m .rowBytes j)
+packedKeyRow z i m j = packExit (codim z) (rowPart (keyExit z i .ones) (dim z) (keyRowWords z) j) (rowPart (keyExit z i .twos) (dim z) (keyRowWords z) j) (m .rowBytes j)
 
 -- the module begins a key with these numbers, and its k packed rows are stored one after another
 abbrev pub carried : (z : Sizes) → BuildCall → ℕ → Host z → Holding
@@ -98,8 +98,8 @@ carriedCheck z i g w l m = record {
   number = m .number;
   ones = carried z i w m .ones;
   twos = carried z i w m .twos;
-  y = packExit (codim z) (l .yOnes) (l .yTwos) (m .yBytes);
-  s = packExit (dim z) (sOnesExit (sized z g w) l) (sTwosExit (sized z g w) l) (m .sBytes);
+  y = packExit (codim z) (l .y .ones) (l .y .twos) (m .yBytes);
+  s = packExit (dim z) (sExit (sized z g w) l .ones) (sExit (sized z g w) l .twos) (m .sBytes);
   workOnes = m .workOnes;
   workTwos = m .workTwos;
 }
@@ -111,10 +111,10 @@ carriedPlanes z i g w l m = record {
   number = m .number;
   ones = carried z i w m .ones;
   twos = carried z i w m .twos;
-  yOnes = l .yOnes;
-  yTwos = l .yTwos;
-  sOnes = sOnesExit (sized z g w) l;
-  sTwos = sTwosExit (sized z g w) l;
+  yOnes = l .y .ones;
+  yTwos = l .y .twos;
+  sOnes = sExit (sized z g w) l .ones;
+  sTwos = sExit (sized z g w) l .twos;
   workOnes = m .workOnes;
   workTwos = m .workTwos;
 }

@@ -102,23 +102,23 @@ key-same z s p k1 k2 w1 w2 e =
 
 module _ (z : Sizes) (i : BuildCall) {t : Bool} where
   -- the lengths one after another are those of the record
-  pub same-lengths : (secretDiffers z (length (i .secret .huOnes)) (length (i .secret .huTwos)) (length (i .secret .hvOnes)) (length (i .secret .hvTwos)) (length (i .secret .bOnes)) (length (i .secret .bTwos))
-      (length (i .secret .cOnes)) (length (i .secret .cTwos)) || keyDiffers z (length (i .start)) (length (i .p)) (length (i .keyOnes)) (length (i .keyTwos)) (length (i .workOnes)) (length (i .workTwos))) ≡ t
+  pub same-lengths : (secretDiffers z (length (i .secret .hu .ones)) (length (i .secret .hu .twos)) (length (i .secret .hv .ones)) (length (i .secret .hv .twos)) (length (i .secret .b .ones)) (length (i .secret .b .twos))
+      (length (i .secret .c .ones)) (length (i .secret .c .twos)) || keyDiffers z (length (i .start)) (length (i .p)) (length (i .key .ones)) (length (i .key .twos)) (length (i .work .ones)) (length (i .work .twos))) ≡ t
       → buildLengthsDiffer z i ≡ t
   unfolding buildLengthsDiffer
   same-lengths e = e
 
 module _ (z : Sizes) (i : BuildCall) (e : buildLengthsDiffer z i ≡ false) where
-  pub lengths-secret : SecretLengths z (length (i .secret .huOnes)) (length (i .secret .huTwos)) (length (i .secret .hvOnes)) (length (i .secret .hvTwos)) (length (i .secret .bOnes)) (length (i .secret .bTwos))
-      (length (i .secret .cOnes)) (length (i .secret .cTwos))
+  pub lengths-secret : SecretLengths z (length (i .secret .hu .ones)) (length (i .secret .hu .twos)) (length (i .secret .hv .ones)) (length (i .secret .hv .twos)) (length (i .secret .b .ones)) (length (i .secret .b .twos))
+      (length (i .secret .c .ones)) (length (i .secret .c .twos))
   unfolding buildLengthsDiffer
   lengths-secret = secret-same z _ _ _ _ _ _ _ _ (or-none
-      (secretDiffers z (length (i .secret .huOnes)) (length (i .secret .huTwos)) (length (i .secret .hvOnes)) (length (i .secret .hvTwos)) (length (i .secret .bOnes)) (length (i .secret .bTwos)) (length (i .secret .cOnes)) (length (i .secret .cTwos))) _ e .0)
+      (secretDiffers z (length (i .secret .hu .ones)) (length (i .secret .hu .twos)) (length (i .secret .hv .ones)) (length (i .secret .hv .twos)) (length (i .secret .b .ones)) (length (i .secret .b .twos)) (length (i .secret .c .ones)) (length (i .secret .c .twos))) _ e .0)
 
-  pub lengths-key : KeyLengths z (length (i .start)) (length (i .p)) (length (i .keyOnes)) (length (i .keyTwos)) (length (i .workOnes)) (length (i .workTwos))
+  pub lengths-key : KeyLengths z (length (i .start)) (length (i .p)) (length (i .key .ones)) (length (i .key .twos)) (length (i .work .ones)) (length (i .work .twos))
   unfolding buildLengthsDiffer
   lengths-key = key-same z _ _ _ _ _ _ (or-none
-      (secretDiffers z (length (i .secret .huOnes)) (length (i .secret .huTwos)) (length (i .secret .hvOnes)) (length (i .secret .hvTwos)) (length (i .secret .bOnes)) (length (i .secret .bTwos)) (length (i .secret .cOnes)) (length (i .secret .cTwos))) _ e .1)
+      (secretDiffers z (length (i .secret .hu .ones)) (length (i .secret .hu .twos)) (length (i .secret .hv .ones)) (length (i .secret .hv .twos)) (length (i .secret .b .ones)) (length (i .secret .b .twos)) (length (i .secret .c .ones)) (length (i .secret .c .twos))) _ e .1)
 
 -- ---- contents that are not refused
 

@@ -3,9 +3,10 @@ pub mod tests; // lengths and contents
 pub mod finish; // ranks, key, working space
 
 ghost use mathlib.Core.Path.{_≡_};
+ghost use Rattle.trits.specs.Planes.{pairOf};
 ghost use Rattle.trits.specs.Refusal.{codeOf};
 ghost use Rattle.calls.specs.Lent.{planes};
-ghost use Rattle.calls.specs.BuildCall.{buildCall, buildAnswer, orderExit, keyOnesExit, keyTwosExit, buildWorkOnesExit, buildWorkTwosExit};
+ghost use Rattle.calls.specs.BuildCall.{buildCall, buildAnswer, orderExit, keyExit, buildWorkExit};
 use scheme::sizes::Sizes;
 use trits::refusal::Outcome;
 use trits::refusal::Refusal;
@@ -31,8 +32,8 @@ pub fn build(
     ensures { λ r. ⌜ (let i = buildCall (planes (now («hu_ones» .entry)) (now («hu_twos» .entry)) (now («hv_ones» .entry)) (now («hv_twos» .entry))
         (now («b_ones» .entry)) (now («b_twos» .entry)) (now («c_ones» .entry)) (now («c_twos» .entry)))
         (now (start .entry)) (now (p .entry)) (now («key_ones» .entry)) (now («key_twos» .entry)) (now («work_ones» .entry)) (now («work_twos» .entry)) in
-        (codeOf r ≡ buildAnswer z i) × (now (p .exit) ≡ orderExit z i) × (now («key_ones» .exit) ≡ keyOnesExit z i) × (now («key_twos» .exit) ≡ keyTwosExit z i)
-        × (now («work_ones» .exit) ≡ buildWorkOnesExit z i) × (now («work_twos» .exit) ≡ buildWorkTwosExit z i)) ⌝ }
+        (codeOf r ≡ buildAnswer z i) × (now (p .exit) ≡ orderExit z i) × (pairOf (now («key_ones» .exit)) (now («key_twos» .exit)) ≡ keyExit z i)
+        × (pairOf (now («work_ones» .exit)) (now («work_twos» .exit)) ≡ buildWorkExit z i)) ⌝ }
 {
     if !scheme::sizes::sizes_fit(z) {
         return Outcome::Refused(Refusal::Size);

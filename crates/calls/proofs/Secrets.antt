@@ -66,19 +66,19 @@ zero-from m v = any-cong m (isZero (λ j. v (0 + j))) (isZero v) (λ q h. ap (is
 
 module _ (z : Sizes) (i : Planes) where
   abbrev pub refusalHU : ℕ
-  refusalHU = planesRefusal (i .huOnes) (i .huTwos) (ru z) (half z)
+  refusalHU = planesRefusal (i .hu .ones) (i .hu .twos) (ru z) (half z)
 
   abbrev pub refusalHV : ℕ
-  refusalHV = planesRefusal (i .hvOnes) (i .hvTwos) (rv z) (half z)
+  refusalHV = planesRefusal (i .hv .ones) (i .hv .twos) (rv z) (half z)
 
   abbrev pub refusalB : ℕ
-  refusalB = planesRefusal (i .bOnes) (i .bTwos) 1 (half z)
+  refusalB = planesRefusal (i .b .ones) (i .b .twos) 1 (half z)
 
   abbrev pub refusalC : ℕ
-  refusalC = planesRefusal (i .cOnes) (i .cTwos) 1 (half z)
+  refusalC = planesRefusal (i .c .ones) (i .c .twos) 1 (half z)
 
   abbrev pub zeroInC : Bool
-  zeroInC = hasZero (half z) (tritAt (i .cOnes) (i .cTwos))
+  zeroInC = hasZero (half z) (tritAt (i .c .ones) (i .c .twos))
 
   pub secret-le : secretRefusal z i ≤ 8
   unfolding secretRefusal
@@ -124,10 +124,10 @@ pub row-of : (o t : List ℕ) (r m : ℕ) {n : ℕ} → planesRefusal o t r m �
 row-of o t r m e a b ho ht = record { same = b ∙ sym a; apart = both-apart ho ht (planes-passed o t r m e .0) }
 
 pub readable : (z : Sizes) (i : Planes)
-    → SecretLengths z (length (i .huOnes)) (length (i .huTwos)) (length (i .hvOnes)) (length (i .hvTwos)) (length (i .bOnes)) (length (i .bTwos)) (length (i .cOnes)) (length (i .cTwos))
+    → SecretLengths z (length (i .hu .ones)) (length (i .hu .twos)) (length (i .hv .ones)) (length (i .hv .twos)) (length (i .b .ones)) (length (i .b .twos)) (length (i .c .ones)) (length (i .c .twos))
     → secretRefusal z i ≡ 0
-    → ((j : ℕ) → Fits w64 (getD (i .huOnes) j 0)) → ((j : ℕ) → Fits w64 (getD (i .huTwos) j 0)) → ((j : ℕ) → Fits w64 (getD (i .hvOnes) j 0)) → ((j : ℕ) → Fits w64 (getD (i .hvTwos) j 0))
-    → ((j : ℕ) → Fits w64 (getD (i .bOnes) j 0)) → ((j : ℕ) → Fits w64 (getD (i .bTwos) j 0)) → ((j : ℕ) → Fits w64 (getD (i .cOnes) j 0)) → ((j : ℕ) → Fits w64 (getD (i .cTwos) j 0)) → Readable z i
+    → ((j : ℕ) → Fits w64 (getD (i .hu .ones) j 0)) → ((j : ℕ) → Fits w64 (getD (i .hu .twos) j 0)) → ((j : ℕ) → Fits w64 (getD (i .hv .ones) j 0)) → ((j : ℕ) → Fits w64 (getD (i .hv .twos) j 0))
+    → ((j : ℕ) → Fits w64 (getD (i .b .ones) j 0)) → ((j : ℕ) → Fits w64 (getD (i .b .twos) j 0)) → ((j : ℕ) → Fits w64 (getD (i .c .ones) j 0)) → ((j : ℕ) → Fits w64 (getD (i .c .twos) j 0)) → Readable z i
 unfolding secretRefusal
 readable z i l e f1 f2 f3 f4 f5 f6 f7 f8 =
     let A = passed-first (refusalHU z i) _ e in

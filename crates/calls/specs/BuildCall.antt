@@ -4,9 +4,9 @@ use mathlib.Core.List.{List}
 use Prim.Native.Nat.{ℕ, _+_, _*_}
 use lib.ListN.{length}
 use Rattle.trits.specs.Trit.{upTo}
-use Rattle.trits.specs.Planes.{wordsFor, onesOf, twosOf}
+use Rattle.trits.specs.Planes.{Pair, pairOf, wordsFor, onesOf, twosOf}
 use Rattle.trits.specs.Rows.{rowsOf}
-use Rattle.trits.specs.Refusal.{refuse, demand, first, atExit, spaceExit}
+use Rattle.trits.specs.Refusal.{refuse, demand, first, atExit, pairAtExit, spacePairExit}
 use Rattle.matrix.specs.Orders.{isOrder}
 use Rattle.scheme.specs.declared.sizes.Sizes.{Sizes}
 use Rattle.scheme.specs.Sizes.{places, dim, codim, sizesFit}
@@ -21,13 +21,11 @@ pub record BuildCall : Type 0 where
   pub secret : Planes
   pub start : List ℕ
   pub p : List ℕ
-  pub keyOnes : List ℕ
-  pub keyTwos : List ℕ
-  pub workOnes : List ℕ
-  pub workTwos : List ℕ
+  pub key : Pair
+  pub work : Pair
 
 abbrev pub buildCall : Planes → List ℕ → List ℕ → List ℕ → List ℕ → List ℕ → List ℕ → BuildCall
-buildCall s start p ko kt wo wt = record { secret = s; start = start; p = p; keyOnes = ko; keyTwos = kt; workOnes = wo; workTwos = wt }
+buildCall s start p ko kt wo wt = record { secret = s; start = start; p = p; key = pairOf ko kt; work = pairOf wo wt }
 
 -- ---- 2: a length differs from what the sizes say
 
@@ -46,8 +44,8 @@ keyDiffers z s p k1 k2 w1 w2 = pairDiffers (places z) s p || (pairDiffers (dim z
 unfoldable pub buildLengthsDiffer : Sizes → BuildCall → Bool
 buildLengthsDiffer z i =
     let k = i .secret in
-    secretDiffers z (length (k .huOnes)) (length (k .huTwos)) (length (k .hvOnes)) (length (k .hvTwos)) (length (k .bOnes)) (length (k .bTwos)) (length (k .cOnes)) (length (k .cTwos))
-    || keyDiffers z (length (i .start)) (length (i .p)) (length (i .keyOnes)) (length (i .keyTwos)) (length (i .workOnes)) (length (i .workTwos))
+    secretDiffers z (length (k .hu .ones)) (length (k .hu .twos)) (length (k .hv .ones)) (length (k .hv .twos)) (length (k .b .ones)) (length (k .b .twos)) (length (k .c .ones)) (length (k .c .twos))
+    || keyDiffers z (length (i .start)) (length (i .p)) (length (i .key .ones)) (length (i .key .twos)) (length (i .work .ones)) (length (i .work .twos))
 
 -- ---- the answer: 1, every length, the contents of the secret and of the starting order, then 9 and 10
 unfoldable pub buildAnswer : Sizes → BuildCall → ℕ
@@ -71,15 +69,9 @@ keyOnesOf z s start = rowsOf (λ j. onesOf (upTo (codim z) (keyRow z s start j))
 unfoldable pub keyTwosOf : Sizes → Secret → List ℕ → List ℕ
 keyTwosOf z s start = rowsOf (λ j. twosOf (upTo (codim z) (keyRow z s start j)) (keyRowWords z)) (dim z)
 
-unfoldable pub keyOnesExit : Sizes → BuildCall → List ℕ
-keyOnesExit z i = atExit (buildAnswer z i) (keyOnesOf z (secretOf z (i .secret)) (i .start)) (i .keyOnes)
-
-unfoldable pub keyTwosExit : Sizes → BuildCall → List ℕ
-keyTwosExit z i = atExit (buildAnswer z i) (keyTwosOf z (secretOf z (i .secret)) (i .start)) (i .keyTwos)
+unfoldable pub keyExit : Sizes → BuildCall → Pair
+keyExit z i = let s = secretOf z (i .secret) in pairAtExit (buildAnswer z i) (pairOf (keyOnesOf z s (i .start)) (keyTwosOf z s (i .start))) (i .key)
 
 -- the working space
-unfoldable pub buildWorkOnesExit : Sizes → BuildCall → List ℕ
-buildWorkOnesExit z i = spaceExit (buildAnswer z i) (i .workOnes)
-
-unfoldable pub buildWorkTwosExit : Sizes → BuildCall → List ℕ
-buildWorkTwosExit z i = spaceExit (buildAnswer z i) (i .workTwos)
+unfoldable pub buildWorkExit : Sizes → BuildCall → Pair
+buildWorkExit z i = spacePairExit (buildAnswer z i) (i .work)

@@ -4,9 +4,8 @@ use mathlib.Core.List.{List}
 use Prim.Native.Nat.{ℕ, _+_, _-_, _*_}
 use lib.Dec.{eqb, ltb}
 use lib.ListN.{length}
-use Rattle.trits.specs.Trit.{upTo}
-use Rattle.trits.specs.Planes.{tritAt, wordsFor, onesOf, twosOf}
-use Rattle.trits.specs.Refusal.{refuse, demand, first, atExit, spaceExit, planesRefusal}
+use Rattle.trits.specs.Planes.{Pair, pairOf, rowPair, tritAt, wordsFor}
+use Rattle.trits.specs.Refusal.{refuse, demand, first, pairAtExit, spacePairExit, planesRefusal}
 use Rattle.matrix.specs.Linear.{Vector}
 use Rattle.matrix.specs.Orders.{isOrder}
 use Rattle.scheme.specs.declared.sizes.Sizes.{Sizes}
@@ -21,47 +20,35 @@ use Rattle.scheme.specs.Secret.{hasZero}
 pub record DrawCall : Type 0 where
   pub secret : Planes
   pub p : List ℕ
-  pub yOnes : List ℕ
-  pub yTwos : List ℕ
+  pub y : Pair
   pub orderV : List ℕ
-  pub vOnes : List ℕ
-  pub vTwos : List ℕ
+  pub v : Pair
   pub orderU : List ℕ
-  pub uOnes : List ℕ
-  pub uTwos : List ℕ
-  pub wordOnes : List ℕ
-  pub wordTwos : List ℕ
-  pub sOnes : List ℕ
-  pub sTwos : List ℕ
-  pub workOnes : List ℕ
-  pub workTwos : List ℕ
+  pub u : Pair
+  pub word : Pair
+  pub s : Pair
+  pub work : Pair
 
 abbrev pub drawCall : Planes → List ℕ → List ℕ → List ℕ → List ℕ → List ℕ → List ℕ → List ℕ → List ℕ → List ℕ → List ℕ → List ℕ → List ℕ → List ℕ → List ℕ → List ℕ → DrawCall
 drawCall s p yo yt ov vo vt ou uo ut eo et so st wo wt = record {
   secret = s;
   p = p;
-  yOnes = yo;
-  yTwos = yt;
+  y = pairOf yo yt;
   orderV = ov;
-  vOnes = vo;
-  vTwos = vt;
+  v = pairOf vo vt;
   orderU = ou;
-  uOnes = uo;
-  uTwos = ut;
-  wordOnes = eo;
-  wordTwos = et;
-  sOnes = so;
-  sTwos = st;
-  workOnes = wo;
-  workTwos = wt;
+  u = pairOf uo ut;
+  word = pairOf eo et;
+  s = pairOf so st;
+  work = pairOf wo wt;
 }
 
 -- the syndrome and the choices that it holds
 abbrev pub syndromeOf : DrawCall → Vector
-syndromeOf i = tritAt (i .yOnes) (i .yTwos)
+syndromeOf i = tritAt (i .y .ones) (i .y .twos)
 
 abbrev pub choicesOf : DrawCall → Choices
-choicesOf i = record { orderV = i .orderV; tritsV = tritAt (i .vOnes) (i .vTwos); orderU = i .orderU; valuesU = tritAt (i .uOnes) (i .uTwos) }
+choicesOf i = record { orderV = i .orderV; tritsV = tritAt (i .v .ones) (i .v .twos); orderU = i .orderU; valuesU = tritAt (i .u .ones) (i .u .twos) }
 
 -- ---- 2: a length differs from what the sizes say
 
@@ -89,9 +76,9 @@ choicesDiffer z p y1 y2 ov v1 v2 ou u1 u2 e1 e2 s1 s2 w1 w2 =
 unfoldable pub drawLengthsDiffer : Sizes → DrawCall → Bool
 drawLengthsDiffer z i =
     let k = i .secret in
-    secretDiffers z (length (k .huOnes)) (length (k .huTwos)) (length (k .hvOnes)) (length (k .hvTwos)) (length (k .bOnes)) (length (k .bTwos)) (length (k .cOnes)) (length (k .cTwos))
-    || choicesDiffer z (length (i .p)) (length (i .yOnes)) (length (i .yTwos)) (length (i .orderV)) (length (i .vOnes)) (length (i .vTwos)) (length (i .orderU)) (length (i .uOnes)) (length (i .uTwos))
-    (length (i .wordOnes)) (length (i .wordTwos)) (length (i .sOnes)) (length (i .sTwos)) (length (i .workOnes)) (length (i .workTwos))
+    secretDiffers z (length (k .hu .ones)) (length (k .hu .twos)) (length (k .hv .ones)) (length (k .hv .twos)) (length (k .b .ones)) (length (k .b .twos)) (length (k .c .ones)) (length (k .c .twos))
+    || choicesDiffer z (length (i .p)) (length (i .y .ones)) (length (i .y .twos)) (length (i .orderV)) (length (i .v .ones)) (length (i .v .twos)) (length (i .orderU)) (length (i .u .ones)) (length (i .u .twos))
+    (length (i .word .ones)) (length (i .word .twos)) (length (i .s .ones)) (length (i .s .twos)) (length (i .work .ones)) (length (i .work .twos))
 
 -- ---- 3, 4, 7 and 8: the contents, buffer after buffer
 
@@ -99,12 +86,12 @@ drawLengthsDiffer z i =
 unfoldable pub choicesRefusal : Sizes → DrawCall → ℕ
 choicesRefusal z i =
     demand (isOrder (places z) (i .p)) 7
-    (first (planesRefusal (i .yOnes) (i .yTwos) 1 (codim z))
+    (first (planesRefusal (i .y .ones) (i .y .twos) 1 (codim z))
     (demand (isOrder (half z) (i .orderV)) 7
-    (first (planesRefusal (i .vOnes) (i .vTwos) 1 (z .kv))
+    (first (planesRefusal (i .v .ones) (i .v .twos) 1 (z .kv))
     (demand (isOrder (half z) (i .orderU)) 7
-    (first (planesRefusal (i .uOnes) (i .uTwos) 1 (z .ku))
-    (refuse (hasZero (z .ku - gapU z) (λ j. tritAt (i .uOnes) (i .uTwos) (gapU z + j))) 8
+    (first (planesRefusal (i .u .ones) (i .u .twos) 1 (z .ku))
+    (refuse (hasZero (z .ku - gapU z) (λ j. tritAt (i .u .ones) (i .u .twos) (gapU z + j))) 8
     0))))))
 
 -- ---- the answer: 1, every length, the contents, then 12, 13 and 14
@@ -123,22 +110,13 @@ unfoldable pub wordOf : Sizes → DrawCall → Vector
 wordOf z i = drawn z (secretOf z (i .secret)) (i .p) (syndromeOf i) (choicesOf i)
 
 -- its n trits, in public places
-unfoldable pub wordOnesExit : Sizes → DrawCall → List ℕ
-wordOnesExit z i = atExit (drawAnswer z i) (onesOf (upTo (places z) (wordOf z i)) (wordsFor (places z))) (i .wordOnes)
-
-unfoldable pub wordTwosExit : Sizes → DrawCall → List ℕ
-wordTwosExit z i = atExit (drawAnswer z i) (twosOf (upTo (places z) (wordOf z i)) (wordsFor (places z))) (i .wordTwos)
+unfoldable pub wordExit : Sizes → DrawCall → Pair
+wordExit z i = pairAtExit (drawAnswer z i) (rowPair (places z) (wordOf z i)) (i .word)
 
 -- its last k trits
-unfoldable pub sOnesExit : Sizes → DrawCall → List ℕ
-sOnesExit z i = atExit (drawAnswer z i) (onesOf (upTo (dim z) (signature z (wordOf z i))) (wordsFor (dim z))) (i .sOnes)
-
-unfoldable pub sTwosExit : Sizes → DrawCall → List ℕ
-sTwosExit z i = atExit (drawAnswer z i) (twosOf (upTo (dim z) (signature z (wordOf z i))) (wordsFor (dim z))) (i .sTwos)
+unfoldable pub sExit : Sizes → DrawCall → Pair
+sExit z i = pairAtExit (drawAnswer z i) (rowPair (dim z) (signature z (wordOf z i))) (i .s)
 
 -- the working space
-unfoldable pub drawWorkOnesExit : Sizes → DrawCall → List ℕ
-drawWorkOnesExit z i = spaceExit (drawAnswer z i) (i .workOnes)
-
-unfoldable pub drawWorkTwosExit : Sizes → DrawCall → List ℕ
-drawWorkTwosExit z i = spaceExit (drawAnswer z i) (i .workTwos)
+unfoldable pub drawWorkExit : Sizes → DrawCall → Pair
+drawWorkExit z i = spacePairExit (drawAnswer z i) (i .work)

@@ -6,7 +6,7 @@ use Prim.Native.Nat.{ℕ, _*_, _<_}
 use lib.Dec.{eqb, ltb}
 use lib.ListN.{length, getD, set}
 use Rattle.trits.specs.Trit.{anyTo}
-use Rattle.trits.specs.Planes.{Row, tritAt, wordsFor}
+use Rattle.trits.specs.Planes.{Pair, pairOf, Row, tritAt, wordsFor}
 use Rattle.trits.specs.Rows.{matrixAt}
 use Rattle.trits.specs.Refusal.{refuse, first, planesRefusal}
 use Rattle.matrix.specs.Linear.{elem}
@@ -19,17 +19,13 @@ use Rattle.scheme.specs.Secret.{Secret, hasZero}
 
 -- the planes of H_U, H_V, b and c
 pub record Planes : Type 0 where
-  pub huOnes : List ℕ
-  pub huTwos : List ℕ
-  pub hvOnes : List ℕ
-  pub hvTwos : List ℕ
-  pub bOnes : List ℕ
-  pub bTwos : List ℕ
-  pub cOnes : List ℕ
-  pub cTwos : List ℕ
+  pub hu : Pair
+  pub hv : Pair
+  pub b : Pair
+  pub c : Pair
 
 abbrev pub planes : List ℕ → List ℕ → List ℕ → List ℕ → List ℕ → List ℕ → List ℕ → List ℕ → Planes
-planes uo ut vo vt bo bt co ct = record { huOnes = uo; huTwos = ut; hvOnes = vo; hvTwos = vt; bOnes = bo; bTwos = bt; cOnes = co; cTwos = ct }
+planes uo ut vo vt bo bt co ct = record { hu = pairOf uo ut; hv = pairOf vo vt; b = pairOf bo bt; c = pairOf co ct }
 
 -- the words of a row of H_U, H_V, b or c
 abbrev pub halfWords : Sizes → ℕ
@@ -38,10 +34,10 @@ halfWords z = wordsFor (half z)
 -- the secret that they hold
 abbrev pub secretOf : Sizes → Planes → Secret
 secretOf z i = record {
-  hu = matrixAt (halfWords z) (i .huOnes) (i .huTwos);
-  hv = matrixAt (halfWords z) (i .hvOnes) (i .hvTwos);
-  b = tritAt (i .bOnes) (i .bTwos);
-  c = tritAt (i .cOnes) (i .cTwos);
+  hu = matrixAt (halfWords z) (i .hu .ones) (i .hu .twos);
+  hv = matrixAt (halfWords z) (i .hv .ones) (i .hv .twos);
+  b = tritAt (i .b .ones) (i .b .twos);
+  c = tritAt (i .c .ones) (i .c .twos);
 }
 
 -- ---- 2: a length differs from what the sizes say
@@ -63,21 +59,21 @@ secretDiffers z hu1 hu2 hv1 hv2 b1 b2 c1 c2 =
 -- H_U, H_V, b, c: 3 before 4 in each, and 8 for c
 unfoldable pub secretRefusal : Sizes → Planes → ℕ
 secretRefusal z i =
-    first (planesRefusal (i .huOnes) (i .huTwos) (ru z) (half z))
-    (first (planesRefusal (i .hvOnes) (i .hvTwos) (rv z) (half z))
-    (first (planesRefusal (i .bOnes) (i .bTwos) 1 (half z))
-    (first (planesRefusal (i .cOnes) (i .cTwos) 1 (half z))
-    (refuse (hasZero (half z) (tritAt (i .cOnes) (i .cTwos))) 8
+    first (planesRefusal (i .hu .ones) (i .hu .twos) (ru z) (half z))
+    (first (planesRefusal (i .hv .ones) (i .hv .twos) (rv z) (half z))
+    (first (planesRefusal (i .b .ones) (i .b .twos) 1 (half z))
+    (first (planesRefusal (i .c .ones) (i .c .twos) 1 (half z))
+    (refuse (hasZero (half z) (tritAt (i .c .ones) (i .c .twos))) 8
     0))))
 
 -- what a secret whose lengths and contents are right has: rows that can be read, of the right sizes
 pub record Readable (z : Sizes) (i : Planes) : Type 0 where
-  pub hu : Rows (i .huOnes) (i .huTwos) (ru z) (halfWords z)
-  pub hv : Rows (i .hvOnes) (i .hvTwos) (rv z) (halfWords z)
-  pub b : Row (i .bOnes) (i .bTwos)
-  pub c : Row (i .cOnes) (i .cTwos)
-  pub bSize : length (i .bOnes) ≡ halfWords z
-  pub cSize : length (i .cOnes) ≡ halfWords z
+  pub hu : Rows (i .hu .ones) (i .hu .twos) (ru z) (halfWords z)
+  pub hv : Rows (i .hv .ones) (i .hv .twos) (rv z) (halfWords z)
+  pub b : Row (i .b .ones) (i .b .twos)
+  pub c : Row (i .c .ones) (i .c .twos)
+  pub bSize : length (i .b .ones) ≡ halfWords z
+  pub cSize : length (i .c .ones) ≡ halfWords z
 
 -- ---- 7: the test of an order, by a flag for each place
 

@@ -1,8 +1,9 @@
 // One draw: the call.
 ghost use mathlib.Core.Path.{_≡_};
+ghost use Rattle.trits.specs.Planes.{pairOf};
 ghost use Rattle.trits.specs.Refusal.{codeOf};
 ghost use Rattle.calls.specs.Lent.{planes};
-ghost use Rattle.calls.specs.DrawCall.{drawCall, drawAnswer, wordOnesExit, wordTwosExit, sOnesExit, sTwosExit, drawWorkOnesExit, drawWorkTwosExit};
+ghost use Rattle.calls.specs.DrawCall.{drawCall, drawAnswer, wordExit, sExit, drawWorkExit};
 use draw_tests::tests;
 use scheme::sizes::Sizes;
 use trits::refusal::Outcome;
@@ -40,8 +41,8 @@ pub fn draw(
         (now (p .entry)) (now («y_ones» .entry)) (now («y_twos» .entry)) (now («v_order» .entry)) (now («v_ones» .entry)) (now («v_twos» .entry))
         (now («u_order» .entry)) (now («u_ones» .entry)) (now («u_twos» .entry))
         (now («word_ones» .entry)) (now («word_twos» .entry)) (now («s_ones» .entry)) (now («s_twos» .entry)) (now («work_ones» .entry)) (now («work_twos» .entry))) in
-        (codeOf r ≡ drawAnswer z i) × (now («word_ones» .exit) ≡ wordOnesExit z i) × (now («word_twos» .exit) ≡ wordTwosExit z i) × (now («s_ones» .exit) ≡ sOnesExit z i) × (now («s_twos» .exit) ≡ sTwosExit z i)
-        × (now («work_ones» .exit) ≡ drawWorkOnesExit z i) × (now («work_twos» .exit) ≡ drawWorkTwosExit z i)) ⌝ }
+        (codeOf r ≡ drawAnswer z i) × (pairOf (now («word_ones» .exit)) (now («word_twos» .exit)) ≡ wordExit z i) × (pairOf (now («s_ones» .exit)) (now («s_twos» .exit)) ≡ sExit z i)
+        × (pairOf (now («work_ones» .exit)) (now («work_twos» .exit)) ≡ drawWorkExit z i)) ⌝ }
 {
     if !scheme::sizes::sizes_fit(z) {
         return Outcome::Refused(Refusal::Size);

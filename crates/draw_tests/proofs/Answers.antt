@@ -67,7 +67,7 @@ module _ (z : Sizes) (i : DrawCall) where
           by S p C q = rw (p, q)
 
 -- the choices are tested alone
-pub same-choices : (z : Sizes) (i : DrawCall) → choicesRefusal z (chosen (i .p) (i .yOnes) (i .yTwos) (i .orderV) (i .vOnes) (i .vTwos) (i .orderU) (i .uOnes) (i .uTwos)) ≡ choicesRefusal z i
+pub same-choices : (z : Sizes) (i : DrawCall) → choicesRefusal z (chosen (i .p) (i .y .ones) (i .y .twos) (i .orderV) (i .v .ones) (i .v .twos) (i .orderU) (i .u .ones) (i .u .twos)) ≡ choicesRefusal z i
 unfolding choicesRefusal
 same-choices z i = refl
 
@@ -83,10 +83,10 @@ pub contents-le : (z : Sizes) (i : DrawCall) → contents z i ≤ 8
 unfolding choicesRefusal
 contents-le z i =
     first-le (secretRefusal z (i .secret)) (choicesRefusal z i) (secret-le z (i .secret))
-    (demand-le (isOrder (places z) (i .p)) _ (first-le _ _ (planes-le (i .yOnes) (i .yTwos) 1 (codim z))
-    (demand-le (isOrder (half z) (i .orderV)) _ (first-le _ _ (planes-le (i .vOnes) (i .vTwos) 1 (z .kv))
-    (demand-le (isOrder (half z) (i .orderU)) _ (first-le _ _ (planes-le (i .uOnes) (i .uTwos) 1 (z .ku))
-    (refuse-le (hasZero (z .ku - gapU z) (λ j. tritAt (i .uOnes) (i .uTwos) (gapU z + j))))))))))
+    (demand-le (isOrder (places z) (i .p)) _ (first-le _ _ (planes-le (i .y .ones) (i .y .twos) 1 (codim z))
+    (demand-le (isOrder (half z) (i .orderV)) _ (first-le _ _ (planes-le (i .v .ones) (i .v .twos) 1 (z .kv))
+    (demand-le (isOrder (half z) (i .orderU)) _ (first-le _ _ (planes-le (i .u .ones) (i .u .twos) 1 (z .ku))
+    (refuse-le (hasZero (z .ku - gapU z) (λ j. tritAt (i .u .ones) (i .u .twos) (gapU z + j))))))))))
 
 -- ---- the working space
 
@@ -162,44 +162,44 @@ none m v e = ap not e
 module _ (z : Sizes) (i : DrawCall) where
   -- the lengths one after another
   abbrev secretAll : Bool
-  secretAll = secretDiffers z (length (i .secret .huOnes)) (length (i .secret .huTwos)) (length (i .secret .hvOnes)) (length (i .secret .hvTwos)) (length (i .secret .bOnes)) (length (i .secret .bTwos))
-      (length (i .secret .cOnes)) (length (i .secret .cTwos))
+  secretAll = secretDiffers z (length (i .secret .hu .ones)) (length (i .secret .hu .twos)) (length (i .secret .hv .ones)) (length (i .secret .hv .twos)) (length (i .secret .b .ones)) (length (i .secret .b .twos))
+      (length (i .secret .c .ones)) (length (i .secret .c .twos))
 
   abbrev choicesAll : Bool
-  choicesAll = choicesDiffer z (length (i .p)) (length (i .yOnes)) (length (i .yTwos)) (length (i .orderV)) (length (i .vOnes)) (length (i .vTwos)) (length (i .orderU)) (length (i .uOnes)) (length (i .uTwos))
-      (length (i .wordOnes)) (length (i .wordTwos)) (length (i .sOnes)) (length (i .sTwos)) (length (i .workOnes)) (length (i .workTwos))
+  choicesAll = choicesDiffer z (length (i .p)) (length (i .y .ones)) (length (i .y .twos)) (length (i .orderV)) (length (i .v .ones)) (length (i .v .twos)) (length (i .orderU)) (length (i .u .ones)) (length (i .u .twos))
+      (length (i .word .ones)) (length (i .word .twos)) (length (i .s .ones)) (length (i .s .twos)) (length (i .work .ones)) (length (i .work .twos))
 
   pub same-lengths : {t : Bool} → (secretAll || choicesAll) ≡ t → drawLengthsDiffer z i ≡ t
   unfolding drawLengthsDiffer
   same-lengths e = e
 
   module _ (e : drawLengthsDiffer z i ≡ false) where
-    pub lengths-secret : SecretLengths z (length (i .secret .huOnes)) (length (i .secret .huTwos)) (length (i .secret .hvOnes)) (length (i .secret .hvTwos)) (length (i .secret .bOnes)) (length (i .secret .bTwos))
-        (length (i .secret .cOnes)) (length (i .secret .cTwos))
+    pub lengths-secret : SecretLengths z (length (i .secret .hu .ones)) (length (i .secret .hu .twos)) (length (i .secret .hv .ones)) (length (i .secret .hv .twos)) (length (i .secret .b .ones)) (length (i .secret .b .twos))
+        (length (i .secret .c .ones)) (length (i .secret .c .twos))
     unfolding drawLengthsDiffer
     lengths-secret = secret-same z _ _ _ _ _ _ _ _ (or-none secretAll choicesAll e .0)
 
-    pub lengths-choices : ChoicesLengths z (length (i .p)) (length (i .yOnes)) (length (i .yTwos)) (length (i .orderV)) (length (i .vOnes)) (length (i .vTwos)) (length (i .orderU)) (length (i .uOnes))
-        (length (i .uTwos)) (length (i .wordOnes)) (length (i .wordTwos)) (length (i .sOnes)) (length (i .sTwos)) (length (i .workOnes)) (length (i .workTwos))
+    pub lengths-choices : ChoicesLengths z (length (i .p)) (length (i .y .ones)) (length (i .y .twos)) (length (i .orderV)) (length (i .v .ones)) (length (i .v .twos)) (length (i .orderU)) (length (i .u .ones))
+        (length (i .u .twos)) (length (i .word .ones)) (length (i .word .twos)) (length (i .s .ones)) (length (i .s .twos)) (length (i .work .ones)) (length (i .work .twos))
     unfolding drawLengthsDiffer
     lengths-choices = choices-same z _ _ _ _ _ _ _ _ _ _ _ _ _ _ _ (or-none secretAll choicesAll e .1)
 
     -- ---- contents that are not refused
 
     pub ready : contents z i ≡ 0 → Readable z (i .secret)
-        → ((j : ℕ) → Fits w64 (getD (i .yOnes) j 0)) → ((j : ℕ) → Fits w64 (getD (i .yTwos) j 0)) → ((j : ℕ) → Fits w64 (getD (i .vOnes) j 0)) → ((j : ℕ) → Fits w64 (getD (i .vTwos) j 0))
-        → ((j : ℕ) → Fits w64 (getD (i .uOnes) j 0)) → ((j : ℕ) → Fits w64 (getD (i .uTwos) j 0))
-        → Ready z (given (i .secret) (i .p) (i .yOnes) (i .yTwos) (i .orderV) (i .vOnes) (i .vTwos) (i .orderU) (i .uOnes) (i .uTwos))
+        → ((j : ℕ) → Fits w64 (getD (i .y .ones) j 0)) → ((j : ℕ) → Fits w64 (getD (i .y .twos) j 0)) → ((j : ℕ) → Fits w64 (getD (i .v .ones) j 0)) → ((j : ℕ) → Fits w64 (getD (i .v .twos) j 0))
+        → ((j : ℕ) → Fits w64 (getD (i .u .ones) j 0)) → ((j : ℕ) → Fits w64 (getD (i .u .twos) j 0))
+        → Ready z (given (i .secret) (i .p) (i .y .ones) (i .y .twos) (i .orderV) (i .v .ones) (i .v .twos) (i .orderU) (i .u .ones) (i .u .twos))
     unfolding choicesRefusal
     ready g k f1 f2 f3 f4 f5 f6 =
         let l = lengths-choices in
         let S = passed-first (secretRefusal z (i .secret)) (choicesRefusal z i) g in
         let A = passed-demand (isOrder (places z) (i .p)) 7 _ (lit< tt) (S .1) in
-        let B = passed-first (planesRefusal (i .yOnes) (i .yTwos) 1 (codim z)) _ (A .1) in
+        let B = passed-first (planesRefusal (i .y .ones) (i .y .twos) 1 (codim z)) _ (A .1) in
         let C = passed-demand (isOrder (half z) (i .orderV)) 7 _ (lit< tt) (B .1) in
-        let D = passed-first (planesRefusal (i .vOnes) (i .vTwos) 1 (z .kv)) _ (C .1) in
+        let D = passed-first (planesRefusal (i .v .ones) (i .v .twos) 1 (z .kv)) _ (C .1) in
         let E = passed-demand (isOrder (half z) (i .orderU)) 7 _ (lit< tt) (D .1) in
-        let F = passed-first (planesRefusal (i .uOnes) (i .uTwos) 1 (z .ku)) _ (E .1) in
+        let F = passed-first (planesRefusal (i .u .ones) (i .u .twos) 1 (z .ku)) _ (E .1) in
         record {
           secret = k;
           p = order-test (places z) (i .p) (A .0);
@@ -211,7 +211,7 @@ module _ (z : Sizes) (i : DrawCall) where
           orderU = order-test (half z) (i .orderU) (E .0);
           u = row-of _ _ 1 (z .ku) (F .0) (l .uOnes) (l .uTwos) f5 f6;
           uSize = l .uOnes;
-          values = none (z .ku - gapU z) (λ j. tritAt (i .uOnes) (i .uTwos) (gapU z + j)) (passed-refuse (hasZero (z .ku - gapU z) (λ j. tritAt (i .uOnes) (i .uTwos) (gapU z + j))) 8 0 (lit< tt) (F .1) .0);
+          values = none (z .ku - gapU z) (λ j. tritAt (i .u .ones) (i .u .twos) (gapU z + j)) (passed-refuse (hasZero (z .ku - gapU z) (λ j. tritAt (i .u .ones) (i .u .twos) (gapU z + j))) 8 0 (lit< tt) (F .1) .0);
         }
 
 -- what the tests of the secret have shown, its words being words

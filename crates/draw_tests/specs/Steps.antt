@@ -29,12 +29,12 @@ ending z i = drawRefusal z (secretOf z (i .secret)) (i .p) (syndromeOf i) (choic
 pub record Ready (z : Sizes) (i : DrawCall) : Type 0 where
   pub secret : Readable z (i .secret)
   pub p : Order (places z) (i .p)
-  pub y : Row (i .yOnes) (i .yTwos)
-  pub ySize : length (i .yOnes) ≡ wordsFor (codim z)
+  pub y : Row (i .y .ones) (i .y .twos)
+  pub ySize : length (i .y .ones) ≡ wordsFor (codim z)
   pub orderV : Order (half z) (i .orderV)
-  pub v : Row (i .vOnes) (i .vTwos)
-  pub vSize : length (i .vOnes) ≡ wordsFor (z .kv)
+  pub v : Row (i .v .ones) (i .v .twos)
+  pub vSize : length (i .v .ones) ≡ wordsFor (z .kv)
   pub orderU : Order (half z) (i .orderU)
-  pub u : Row (i .uOnes) (i .uTwos)
-  pub uSize : length (i .uOnes) ≡ wordsFor (z .ku)
-  pub values : noZero (z .ku - gapU z) (λ j. tritAt (i .uOnes) (i .uTwos) (gapU z + j)) ≡ true
+  pub u : Row (i .u .ones) (i .u .twos)
+  pub uSize : length (i .u .ones) ≡ wordsFor (z .ku)
+  pub values : noZero (z .ku - gapU z) (λ j. tritAt (i .u .ones) (i .u .twos) (gapU z + j)) ≡ true

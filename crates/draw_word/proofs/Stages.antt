@@ -173,7 +173,7 @@ module _ (z : Sizes) (i : DrawCall) where
     ending-weight f = sym (ranks-go z S (choicesOf i) e (demand (eqb (weightV (drawn z S (i .p) (syndromeOf i) (choicesOf i)) (places z)) (z .w)) 14 0) ∙ ap (λ (t : Bool). demand t 14 0) f)
 
     abbrev P : Secret
-    P = pairsOf (i .secret .bOnes) (i .secret .bTwos) (i .secret .cOnes) (i .secret .cTwos)
+    P = pairsOf (i .secret .b .ones) (i .secret .b .twos) (i .secret .c .ones) (i .secret .c .twos)
 
     module _ (l : ℕ) {A B C : Matrix} (r : Ready z i) (a : Parted z l P (startWord z (i .p) (syndromeOf i)) A) {n : ℕ} (n0 : n ≡ 0) (h : SolvedWhere n z l S (choicesOf i) (A l) (A (l + 1)) B) (j : Joined l P B C) where
       row-eV : B (l + 3) ≡ eVOf z i

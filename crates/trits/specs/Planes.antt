@@ -6,7 +6,7 @@ use Prim.Native.Nat.{ℕ, zero, suc, _+_, _-_, _*_, _/_, _%_, _^_}
 use lib.ListN.{length, getD}
 use lib.Bits.{bitAnd}
 use lib.Dec.{eqb}
-use Rattle.trits.specs.Trit.{Trit, t0, t1, t2, anyTo}
+use Rattle.trits.specs.Trit.{Trit, t0, t1, t2, upTo, anyTo}
 
 -- ---- bits
 
@@ -78,6 +78,20 @@ wordsFor m = (m + 63) / 64
 -- n words of 0
 unfoldable pub zeroWords : ℕ → List ℕ
 zeroWords n = tabulate (λ j. 0) n
+
+-- ---- a pair of planes
+
+-- the ones plane and the twos plane that a host lends together
+pub record Pair : Type 0 where
+  pub ones : List ℕ
+  pub twos : List ℕ
+
+abbrev pub pairOf : List ℕ → List ℕ → Pair
+pairOf ones twos = record { ones = ones; twos = twos }
+
+-- the planes of the first m trits of v
+abbrev pub rowPair : ℕ → (ℕ → Trit) → Pair
+rowPair m v = pairOf (onesOf (upTo m v) (wordsFor m)) (twosOf (upTo m v) (wordsFor m))
 
 -- ---- what is said of two planes
 

@@ -4,7 +4,7 @@ use mathlib.Core.List.{List}
 use Prim.Native.Nat.{ℕ}
 use lib.Dec.{eqb, leb}
 use lib.ListN.{length}
-use Rattle.trits.specs.Planes.{bothSet, zeroWords}
+use Rattle.trits.specs.Planes.{Pair, pairOf, bothSet, zeroWords}
 use Rattle.trits.specs.Rows.{rowsPastEnd}
 use Rattle.trits.specs.declared.refusal.Refusal.{Refusal}
 use Rattle.trits.specs.declared.refusal.Refusal.the-variants.{Size, Length, BothPlanes, PastEnd, PackedByte, StreamEnd, NoPermutation, ZeroTrit, RankU, RankV, Line, FirstPartV, FirstPartU, Weight, NoKey, WholeKey, OtherKey}
@@ -54,12 +54,20 @@ first a b = cond (eqb a 0) b a
 abbrev pub atExit : {A : Type 0} → ℕ → A → A → A
 atExit refusal new old = cond (eqb refusal 0) new old
 
+-- and what a lent pair of planes is
+abbrev pub pairAtExit : ℕ → Pair → Pair → Pair
+pairAtExit refusal new old = pairOf (atExit refusal (new .ones) (old .ones)) (atExit refusal (new .twos) (old .twos))
+
 -- "working space is untouched after 1 to 8, 11 and 20 to 22, and all zero after every other end, success included": a plane of it at exit
 abbrev pub spaceStays : ℕ → Bool
 spaceStays answer = (leb 1 answer && leb answer 8) || (eqb answer 11 || (leb 20 answer && leb answer 22))
 
 unfoldable pub spaceExit : ℕ → List ℕ → List ℕ
 spaceExit answer plane = cond (spaceStays answer) plane (zeroWords (length plane))
+
+-- and both of its planes
+abbrev pub spacePairExit : ℕ → Pair → Pair
+spacePairExit answer space = pairOf (spaceExit answer (space .ones)) (spaceExit answer (space .twos))
 
 -- ---- the contents of one pair of planes, of `rows` rows of m trits: 3 over the whole buffer before 4
 unfoldable pub planesRefusal : List ℕ → List ℕ → ℕ → ℕ → ℕ

@@ -27,8 +27,8 @@ use Rattle.scheme.specs.Secret.{noZero, secretMatrix, hasZero}
 use Rattle.scheme.specs.Build.{arrange, arranged, rowOfR, buildRefusal}
 use Rattle.scheme.specs.Draw.{choicesFit, placed, pivotsV, suppliedV, drawV, pivotsU, suppliedU, drawU, drawn, drawRefusal, signature}
 use Rattle.calls.specs.Lent.{secretDiffers, secretRefusal}
-use Rattle.calls.specs.BuildCall.{keyDiffers, buildLengthsDiffer, buildAnswer, orderExit, keyOnesOf, keyTwosOf, keyOnesExit, keyTwosExit, buildWorkOnesExit}
-use Rattle.calls.specs.DrawCall.{choicesDiffer, drawLengthsDiffer, choicesRefusal, drawAnswer, wordOf, wordOnesExit, wordTwosExit, sOnesExit, sTwosExit, drawWorkOnesExit}
+use Rattle.calls.specs.BuildCall.{keyDiffers, buildLengthsDiffer, buildAnswer, orderExit, keyOnesOf, keyTwosOf, keyExit, buildWorkExit}
+use Rattle.calls.specs.DrawCall.{choicesDiffer, drawLengthsDiffer, choicesRefusal, drawAnswer, wordOf, wordExit, sExit, drawWorkExit}
 use Rattle.wave.specs.Terms.{Terms, builtKey, LentSyndrome, Under, HandsOut}
 use Rattle.wave.specs.Examples.{sizes4, secret4, start1, key1, start2, p2, key2, y4, build4, draw4}
 use Rattle.wave.specs.Beside.{Beside, secretR, keyR}
@@ -146,7 +146,7 @@ unfolding anyTo bit bitAt bothSet pastEnd rowPart rowsPastEnd planesRefusal
 refused-both t = let three : _≡_ {A = ℕ} 3 0 = t .contents in absurd (omega arith)
 
 not-2221 : HandsOut (sizes4 0 4) (draw4 start1 0 1 1 0) (vector (2 ∷ 2 ∷ 2 ∷ 1 ∷ [])) → ⊥
-unfolding dotV anyTo sumTo upTo bit fromBits bitAt tritAt tabulate onesOf twosOf bothSet pastEnd rowPart matrixAt rowsPastEnd first planesRefusal agree find solve inSpan keep pivots rank without fill range isOrder sizesFit pivotsV suppliedV drawV pivotsU suppliedU drawU drawn drawRefusal secretDiffers hasZero secretRefusal choicesDiffer drawLengthsDiffer choicesRefusal drawAnswer wordOf wordOnesExit wordTwosExit
+unfolding dotV anyTo sumTo upTo bit fromBits bitAt tritAt tabulate onesOf twosOf bothSet pastEnd rowPart matrixAt rowsPastEnd first planesRefusal agree find solve inSpan keep pivots rank without fill range isOrder sizesFit pivotsV suppliedV drawV pivotsU suppliedU drawU drawn drawRefusal secretDiffers hasZero secretRefusal choicesDiffer drawLengthsDiffer choicesRefusal drawAnswer wordOf wordExit
 not-2221 h = let other : _≡_ {A = ℕ} 1 2 = ap number (h .word 1 (omega arith)) in absurd (omega arith)
 
 none-0212 : (e : Vector) → HandsOut (sizes4 0 4) (draw4 start1 1 0 1 0) e → ⊥
@@ -154,10 +154,10 @@ unfolding dotV anyTo sumTo upTo bit fromBits bitAt tritAt tabulate bothSet pastE
 none-0212 e h = let fourteen : _≡_ {A = ℕ} 14 0 = h .passed in absurd (omega arith)
 
 hands-2111 : HandsOut (sizes4 0 4) (draw4 start1 0 1 1 0) (vector (2 ∷ 1 ∷ 1 ∷ 1 ∷ []))
-unfolding dotV anyTo sumTo upTo bit fromBits bitAt tritAt tabulate onesOf twosOf bothSet pastEnd rowPart matrixAt rowsPastEnd first planesRefusal agree find solve inSpan keep pivots rank without fill range isOrder sizesFit pivotsV suppliedV drawV pivotsU suppliedU drawU drawn drawRefusal secretDiffers hasZero secretRefusal choicesDiffer drawLengthsDiffer choicesRefusal drawAnswer wordOf wordOnesExit wordTwosExit
+unfolding dotV anyTo sumTo upTo bit fromBits bitAt tritAt tabulate onesOf twosOf bothSet pastEnd rowPart matrixAt rowsPastEnd first planesRefusal agree find solve inSpan keep pivots rank without fill range isOrder sizesFit pivotsV suppliedV drawV pivotsU suppliedU drawU drawn drawRefusal secretDiffers hasZero secretRefusal choicesDiffer drawLengthsDiffer choicesRefusal drawAnswer wordOf wordExit
 hands-2111 = record { passed = refl; word = λ q h. by q (places-below q h) }
   where
-    by : (q : ℕ) → (q ≡ 0) ⊎ (q ≡ 1) ⊎ (q ≡ 2) ⊎ (q ≡ 3) → tritAt (wordOnesExit (sizes4 0 4) (draw4 start1 0 1 1 0)) (wordTwosExit (sizes4 0 4) (draw4 start1 0 1 1 0)) q ≡ vector (2 ∷ 1 ∷ 1 ∷ 1 ∷ []) q
+    by : (q : ℕ) → (q ≡ 0) ⊎ (q ≡ 1) ⊎ (q ≡ 2) ⊎ (q ≡ 3) → tritAt (wordExit (sizes4 0 4) (draw4 start1 0 1 1 0) .ones) (wordExit (sizes4 0 4) (draw4 start1 0 1 1 0) .twos) q ≡ vector (2 ∷ 1 ∷ 1 ∷ 1 ∷ []) q
     by q (inl z) = rw z refl
     by q (inr (inl z)) = rw z refl
     by q (inr (inr (inl z))) = rw z refl
@@ -173,7 +173,7 @@ hands-2111 = record { passed = refl; word = λ q h. by q (places-below q h) }
 -- ---- all of them
 
 pub beside : Beside
-unfolding dotV anyTo sumTo upTo bit fromBits bitAt tritAt tabulate onesOf twosOf zeroWords bothSet pastEnd rowsOf rowPart matrixAt putWords rowsPastEnd first planesRefusal byteOf digitOf packedAt packedRow packedBytes badByte packedRefusal packRefusal packExit agree find solve inSpan keep pivots rank without fill range isOrder digitRows timesKey fullWord fullWeight numbersFit sound heldRow heldKey beginRefusal begunHeld beginHeld rowRefusal storePackedRefusal nextHeld storedHeld storedPlane offer offerAll callRefusal packedLengths packedContents checkPackedRefusal heldWeight answered checkPackedAnswer sizesFit noZero secretMatrix arrange arranged rowOfR buildRefusal choicesFit pivotsV suppliedV drawV pivotsU suppliedU drawU drawn drawRefusal secretDiffers hasZero secretRefusal spaceExit keyDiffers buildLengthsDiffer buildAnswer orderExit keyOnesOf keyTwosOf keyOnesExit keyTwosExit buildWorkOnesExit choicesDiffer drawLengthsDiffer choicesRefusal drawAnswer wordOf wordOnesExit wordTwosExit sOnesExit sTwosExit drawWorkOnesExit builtKey
+unfolding dotV anyTo sumTo upTo bit fromBits bitAt tritAt tabulate onesOf twosOf zeroWords bothSet pastEnd rowsOf rowPart matrixAt putWords rowsPastEnd first planesRefusal byteOf digitOf packedAt packedRow packedBytes badByte packedRefusal packRefusal packExit agree find solve inSpan keep pivots rank without fill range isOrder digitRows timesKey fullWord fullWeight numbersFit sound heldRow heldKey beginRefusal begunHeld beginHeld rowRefusal storePackedRefusal nextHeld storedHeld storedPlane offer offerAll callRefusal packedLengths packedContents checkPackedRefusal heldWeight answered checkPackedAnswer sizesFit noZero secretMatrix arrange arranged rowOfR buildRefusal choicesFit pivotsV suppliedV drawV pivotsU suppliedU drawU drawn drawRefusal secretDiffers hasZero secretRefusal spaceExit keyDiffers buildLengthsDiffer buildAnswer orderExit keyOnesOf keyTwosOf keyExit buildWorkExit choicesDiffer drawLengthsDiffer choicesRefusal drawAnswer wordOf wordExit sExit drawWorkExit builtKey
 beside = record {
   word-1200 = refl;
   released-1200 = refl;

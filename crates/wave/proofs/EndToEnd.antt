@@ -41,8 +41,8 @@ use Rattle.scheme.specs.Build.{keyRow}
 use Rattle.scheme.specs.Draw.{signature}
 use Rattle.scheme.proofs.Ranges.{sizes-fit, codim-dim}
 use Rattle.calls.specs.Lent.{secretOf, pairDiffers}
-use Rattle.calls.specs.BuildCall.{BuildCall, keyRowWords, keyOnesExit, keyTwosExit}
-use Rattle.calls.specs.DrawCall.{DrawCall, choicesDiffer, drawLengthsDiffer, drawAnswer, wordOf, sOnesExit, sTwosExit}
+use Rattle.calls.specs.BuildCall.{BuildCall, keyRowWords, keyExit}
+use Rattle.calls.specs.DrawCall.{DrawCall, choicesDiffer, drawLengthsDiffer, drawAnswer, wordOf, sExit}
 use Rattle.wave.specs.Terms.{Built, builtKey, sized, Under, KeyTerms}
 use Rattle.wave.specs.Verifier.{Host, packedKeyRow, carried, carriedCheck, carriedPlanes, yes}
 use Rattle.wave.proofs.Written.{written-passes}
@@ -93,12 +93,12 @@ both-lengths : (m a b : ℕ) → pairDiffers m a b ≡ false → (a ≡ m) × (b
 both-lengths m a b e =
     (eqb-true a m (not-false (eqb a m) (or-false-left (not (eqb a m)) (not (eqb b m)) e)), eqb-true b m (not-false (eqb b m) (or-false-right (not (eqb a m)) (not (eqb b m)) e)))
 
-y-lengths : (z : Sizes) (l : DrawCall) → drawLengthsDiffer z l ≡ false → (length (l .yOnes) ≡ wordsFor (codim z)) × (length (l .yTwos) ≡ wordsFor (codim z))
+y-lengths : (z : Sizes) (l : DrawCall) → drawLengthsDiffer z l ≡ false → (length (l .y .ones) ≡ wordsFor (codim z)) × (length (l .y .twos) ≡ wordsFor (codim z))
 unfolding drawLengthsDiffer choicesDiffer
 y-lengths z l e =
     let a = or-false-right (differs z (l .secret)) _ e in
     let b = or-false-right (not (eqb (length (l .p)) (places z))) _ a in
-    both-lengths (wordsFor (codim z)) (length (l .yOnes)) (length (l .yTwos)) (or-false-left (pairDiffers (wordsFor (codim z)) (length (l .yOnes)) (length (l .yTwos))) _ b)
+    both-lengths (wordsFor (codim z)) (length (l .y .ones)) (length (l .y .twos)) (or-false-left (pairDiffers (wordsFor (codim z)) (length (l .y .ones)) (length (l .y .twos))) _ b)
 
 module _ (z : Sizes) (i : BuildCall) (b : Built z i) (g w : ℕ) (l : DrawCall) (u : Under z i l) (d : drawAnswer (sized z g w) l ≡ 0) (m : Host z) where
   abbrev Z : Sizes
@@ -125,7 +125,7 @@ module _ (z : Sizes) (i : BuildCall) (b : Built z i) (g w : ℕ) (l : DrawCall) 
   unfolding builtKey
   row-is j h =
       let v : Vector = upTo (codim z) (keyRow z (secretOf z (i .secret)) (i .start) j) in
-      pack-writes (codim z) (rowPart (keyOnesExit z i) (dim z) (keyRowWords z) j) (rowPart (keyTwosExit z i) (dim z) (keyRowWords z) j) (m .rowBytes j) few-codim
+      pack-writes (codim z) (rowPart (keyExit z i .ones) (dim z) (keyRowWords z) j) (rowPart (keyExit z i .twos) (dim z) (keyRowWords z) j) (m .rowBytes j) few-codim
       (ap length (sym (ones-row z i b j h)) ∙ length-ones v (keyRowWords z)) (ap length (sym (twos-row z i b j h)) ∙ length-twos v (keyRowWords z)) (m .row-bytes-size j h)
       (ap₂ (λ (x y : List ℕ). planesRefusal x y 1 (codim z)) (sym (ones-row z i b j h)) (sym (twos-row z i b j h)) ∙ written-passes (codim z) (keyRow z (secretOf z (i .secret)) (i .start) j))
 
@@ -143,34 +143,34 @@ module _ (z : Sizes) (i : BuildCall) (b : Built z i) (g w : ℕ) (l : DrawCall) 
   -- ---- y
 
   abbrev y : Vector
-  y = tritAt (l .yOnes) (l .yTwos)
+  y = tritAt (l .y .ones) (l .y .twos)
 
   abbrev yPacked : List ℕ
-  yPacked = packExit (packOf (codim z) (l .yOnes) (l .yTwos) (m .yBytes))
+  yPacked = packExit (packOf (codim z) (l .y .ones) (l .y .twos) (m .yBytes))
 
   y-is : yPacked ≡ packedBytes (codim z) y
-  y-is = let n = y-lengths Z l (passed .lengths) in pack-writes (codim z) (l .yOnes) (l .yTwos) (m .yBytes) few-codim (n .0) (n .1) (m .y-bytes-size) (passed .syndrome)
+  y-is = let n = y-lengths Z l (passed .lengths) in pack-writes (codim z) (l .y .ones) (l .y .twos) (m .yBytes) few-codim (n .0) (n .1) (m .y-bytes-size) (passed .syndrome)
 
   y-back : packedRow (codim z) yPacked ≡ y
-  y-back = let n = y-lengths Z l (passed .lengths) in ap (packedRow (codim z)) y-is ∙ packed-back (codim z) y ∙ ended (l .yOnes) (l .yTwos) (codim z) (passed .syndrome) (n .0) (n .1)
+  y-back = let n = y-lengths Z l (passed .lengths) in ap (packedRow (codim z)) y-is ∙ packed-back (codim z) y ∙ ended (l .y .ones) (l .y .twos) (codim z) (passed .syndrome) (n .0) (n .1)
 
   -- ---- s
 
   abbrev s : Vector
   s = upTo (dim z) (signature Z (wordOf Z l))
 
-  s-ones : sOnesExit Z l ≡ onesOf s (wordsFor (dim z))
+  s-ones : sExit Z l .ones ≡ onesOf s (wordsFor (dim z))
   s-ones = handed-ones Z l d
 
-  s-twos : sTwosExit Z l ≡ twosOf s (wordsFor (dim z))
+  s-twos : sExit Z l .twos ≡ twosOf s (wordsFor (dim z))
   s-twos = handed-twos Z l d
 
   abbrev sPacked : List ℕ
-  sPacked = packExit (packOf (dim z) (sOnesExit Z l) (sTwosExit Z l) (m .sBytes))
+  sPacked = packExit (packOf (dim z) (sExit Z l .ones) (sExit Z l .twos) (m .sBytes))
 
   s-is : sPacked ≡ packedBytes (dim z) s
   s-is =
-      pack-writes (dim z) (sOnesExit Z l) (sTwosExit Z l) (m .sBytes) few-dim (ap length s-ones ∙ length-ones s (wordsFor (dim z))) (ap length s-twos ∙ length-twos s (wordsFor (dim z))) (m .s-bytes-size)
+      pack-writes (dim z) (sExit Z l .ones) (sExit Z l .twos) (m .sBytes) few-dim (ap length s-ones ∙ length-ones s (wordsFor (dim z))) (ap length s-twos ∙ length-twos s (wordsFor (dim z))) (m .s-bytes-size)
       (ap₂ (λ (x y : List ℕ). planesRefusal x y 1 (dim z)) s-ones s-twos ∙ written-passes (dim z) (signature Z (wordOf Z l)))
       ∙ ap (packedBytes (dim z)) (handed-signature Z l d)
 
@@ -179,7 +179,7 @@ module _ (z : Sizes) (i : BuildCall) (b : Built z i) (g w : ℕ) (l : DrawCall) 
 
   -- ---- the weight
 
-  terms : KeyTerms z i g w (l .yOnes) (l .yTwos) (wordOf Z l)
+  terms : KeyTerms z i g w (l .y .ones) (l .y .twos) (wordOf Z l)
   terms = drawn-terms z i b g w l u d
 
   weight-is : fullWeight (codim z) (dim z) (λ j. packedRow (codim z) (packedKeyRow z i m j)) (packedRow (codim z) yPacked) (packedRow (dim z) sPacked) ≡ w
@@ -230,29 +230,29 @@ module _ (z : Sizes) (i : BuildCall) (b : Built z i) (g w : ℕ) (l : DrawCall) 
       packed-contents (key .held) (key .ones) (key .twos) yPacked sPacked
       (check-packed-passed (carriedCheck z i g w l m) packed-passed .2) .0
 
-  lengths-pass : planesLengths (key .held) (length (l .yOnes)) (length (l .yTwos)) (length (sOnesExit Z l)) (length (sTwosExit Z l)) ≡ 0
+  lengths-pass : planesLengths (key .held) (length (l .y .ones)) (length (l .y .twos)) (length (sExit Z l .ones)) (length (sExit Z l .twos)) ≡ 0
   unfolding planesLengths
   lengths-pass =
       let n = y-lengths Z l (passed .lengths) in
       rw (
         held-is,
         size,
-        eq-eqb (length (l .yOnes)) (wordsFor (codim z)) (n .0),
-        eq-eqb (length (l .yTwos)) (wordsFor (codim z)) (n .1),
-        eq-eqb (length (sOnesExit Z l)) (wordsFor (dim z)) (ap length s-ones ∙ length-ones s (wordsFor (dim z))),
-        eq-eqb (length (sTwosExit Z l)) (wordsFor (dim z)) (ap length s-twos ∙ length-twos s (wordsFor (dim z))),
+        eq-eqb (length (l .y .ones)) (wordsFor (codim z)) (n .0),
+        eq-eqb (length (l .y .twos)) (wordsFor (codim z)) (n .1),
+        eq-eqb (length (sExit Z l .ones)) (wordsFor (dim z)) (ap length s-ones ∙ length-ones s (wordsFor (dim z))),
+        eq-eqb (length (sExit Z l .twos)) (wordsFor (dim z)) (ap length s-twos ∙ length-twos s (wordsFor (dim z))),
       )
 
-  s-passes : planesRefusal (sOnesExit Z l) (sTwosExit Z l) 1 (dim z) ≡ 0
+  s-passes : planesRefusal (sExit Z l .ones) (sExit Z l .twos) 1 (dim z) ≡ 0
   s-passes = ap₂ (λ (x y : List ℕ). planesRefusal x y 1 (dim z)) s-ones s-twos ∙ written-passes (dim z) (signature Z (wordOf Z l))
 
-  contents-pass : planesContents (key .held) (key .ones) (key .twos) (l .yOnes) (l .yTwos) (sOnesExit Z l) (sTwosExit Z l) ≡ 0
+  contents-pass : planesContents (key .held) (key .ones) (key .twos) (l .y .ones) (l .y .twos) (sExit Z l .ones) (sExit Z l .twos) ≡ 0
   unfolding planesContents
   contents-pass =
       let e : rowTrits (key .held) ≡ codim z = ap (λ (h : Held). rowTrits h) held-is ∙ size in
       let k : key .held .k ≡ dim z = ap (λ (h : Held). h .k) held-is in
       sym (first-goes (sym rows-pass) refl
-      (first-goes (sym (ap (planesRefusal (l .yOnes) (l .yTwos) 1) e ∙ passed .syndrome)) refl (sym (ap (planesRefusal (sOnesExit Z l) (sTwosExit Z l) 1) k ∙ s-passes))))
+      (first-goes (sym (ap (planesRefusal (l .y .ones) (l .y .twos) 1) e ∙ passed .syndrome)) refl (sym (ap (planesRefusal (sExit Z l .ones) (sExit Z l .twos) 1) k ∙ s-passes))))
 
   planes-passed-all : checkRefusal (carriedPlanes z i g w l m) ≡ 0
   unfolding checkRefusal
@@ -262,7 +262,7 @@ module _ (z : Sizes) (i : BuildCall) (b : Built z i) (g w : ℕ) (l : DrawCall) 
   end-to-end-planes =
       let e : rowTrits (key .held) ≡ codim z = ap (λ (h : Held). rowTrits h) held-is ∙ size in
       let k : key .held .k ≡ dim z = ap (λ (h : Held). h .k) held-is in
-      let t : tritAt (sOnesExit Z l) (sTwosExit Z l) ≡ s = handed-signature Z l d in
+      let t : tritAt (sExit Z l .ones) (sExit Z l .twos) ≡ s = handed-signature Z l d in
       sym (packed-agrees (carriedPlanes z i g w l m) planes-passed-all)
       ∙ ap₂ (λ (a b : List ℕ). checkPackedAnswer (packedCheckOf (key .held) (m .number) (key .ones) (key .twos) a b (m .workOnes) (m .workTwos)))
       (ap (λ (x : ℕ). packedBytes x y) e ∙ sym y-is) (ap₂ packedBytes k t ∙ sym s-is)

@@ -39,17 +39,17 @@ none-zero m v e = by (hasZero m v) refl e
 -- the lengths of its planes, in both calls
 abbrev pub differs : Sizes → Planes → Bool
 differs z k =
-    secretDiffers z (length (k .huOnes)) (length (k .huTwos)) (length (k .hvOnes)) (length (k .hvTwos)) (length (k .bOnes)) (length (k .bTwos)) (length (k .cOnes)) (length (k .cTwos))
+    secretDiffers z (length (k .hu .ones)) (length (k .hu .twos)) (length (k .hv .ones)) (length (k .hv .twos)) (length (k .b .ones)) (length (k .b .twos)) (length (k .c .ones)) (length (k .c .twos))
 
 -- c is nowhere 0
-pub secret-unit : (z : Sizes) (k : Planes) → secretRefusal z k ≡ 0 → noZero (half z) (tritAt (k .cOnes) (k .cTwos)) ≡ true
+pub secret-unit : (z : Sizes) (k : Planes) → secretRefusal z k ≡ 0 → noZero (half z) (tritAt (k .c .ones) (k .c .twos)) ≡ true
 unfolding secretRefusal
 secret-unit z k e =
-    let a = passed-first (planesRefusal (k .huOnes) (k .huTwos) (ru z) (half z)) _ e in
-    let b = passed-first (planesRefusal (k .hvOnes) (k .hvTwos) (rv z) (half z)) _ (a .1) in
-    let c = passed-first (planesRefusal (k .bOnes) (k .bTwos) 1 (half z)) _ (b .1) in
-    let d = passed-first (planesRefusal (k .cOnes) (k .cTwos) 1 (half z)) _ (c .1) in
-    zero-none (half z) (tritAt (k .cOnes) (k .cTwos)) (passed-refuse (hasZero (half z) (tritAt (k .cOnes) (k .cTwos))) 8 0 (lit< tt) (d .1) .0)
+    let a = passed-first (planesRefusal (k .hu .ones) (k .hu .twos) (ru z) (half z)) _ e in
+    let b = passed-first (planesRefusal (k .hv .ones) (k .hv .twos) (rv z) (half z)) _ (a .1) in
+    let c = passed-first (planesRefusal (k .b .ones) (k .b .twos) 1 (half z)) _ (b .1) in
+    let d = passed-first (planesRefusal (k .c .ones) (k .c .twos) 1 (half z)) _ (c .1) in
+    zero-none (half z) (tritAt (k .c .ones) (k .c .twos)) (passed-refuse (hasZero (half z) (tritAt (k .c .ones) (k .c .twos))) 8 0 (lit< tt) (d .1) .0)
 
 -- ---- a build
 
@@ -81,12 +81,12 @@ pub record DrawPassed (z : Sizes) (l : DrawCall) : Type 0 where
   pub lengths : drawLengthsDiffer z l ≡ false
   pub contents : secretRefusal z (l .secret) ≡ 0
   pub order : isOrder (places z) (l .p) ≡ true
-  pub syndrome : planesRefusal (l .yOnes) (l .yTwos) 1 (codim z) ≡ 0
+  pub syndrome : planesRefusal (l .y .ones) (l .y .twos) 1 (codim z) ≡ 0
   pub order-v : isOrder (half z) (l .orderV) ≡ true
-  pub trits-v : planesRefusal (l .vOnes) (l .vTwos) 1 (z .kv) ≡ 0
+  pub trits-v : planesRefusal (l .v .ones) (l .v .twos) 1 (z .kv) ≡ 0
   pub order-u : isOrder (half z) (l .orderU) ≡ true
-  pub values-u : planesRefusal (l .uOnes) (l .uTwos) 1 (z .ku) ≡ 0
-  pub last-u : hasZero (z .ku - gapU z) (λ j. tritAt (l .uOnes) (l .uTwos) (gapU z + j)) ≡ false
+  pub values-u : planesRefusal (l .u .ones) (l .u .twos) 1 (z .ku) ≡ 0
+  pub last-u : hasZero (z .ku - gapU z) (λ j. tritAt (l .u .ones) (l .u .twos) (gapU z + j)) ≡ false
   pub draws : drawRefusal z (secretOf z (l .secret)) (l .p) (syndromeOf l) (choicesOf l) ≡ 0
 
 pub draw-call : (z : Sizes) (l : DrawCall) → drawAnswer z l ≡ 0 → DrawPassed z l
@@ -97,12 +97,12 @@ draw-call z l e =
     let c = passed-first (secretRefusal z (l .secret)) _ (b .1) in
     let d = passed-first (choicesRefusal z l) (drawRefusal z (secretOf z (l .secret)) (l .p) (syndromeOf l) (choicesOf l)) (c .1) in
     let f = passed-demand (isOrder (places z) (l .p)) 7 _ (lit< tt) (d .0) in
-    let g = passed-first (planesRefusal (l .yOnes) (l .yTwos) 1 (codim z)) _ (f .1) in
+    let g = passed-first (planesRefusal (l .y .ones) (l .y .twos) 1 (codim z)) _ (f .1) in
     let h = passed-demand (isOrder (half z) (l .orderV)) 7 _ (lit< tt) (g .1) in
-    let i = passed-first (planesRefusal (l .vOnes) (l .vTwos) 1 (z .kv)) _ (h .1) in
+    let i = passed-first (planesRefusal (l .v .ones) (l .v .twos) 1 (z .kv)) _ (h .1) in
     let j = passed-demand (isOrder (half z) (l .orderU)) 7 _ (lit< tt) (i .1) in
-    let k = passed-first (planesRefusal (l .uOnes) (l .uTwos) 1 (z .ku)) _ (j .1) in
-    let m = passed-refuse (hasZero (z .ku - gapU z) (λ j. tritAt (l .uOnes) (l .uTwos) (gapU z + j))) 8 0 (lit< tt) (k .1) in
+    let k = passed-first (planesRefusal (l .u .ones) (l .u .twos) 1 (z .ku)) _ (j .1) in
+    let m = passed-refuse (hasZero (z .ku - gapU z) (λ j. tritAt (l .u .ones) (l .u .twos) (gapU z + j))) 8 0 (lit< tt) (k .1) in
     record {
       sizes = a .0;
       lengths = b .0;
@@ -126,7 +126,7 @@ call-draws z l p =
 -- the choices are in order
 pub choices-fit : (z : Sizes) (l : DrawCall) → DrawPassed z l → choicesFit z (choicesOf l) ≡ true
 unfolding choicesFit
-choices-fit z l p = rw (p .order-v, p .order-u, zero-none (z .ku - gapU z) (λ j. tritAt (l .uOnes) (l .uTwos) (gapU z + j)) (p .last-u))
+choices-fit z l p = rw (p .order-v, p .order-u, zero-none (z .ku - gapU z) (λ j. tritAt (l .u .ones) (l .u .twos) (gapU z + j)) (p .last-u))
 
 -- ---- lengths that are right
 
@@ -153,8 +153,8 @@ choices-same z {p} {y1} {y2} {ov} {v1} {v2} {ou} {u1} {u2} {e1} {e2} {s1} {s2} {
 
 -- every length of a draw
 pub lengths-same : (z : Sizes) (l : DrawCall) → differs z (l .secret) ≡ false
-    → choicesDiffer z (length (l .p)) (length (l .yOnes)) (length (l .yTwos)) (length (l .orderV)) (length (l .vOnes)) (length (l .vTwos)) (length (l .orderU)) (length (l .uOnes)) (length (l .uTwos))
-    (length (l .wordOnes)) (length (l .wordTwos)) (length (l .sOnes)) (length (l .sTwos)) (length (l .workOnes)) (length (l .workTwos)) ≡ false
+    → choicesDiffer z (length (l .p)) (length (l .y .ones)) (length (l .y .twos)) (length (l .orderV)) (length (l .v .ones)) (length (l .v .twos)) (length (l .orderU)) (length (l .u .ones)) (length (l .u .twos))
+    (length (l .word .ones)) (length (l .word .twos)) (length (l .s .ones)) (length (l .s .twos)) (length (l .work .ones)) (length (l .work .twos)) ≡ false
     → drawLengthsDiffer z l ≡ false
 unfolding drawLengthsDiffer
 lengths-same z l a b = rw (a, b)

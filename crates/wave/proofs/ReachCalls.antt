@@ -10,7 +10,7 @@ use borrow.Author.Tests.{leb-true}
 use lib.Dec.{leb, lit<}
 use lib.ListN.{length, getD, List·getD-eq-default}
 use Rattle.trits.specs.Trit.{upTo}
-use Rattle.trits.specs.Planes.{tritAt, wordsFor, onesOf, twosOf, zeroWords}
+use Rattle.trits.specs.Planes.{pairOf, tritAt, wordsFor, onesOf, twosOf, zeroWords}
 use Rattle.trits.specs.Rows.{rowPart}
 use Rattle.trits.proofs.Lists.{length-zeros}
 use Rattle.trits.proofs.Refusals.{exit-new}
@@ -29,8 +29,8 @@ use Rattle.scheme_laws.proofs.Pairs.{zero-no}
 use Rattle.scheme.proofs.Ranges.{sizes-fit}
 use Rattle.scheme_laws.proofs.Draws.{Valid}
 use Rattle.calls.specs.Lent.{secretOf, secretDiffers, secretRefusal}
-use Rattle.calls.specs.BuildCall.{BuildCall, keyRowWords, orderExit, keyOnesOf, keyTwosOf, keyOnesExit, keyTwosExit}
-use Rattle.calls.specs.DrawCall.{DrawCall, choicesOf, drawWorkWords, drawLengthsDiffer, drawAnswer, wordOf, wordOnesExit, wordTwosExit, sOnesExit, sTwosExit}
+use Rattle.calls.specs.BuildCall.{BuildCall, keyRowWords, orderExit, keyOnesOf, keyTwosOf, keyExit}
+use Rattle.calls.specs.DrawCall.{DrawCall, choicesOf, drawWorkWords, drawLengthsDiffer, drawAnswer, wordOf, wordExit, sExit}
 use Rattle.wave.specs.Terms.{Built, builtKey, sized, LentSyndrome, LentAs, Under, HandsOut, Bits, SomeDraw, KeyTerms}
 use Rattle.wave.specs.Vectors.{Released, Releases}
 use Rattle.wave.proofs.Written.{written-back, written-passes, ones-words, twos-words, zero-words, rows-part}
@@ -45,16 +45,16 @@ module _ (z : Sizes) (i : BuildCall) (b : Built z i) where
   abbrev s : Secret
   s = secretOf z (i .secret)
 
-  pub ones-row : (j : ℕ) → j < dim z → onesOf (upTo (codim z) (keyRow z (secretOf z (i .secret)) (i .start) j)) (keyRowWords z) ≡ rowPart (keyOnesExit z i) (dim z) (keyRowWords z) j
-  unfolding keyOnesExit keyOnesOf
+  pub ones-row : (j : ℕ) → j < dim z → onesOf (upTo (codim z) (keyRow z (secretOf z (i .secret)) (i .start) j)) (keyRowWords z) ≡ rowPart (keyExit z i .ones) (dim z) (keyRowWords z) j
+  unfolding keyExit keyOnesOf
   ones-row j l =
-      sym (ap (λ (x : List ℕ). rowPart x (dim z) (keyRowWords z) j) (sym (exit-new (keyOnesOf z s (i .start)) (i .keyOnes) b))
+      sym (ap (λ (x : List ℕ). rowPart x (dim z) (keyRowWords z) j) (sym (exit-new (keyOnesOf z s (i .start)) (i .key .ones) b))
       ∙ rows-part (λ k. onesOf (upTo (codim z) (keyRow z s (i .start) k)) (keyRowWords z)) (keyRowWords z) (λ k. length-ones (upTo (codim z) (keyRow z s (i .start) k)) (keyRowWords z)) (dim z) j l)
 
-  pub twos-row : (j : ℕ) → j < dim z → twosOf (upTo (codim z) (keyRow z (secretOf z (i .secret)) (i .start) j)) (keyRowWords z) ≡ rowPart (keyTwosExit z i) (dim z) (keyRowWords z) j
-  unfolding keyTwosExit keyTwosOf
+  pub twos-row : (j : ℕ) → j < dim z → twosOf (upTo (codim z) (keyRow z (secretOf z (i .secret)) (i .start) j)) (keyRowWords z) ≡ rowPart (keyExit z i .twos) (dim z) (keyRowWords z) j
+  unfolding keyExit keyTwosOf
   twos-row j l =
-      sym (ap (λ (x : List ℕ). rowPart x (dim z) (keyRowWords z) j) (sym (exit-new (keyTwosOf z s (i .start)) (i .keyTwos) b))
+      sym (ap (λ (x : List ℕ). rowPart x (dim z) (keyRowWords z) j) (sym (exit-new (keyTwosOf z s (i .start)) (i .key .twos) b))
       ∙ rows-part (λ k. twosOf (upTo (codim z) (keyRow z s (i .start) k)) (keyRowWords z)) (keyRowWords z) (λ k. length-twos (upTo (codim z) (keyRow z s (i .start) k)) (keyRowWords z)) (dim z) j l)
 
   -- a row of the key's words is a row of R, and 0 past it
@@ -76,13 +76,13 @@ module _ (z : Sizes) (i : BuildCall) (b : Built z i) where
 -- ---- from a call to vectors
 
 -- the word lent back is the word drawn
-pub handed-word : (z : Sizes) (l : DrawCall) → drawAnswer z l ≡ 0 → tritAt (wordOnesExit z l) (wordTwosExit z l) ≡ upTo (places z) (wordOf z l)
-unfolding wordOnesExit wordTwosExit
+pub handed-word : (z : Sizes) (l : DrawCall) → drawAnswer z l ≡ 0 → tritAt (wordExit z l .ones) (wordExit z l .twos) ≡ upTo (places z) (wordOf z l)
+unfolding wordExit
 handed-word z l d =
-    ap₂ tritAt (sym (exit-new (onesOf (upTo (places z) (wordOf z l)) (wordsFor (places z))) (l .wordOnes) d)) (sym (exit-new (twosOf (upTo (places z) (wordOf z l)) (wordsFor (places z))) (l .wordTwos) d))
+    ap₂ tritAt (sym (exit-new (onesOf (upTo (places z) (wordOf z l)) (wordsFor (places z))) (l .word .ones) d)) (sym (exit-new (twosOf (upTo (places z) (wordOf z l)) (wordsFor (places z))) (l .word .twos) d))
     ∙ written-back (places z) (wordOf z l)
 
-call-releases : (z : Sizes) (l : DrawCall) (e : Vector) → HandsOut z l e → Releases z (secretOf z (l .secret)) (l .p) (tritAt (l .yOnes) (l .yTwos)) e
+call-releases : (z : Sizes) (l : DrawCall) (e : Vector) → HandsOut z l e → Releases z (secretOf z (l .secret)) (l .p) (tritAt (l .y .ones) (l .y .twos)) e
 unfolding wordOf
 call-releases z l e h =
     let p = draw-call z l (h .passed) in
@@ -95,28 +95,28 @@ call-releases z l e h =
 
 -- under a build's secret and p
 pub under-releases : (z : Sizes) (i : BuildCall) (g w : ℕ) (l : DrawCall) (e : Vector) → Under z i l → HandsOut (sized z g w) l e
-    → Releases (sized z g w) (secretOf z (i .secret)) (orderExit z i) (tritAt (l .yOnes) (l .yTwos)) e
+    → Releases (sized z g w) (secretOf z (i .secret)) (orderExit z i) (tritAt (l .y .ones) (l .y .twos)) e
 under-releases z i g w l e u h =
-    subst (λ k. Releases (sized z g w) (secretOf z k) (orderExit z i) (tritAt (l .yOnes) (l .yTwos)) e) (u .secret-is)
-    (subst (λ (p : List ℕ). Releases (sized z g w) (secretOf z (l .secret)) p (tritAt (l .yOnes) (l .yTwos)) e) (u .order-is) (call-releases (sized z g w) l e h))
+    subst (λ k. Releases (sized z g w) (secretOf z k) (orderExit z i) (tritAt (l .y .ones) (l .y .twos)) e) (u .secret-is)
+    (subst (λ (p : List ℕ). Releases (sized z g w) (secretOf z (l .secret)) p (tritAt (l .y .ones) (l .y .twos)) e) (u .order-is) (call-releases (sized z g w) l e h))
 
 -- and s lent back is its last k trits
-pub handed-ones : (z : Sizes) (l : DrawCall) → drawAnswer z l ≡ 0 → sOnesExit z l ≡ onesOf (upTo (dim z) (signature z (wordOf z l))) (wordsFor (dim z))
-unfolding sOnesExit
-handed-ones z l d = sym (exit-new (onesOf (upTo (dim z) (signature z (wordOf z l))) (wordsFor (dim z))) (l .sOnes) d)
+pub handed-ones : (z : Sizes) (l : DrawCall) → drawAnswer z l ≡ 0 → sExit z l .ones ≡ onesOf (upTo (dim z) (signature z (wordOf z l))) (wordsFor (dim z))
+unfolding sExit
+handed-ones z l d = sym (exit-new (onesOf (upTo (dim z) (signature z (wordOf z l))) (wordsFor (dim z))) (l .s .ones) d)
 
-pub handed-twos : (z : Sizes) (l : DrawCall) → drawAnswer z l ≡ 0 → sTwosExit z l ≡ twosOf (upTo (dim z) (signature z (wordOf z l))) (wordsFor (dim z))
-unfolding sTwosExit
-handed-twos z l d = sym (exit-new (twosOf (upTo (dim z) (signature z (wordOf z l))) (wordsFor (dim z))) (l .sTwos) d)
+pub handed-twos : (z : Sizes) (l : DrawCall) → drawAnswer z l ≡ 0 → sExit z l .twos ≡ twosOf (upTo (dim z) (signature z (wordOf z l))) (wordsFor (dim z))
+unfolding sExit
+handed-twos z l d = sym (exit-new (twosOf (upTo (dim z) (signature z (wordOf z l))) (wordsFor (dim z))) (l .s .twos) d)
 
-pub handed-signature : (z : Sizes) (l : DrawCall) → drawAnswer z l ≡ 0 → tritAt (sOnesExit z l) (sTwosExit z l) ≡ upTo (dim z) (signature z (wordOf z l))
+pub handed-signature : (z : Sizes) (l : DrawCall) → drawAnswer z l ≡ 0 → tritAt (sExit z l .ones) (sExit z l .twos) ≡ upTo (dim z) (signature z (wordOf z l))
 handed-signature z l d = ap₂ tritAt (handed-ones z l d) (handed-twos z l d) ∙ written-back (dim z) (signature z (wordOf z l))
 
 -- the terms hold of the word that a draw under a built key made
-pub drawn-terms : (z : Sizes) (i : BuildCall) → Built z i → (g w : ℕ) (l : DrawCall) → Under z i l → drawAnswer (sized z g w) l ≡ 0 → KeyTerms z i g w (l .yOnes) (l .yTwos) (wordOf (sized z g w) l)
+pub drawn-terms : (z : Sizes) (i : BuildCall) → Built z i → (g w : ℕ) (l : DrawCall) → Under z i l → drawAnswer (sized z g w) l ≡ 0 → KeyTerms z i g w (l .y .ones) (l .y .twos) (wordOf (sized z g w) l)
 drawn-terms z i b g w l u d =
     let e = wordOf (sized z g w) l in
-    reach z (secretOf z (i .secret)) (i .start) (orderExit z i) (builtKey z i) (built-released z i b) g w (draw-call (sized z g w) l d .sizes) (tritAt (l .yOnes) (l .yTwos)) e .0
+    reach z (secretOf z (i .secret)) (i .start) (orderExit z i) (builtKey z i) (built-released z i b) g w (draw-call (sized z g w) l d .sizes) (tritAt (l .y .ones) (l .y .twos)) e .0
     (under-releases z i g w l e u (record { passed = d; word = λ q h. ap (λ (v : Vector). v q) (handed-word (sized z g w) l d) ∙ upto-in e (places z) q h }))
 
 -- ---- from vectors to a call
@@ -148,20 +148,14 @@ module _ (z : Sizes) (i : BuildCall) (b : Built z i) (g w : ℕ) (fit : sizesFit
       record {
         secret = i .secret;
         p = orderExit z i;
-        yOnes = yOnes;
-        yTwos = yTwos;
+        y = pairOf yOnes yTwos;
         orderV = ch .orderV;
-        vOnes = onesOf (ch .tritsV) (wordsFor (z .kv));
-        vTwos = twosOf (ch .tritsV) (wordsFor (z .kv));
+        v = pairOf (onesOf (ch .tritsV) (wordsFor (z .kv))) (twosOf (ch .tritsV) (wordsFor (z .kv)));
         orderU = ch .orderU;
-        uOnes = onesOf (ch .valuesU) (wordsFor (z .ku));
-        uTwos = twosOf (ch .valuesU) (wordsFor (z .ku));
-        wordOnes = zeroWords (wordsFor (places z));
-        wordTwos = zeroWords (wordsFor (places z));
-        sOnes = zeroWords (wordsFor (dim z));
-        sTwos = zeroWords (wordsFor (dim z));
-        workOnes = zeroWords (drawWorkWords z);
-        workTwos = zeroWords (drawWorkWords z);
+        u = pairOf (onesOf (ch .valuesU) (wordsFor (z .ku))) (twosOf (ch .valuesU) (wordsFor (z .ku)));
+        word = pairOf (zeroWords (wordsFor (places z))) (zeroWords (wordsFor (places z)));
+        s = pairOf (zeroWords (wordsFor (dim z))) (zeroWords (wordsFor (dim z)));
+        work = pairOf (zeroWords (drawWorkWords z)) (zeroWords (drawWorkWords z));
       }
 
   valid : Valid Z ch
@@ -207,7 +201,7 @@ module _ (z : Sizes) (i : BuildCall) (b : Built z i) (g w : ℕ) (fit : sizesFit
   made-answer : drawAnswer Z made ≡ 0
   made-answer = call-draws Z made made-passes
 
-  made-word : (q : ℕ) → q < places z → tritAt (wordOnesExit Z made) (wordTwosExit Z made) q ≡ e q
+  made-word : (q : ℕ) → q < places z → tritAt (wordExit Z made .ones) (wordExit Z made .twos) q ≡ e q
   unfolding wordOf
   made-word q l =
       ap (λ (v : Vector). v q) (handed-word Z made made-answer)

@@ -25,8 +25,8 @@ use Rattle.scheme.specs.Secret.{secretMatrix, hasZero}
 use Rattle.scheme.specs.Build.{arrange, arranged, rowOfR, buildRefusal}
 use Rattle.scheme.specs.Draw.{placed, signature, pivotsV, suppliedV, drawV, pivotsU, suppliedU, drawU, drawn, drawRefusal}
 use Rattle.calls.specs.Lent.{secretDiffers, secretRefusal}
-use Rattle.calls.specs.BuildCall.{keyDiffers, buildLengthsDiffer, buildAnswer, orderExit, keyOnesOf, keyTwosOf, keyOnesExit, keyTwosExit, buildWorkOnesExit, buildWorkTwosExit}
-use Rattle.calls.specs.DrawCall.{DrawCall, choicesDiffer, drawLengthsDiffer, choicesRefusal, drawAnswer, wordOf, wordOnesExit, wordTwosExit, sOnesExit, sTwosExit, drawWorkOnesExit, drawWorkTwosExit}
+use Rattle.calls.specs.BuildCall.{keyDiffers, buildLengthsDiffer, buildAnswer, orderExit, keyOnesOf, keyTwosOf, keyExit, buildWorkExit}
+use Rattle.calls.specs.DrawCall.{DrawCall, choicesDiffer, drawLengthsDiffer, choicesRefusal, drawAnswer, wordOf, wordExit, sExit, drawWorkExit}
 use Rattle.wave.specs.Terms.{Under}
 use Rattle.wave.specs.Examples.{sizes4, start1, build4}
 use Rattle.wave.specs.Starred.{NoDrawMakes1200, gap4, Starred}
@@ -74,7 +74,7 @@ never g one l u d s1 s2 =
 -- ---- the table
 
 pub starred : Starred
-unfolding dotV anyTo sumTo upTo bit fromBits bitAt tritAt tabulate onesOf twosOf zeroWords bothSet pastEnd rowsOf rowPart matrixAt rowsPastEnd first planesRefusal byteOf digitOf packedAt packedRow packedBytes badByte packedRefusal packRefusal packExit unpackRefusal unpackOnes unpackTwos agree find solve inSpan keep pivots rank without fill range isOrder digitRows timesKey fullWord fullWeight saysYes numbersFit sound heldRow heldKey callRefusal packedLengths packedContents checkPackedRefusal heldWeight answered checkPackedAnswer sizesFit secretMatrix arrange arranged rowOfR buildRefusal pivotsV suppliedV drawV pivotsU suppliedU drawU drawn drawRefusal secretDiffers hasZero secretRefusal spaceExit keyDiffers buildLengthsDiffer buildAnswer orderExit keyOnesOf keyTwosOf keyOnesExit keyTwosExit buildWorkOnesExit buildWorkTwosExit choicesDiffer drawLengthsDiffer choicesRefusal drawAnswer wordOf wordOnesExit wordTwosExit sOnesExit sTwosExit drawWorkOnesExit drawWorkTwosExit
+unfolding dotV anyTo sumTo upTo bit fromBits bitAt tritAt tabulate onesOf twosOf zeroWords bothSet pastEnd rowsOf rowPart matrixAt rowsPastEnd first planesRefusal byteOf digitOf packedAt packedRow packedBytes badByte packedRefusal packRefusal packExit unpackRefusal unpackOnes unpackTwos agree find solve inSpan keep pivots rank without fill range isOrder digitRows timesKey fullWord fullWeight saysYes numbersFit sound heldRow heldKey callRefusal packedLengths packedContents checkPackedRefusal heldWeight answered checkPackedAnswer sizesFit secretMatrix arrange arranged rowOfR buildRefusal pivotsV suppliedV drawV pivotsU suppliedU drawU drawn drawRefusal secretDiffers hasZero secretRefusal spaceExit keyDiffers buildLengthsDiffer buildAnswer orderExit keyOnesOf keyTwosOf keyExit buildWorkExit choicesDiffer drawLengthsDiffer choicesRefusal drawAnswer wordOf wordExit sExit drawWorkExit
 starred = record {
   packs-88 = refl;
   packed-88 = refl;

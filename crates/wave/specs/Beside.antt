@@ -9,8 +9,8 @@ use Rattle.verdict.specs.Verdict.{Key}
 use Rattle.check_tests.specs.Check.{checkPackedAnswer}
 use Rattle.scheme.specs.Secret.{Secret}
 use Rattle.scheme.specs.Draw.{choicesFit, drawn}
-use Rattle.calls.specs.BuildCall.{buildAnswer, orderExit, keyOnesExit, keyTwosExit, buildWorkOnesExit}
-use Rattle.calls.specs.DrawCall.{drawAnswer, wordOnesExit, wordTwosExit, drawWorkOnesExit}
+use Rattle.calls.specs.BuildCall.{buildAnswer, orderExit, keyExit, buildWorkExit}
+use Rattle.calls.specs.DrawCall.{drawAnswer, wordExit, drawWorkExit}
 use Rattle.wave.specs.Terms.{Terms, builtKey, LentSyndrome, Under, HandsOut}
 use Rattle.wave.specs.Verifier.{carriedCheck, yes}
 use Rattle.wave.specs.Examples.{sizes4, secret4, start1, key1, start2, p2, key2, y4, choose, word4, refusal4, build4, draw4, host4}
@@ -32,18 +32,18 @@ pub record Beside : Type 0 where
   -- a draw under the second key, whose p is not its own inverse, releases 1121
   pub word-1121 : digits 4 (drawn (sizes4 0 4) secret4 p2 y4 (choose 2 1)) ≡ 1 ∷ 1 ∷ 2 ∷ 1 ∷ []
   pub answer-1121 : drawAnswer (sizes4 0 4) (draw4 p2 0 1 1 0) ≡ 0
-  pub ones-1121 : wordOnesExit (sizes4 0 4) (draw4 p2 0 1 1 0) ≡ 11 ∷ []
-  pub twos-1121 : wordTwosExit (sizes4 0 4) (draw4 p2 0 1 1 0) ≡ 4 ∷ []
+  pub ones-1121 : wordExit (sizes4 0 4) (draw4 p2 0 1 1 0) .ones ≡ 11 ∷ []
+  pub twos-1121 : wordExit (sizes4 0 4) (draw4 p2 0 1 1 0) .twos ≡ 4 ∷ []
   -- a starting order that is none is refused 7: p, the key and the working space stay
   pub refused-0023 : buildAnswer (sizes4 0 4) (build4 (0 ∷ 0 ∷ 2 ∷ 3 ∷ [])) ≡ 7
   pub p-0023 : orderExit (sizes4 0 4) (build4 (0 ∷ 0 ∷ 2 ∷ 3 ∷ [])) ≡ 9 ∷ 9 ∷ 9 ∷ 9 ∷ []
-  pub key-ones-0023 : keyOnesExit (sizes4 0 4) (build4 (0 ∷ 0 ∷ 2 ∷ 3 ∷ [])) ≡ 5 ∷ 6 ∷ []
-  pub key-twos-0023 : keyTwosExit (sizes4 0 4) (build4 (0 ∷ 0 ∷ 2 ∷ 3 ∷ [])) ≡ 7 ∷ 8 ∷ []
-  pub work-0023 : buildWorkOnesExit (sizes4 0 4) (build4 (0 ∷ 0 ∷ 2 ∷ 3 ∷ [])) ≡ 1 ∷ 2 ∷ 3 ∷ 4 ∷ []
+  pub key-ones-0023 : keyExit (sizes4 0 4) (build4 (0 ∷ 0 ∷ 2 ∷ 3 ∷ [])) .ones ≡ 5 ∷ 6 ∷ []
+  pub key-twos-0023 : keyExit (sizes4 0 4) (build4 (0 ∷ 0 ∷ 2 ∷ 3 ∷ [])) .twos ≡ 7 ∷ 8 ∷ []
+  pub work-0023 : buildWorkExit (sizes4 0 4) (build4 (0 ∷ 0 ∷ 2 ∷ 3 ∷ [])) .ones ≡ 1 ∷ 2 ∷ 3 ∷ 4 ∷ []
   -- a U value of 0 is refused 8 though e_V is not 0 there: the word and the working space stay
   pub refused-zero : drawAnswer (sizes4 0 4) (draw4 start1 0 1 0 0) ≡ 8
-  pub ones-zero : wordOnesExit (sizes4 0 4) (draw4 start1 0 1 0 0) ≡ 5 ∷ []
-  pub work-zero : drawWorkOnesExit (sizes4 0 4) (draw4 start1 0 1 0 0) ≡ 1 ∷ 2 ∷ 3 ∷ 4 ∷ 5 ∷ 6 ∷ []
+  pub ones-zero : wordExit (sizes4 0 4) (draw4 start1 0 1 0 0) .ones ≡ 5 ∷ []
+  pub work-zero : drawWorkExit (sizes4 0 4) (draw4 start1 0 1 0 0) .ones ≡ 1 ∷ 2 ∷ 3 ∷ 4 ∷ 5 ∷ 6 ∷ []
   -- ---- the five terms: each word below the first three meets all of them but one
 
   -- 2111 meets them under the first key at w = 4

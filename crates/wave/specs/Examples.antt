@@ -3,6 +3,7 @@ use mathlib.Core.Path.{refl}
 use mathlib.Core.List.{List, [], _∷_}
 use Prim.Native.Nat.{ℕ}
 use native.Mathlib.Omega.{arith}
+use Rattle.trits.specs.Planes.{pairOf}
 use Rattle.matrix.specs.Linear.{Vector}
 use Rattle.trits.specs.InDigits.{vector, digits, matrix}
 use Rattle.verdict.specs.Verdict.{Key}
@@ -60,7 +61,7 @@ refusal4 g w v u = drawRefusal (sizes4 g w) secret4 start1 y4 (choose v u)
 
 -- the same secret in planes
 abbrev pub planes4 : Planes
-planes4 = record { huOnes = 3 ∷ []; huTwos = 0 ∷ []; hvOnes = 1 ∷ []; hvTwos = 2 ∷ []; bOnes = 2 ∷ []; bTwos = 0 ∷ []; cOnes = 1 ∷ []; cTwos = 2 ∷ [] }
+planes4 = record { hu = pairOf (3 ∷ []) (0 ∷ []); hv = pairOf (1 ∷ []) (2 ∷ []); b = pairOf (2 ∷ []) (0 ∷ []); c = pairOf (1 ∷ []) (2 ∷ []) }
 
 -- a build from a starting order
 abbrev pub build4 : List ℕ → BuildCall
@@ -68,10 +69,8 @@ build4 start = record {
   secret = planes4;
   start = start;
   p = 9 ∷ 9 ∷ 9 ∷ 9 ∷ [];
-  keyOnes = 5 ∷ 6 ∷ [];
-  keyTwos = 7 ∷ 8 ∷ [];
-  workOnes = 1 ∷ 2 ∷ 3 ∷ 4 ∷ [];
-  workTwos = 1 ∷ 2 ∷ 3 ∷ 4 ∷ [];
+  key = pairOf (5 ∷ 6 ∷ []) (7 ∷ 8 ∷ []);
+  work = pairOf (1 ∷ 2 ∷ 3 ∷ 4 ∷ []) (1 ∷ 2 ∷ 3 ∷ 4 ∷ []);
 }
 
 -- a draw under p for y = 12 with both orders (0,1), a V trit and a U value, each by its two planes
@@ -79,20 +78,14 @@ abbrev pub draw4 : List ℕ → ℕ → ℕ → ℕ → ℕ → DrawCall
 draw4 p v1 v2 u1 u2 = record {
   secret = planes4;
   p = p;
-  yOnes = 1 ∷ [];
-  yTwos = 2 ∷ [];
+  y = pairOf (1 ∷ []) (2 ∷ []);
   orderV = 0 ∷ 1 ∷ [];
-  vOnes = v1 ∷ [];
-  vTwos = v2 ∷ [];
+  v = pairOf (v1 ∷ []) (v2 ∷ []);
   orderU = 0 ∷ 1 ∷ [];
-  uOnes = u1 ∷ [];
-  uTwos = u2 ∷ [];
-  wordOnes = 5 ∷ [];
-  wordTwos = 6 ∷ [];
-  sOnes = 7 ∷ [];
-  sTwos = 8 ∷ [];
-  workOnes = 1 ∷ 2 ∷ 3 ∷ 4 ∷ 5 ∷ 6 ∷ [];
-  workTwos = 1 ∷ 2 ∷ 3 ∷ 4 ∷ 5 ∷ 6 ∷ [];
+  u = pairOf (u1 ∷ []) (u2 ∷ []);
+  word = pairOf (5 ∷ []) (6 ∷ []);
+  s = pairOf (7 ∷ []) (8 ∷ []);
+  work = pairOf (1 ∷ 2 ∷ 3 ∷ 4 ∷ 5 ∷ 6 ∷ []) (1 ∷ 2 ∷ 3 ∷ 4 ∷ 5 ∷ 6 ∷ []);
 }
 
 -- a module's host with key number 7, which never held a key

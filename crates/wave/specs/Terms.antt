@@ -16,8 +16,8 @@ use Rattle.scheme.specs.Sizes.{half, places, dim, ru, codim, gapU}
 use Rattle.scheme.specs.Secret.{Secret}
 use Rattle.scheme.specs.Draw.{placed}
 use Rattle.calls.specs.Lent.{secretOf}
-use Rattle.calls.specs.BuildCall.{BuildCall, keyRowWords, buildAnswer, orderExit, keyOnesExit, keyTwosExit}
-use Rattle.calls.specs.DrawCall.{DrawCall, drawAnswer, wordOnesExit, wordTwosExit}
+use Rattle.calls.specs.BuildCall.{BuildCall, keyRowWords, buildAnswer, orderExit, keyExit}
+use Rattle.calls.specs.DrawCall.{DrawCall, drawAnswer, wordExit}
 
 -- ---- the terms
 
@@ -45,7 +45,7 @@ Built z i = buildAnswer z i ≡ 0
 
 -- and its R the key's words lent back: row j is that stretch of them
 unfoldable pub builtKey : Sizes → BuildCall → Key
-builtKey z i j = tritAt (rowPart (keyOnesExit z i) (dim z) (keyRowWords z) j) (rowPart (keyTwosExit z i) (dim z) (keyRowWords z) j)
+builtKey z i j = tritAt (rowPart (keyExit z i .ones) (dim z) (keyRowWords z) j) (rowPart (keyExit z i .twos) (dim z) (keyRowWords z) j)
 
 -- ---- a draw under it
 
@@ -80,30 +80,30 @@ pub record Under (z : Sizes) (i : BuildCall) (l : DrawCall) : Type 0 where
 -- it releases the word e: it ends without a refusal and hands out that word, in its n places
 pub record HandsOut (z : Sizes) (l : DrawCall) (e : Vector) : Type 0 where
   pub passed : drawAnswer z l ≡ 0
-  pub word : (q : ℕ) → q < places z → tritAt (wordOnesExit z l) (wordTwosExit z l) q ≡ e q
+  pub word : (q : ℕ) → q < places z → tritAt (wordExit z l .ones) (wordExit z l .twos) q ≡ e q
 
 -- what is supplied to a draw can be lent: orders of 16-bit numbers, planes of 64-bit words
 pub record Lendable (l : DrawCall) : Type 0 where
   pub order-v : Bits 16 (l .orderV)
-  pub v-ones : Bits 64 (l .vOnes)
-  pub v-twos : Bits 64 (l .vTwos)
+  pub v-ones : Bits 64 (l .v .ones)
+  pub v-twos : Bits 64 (l .v .twos)
   pub order-u : Bits 16 (l .orderU)
-  pub u-ones : Bits 64 (l .uOnes)
-  pub u-twos : Bits 64 (l .uTwos)
-  pub word-ones : Bits 64 (l .wordOnes)
-  pub word-twos : Bits 64 (l .wordTwos)
-  pub s-ones : Bits 64 (l .sOnes)
-  pub s-twos : Bits 64 (l .sTwos)
-  pub work-ones : Bits 64 (l .workOnes)
-  pub work-twos : Bits 64 (l .workTwos)
+  pub u-ones : Bits 64 (l .u .ones)
+  pub u-twos : Bits 64 (l .u .twos)
+  pub word-ones : Bits 64 (l .word .ones)
+  pub word-twos : Bits 64 (l .word .twos)
+  pub s-ones : Bits 64 (l .s .ones)
+  pub s-twos : Bits 64 (l .s .twos)
+  pub work-ones : Bits 64 (l .work .ones)
+  pub work-twos : Bits 64 (l .work .twos)
 
 -- some draw under the key releases e for y, with any V order, V trits, U order and U values
 pub record SomeDraw (z : Sizes) (i : BuildCall) (g w : ℕ) (yOnes yTwos : List ℕ) (e : Vector) : Type 0 where
   pub call : DrawCall
   pub lendable : Lendable call
   pub under : Under z i call
-  pub y-ones : call .yOnes ≡ yOnes
-  pub y-twos : call .yTwos ≡ yTwos
+  pub y-ones : call .y .ones ≡ yOnes
+  pub y-twos : call .y .twos ≡ yTwos
   pub releases : HandsOut (sized z g w) call e
 
 -- the terms of the word e for y under that key, at that g and w

@@ -17,8 +17,8 @@ use Rattle.held_key.specs.Load.{Holding, offerAll}
 use Rattle.check_tests.specs.Check.{Check, PackedCheck}
 use Rattle.scheme.specs.declared.sizes.Sizes.{Sizes}
 use Rattle.scheme.specs.Sizes.{dim, codim}
-use Rattle.calls.specs.BuildCall.{BuildCall, keyRowWords, keyOnesExit, keyTwosExit}
-use Rattle.calls.specs.DrawCall.{DrawCall, sOnesExit, sTwosExit}
+use Rattle.calls.specs.BuildCall.{BuildCall, keyRowWords, keyExit}
+use Rattle.calls.specs.DrawCall.{DrawCall, sExit}
 use Rattle.wave.specs.Terms.{sized}
 
 -- ---- what a check finds: its answer is `checkAnswer`, or `checkPackedAnswer` where y and s are packed
@@ -57,7 +57,7 @@ pub record Host (z : Sizes) : Type 0 where
 abbrev pub packedKeyRow : (z : Sizes) → BuildCall → Host z → ℕ → List ℕ
 packedKeyRow z i m j =
     let part : List ℕ → List ℕ = λ plane. rowPart plane (dim z) (keyRowWords z) j in
-    packExit (packOf (codim z) (part (keyOnesExit z i)) (part (keyTwosExit z i)) (m .rowBytes j))
+    packExit (packOf (codim z) (part (keyExit z i .ones)) (part (keyExit z i .twos)) (m .rowBytes j))
 
 -- the module begins a key with these numbers, and its k packed rows are stored one after another
 abbrev pub carried : (z : Sizes) → BuildCall → ℕ → Host z → Holding
@@ -70,8 +70,8 @@ carriedCheck z i g w l m = record {
   number = m .number;
   ones = carried z i w m .ones;
   twos = carried z i w m .twos;
-  y = packExit (packOf (codim z) (l .yOnes) (l .yTwos) (m .yBytes));
-  s = packExit (packOf (dim z) (sOnesExit (sized z g w) l) (sTwosExit (sized z g w) l) (m .sBytes));
+  y = packExit (packOf (codim z) (l .y .ones) (l .y .twos) (m .yBytes));
+  s = packExit (packOf (dim z) (sExit (sized z g w) l .ones) (sExit (sized z g w) l .twos) (m .sBytes));
   workOnes = m .workOnes;
   workTwos = m .workTwos;
 }
@@ -83,10 +83,10 @@ carriedPlanes z i g w l m = record {
   number = m .number;
   ones = carried z i w m .ones;
   twos = carried z i w m .twos;
-  yOnes = l .yOnes;
-  yTwos = l .yTwos;
-  sOnes = sOnesExit (sized z g w) l;
-  sTwos = sTwosExit (sized z g w) l;
+  yOnes = l .y .ones;
+  yTwos = l .y .twos;
+  sOnes = sExit (sized z g w) l .ones;
+  sTwos = sExit (sized z g w) l .twos;
   workOnes = m .workOnes;
   workTwos = m .workTwos;
 }

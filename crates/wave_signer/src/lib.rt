@@ -1,8 +1,9 @@
 // The editor's half for C: each call in numbers. Nothing but what a host needs is exported.
 ghost use mathlib.Core.Path.{_≡_};
+ghost use Rattle.trits.specs.Planes.{pairOf};
 ghost use Rattle.calls.specs.Lent.{planes};
-ghost use Rattle.calls.specs.BuildCall.{buildCall, buildAnswer, orderExit, keyOnesExit, keyTwosExit, buildWorkOnesExit, buildWorkTwosExit};
-ghost use Rattle.calls.specs.DrawCall.{drawCall, drawAnswer, wordOnesExit, wordTwosExit, sOnesExit, sTwosExit, drawWorkOnesExit, drawWorkTwosExit};
+ghost use Rattle.calls.specs.BuildCall.{buildCall, buildAnswer, orderExit, keyExit, buildWorkExit};
+ghost use Rattle.calls.specs.DrawCall.{drawCall, drawAnswer, wordExit, sExit, drawWorkExit};
 use scheme::sizes::Sizes;
 
 // `build` for C: 0, or the number of the refusal.
@@ -27,8 +28,8 @@ pub extern "C" fn wave_build(
     ensures { λ r. ⌜ (let i = buildCall (planes (now («hu_ones» .entry)) (now («hu_twos» .entry)) (now («hv_ones» .entry)) (now («hv_twos» .entry))
         (now («b_ones» .entry)) (now («b_twos» .entry)) (now («c_ones» .entry)) (now («c_twos» .entry)))
         (now (start .entry)) (now (p .entry)) (now («key_ones» .entry)) (now («key_twos» .entry)) (now («work_ones» .entry)) (now («work_twos» .entry)) in
-        (r ≡ buildAnswer z i) × (now (p .exit) ≡ orderExit z i) × (now («key_ones» .exit) ≡ keyOnesExit z i) × (now («key_twos» .exit) ≡ keyTwosExit z i)
-        × (now («work_ones» .exit) ≡ buildWorkOnesExit z i) × (now («work_twos» .exit) ≡ buildWorkTwosExit z i)) ⌝ }
+        (r ≡ buildAnswer z i) × (now (p .exit) ≡ orderExit z i) × (pairOf (now («key_ones» .exit)) (now («key_twos» .exit)) ≡ keyExit z i)
+        × (pairOf (now («work_ones» .exit)) (now («work_twos» .exit)) ≡ buildWorkExit z i)) ⌝ }
 {
     let outcome = build::build(
         z,
@@ -83,8 +84,8 @@ pub extern "C" fn wave_draw(
         (now (p .entry)) (now («y_ones» .entry)) (now («y_twos» .entry)) (now («v_order» .entry)) (now («v_ones» .entry)) (now («v_twos» .entry))
         (now («u_order» .entry)) (now («u_ones» .entry)) (now («u_twos» .entry))
         (now («word_ones» .entry)) (now («word_twos» .entry)) (now («s_ones» .entry)) (now («s_twos» .entry)) (now («work_ones» .entry)) (now («work_twos» .entry))) in
-        (r ≡ drawAnswer z i) × (now («word_ones» .exit) ≡ wordOnesExit z i) × (now («word_twos» .exit) ≡ wordTwosExit z i) × (now («s_ones» .exit) ≡ sOnesExit z i) × (now («s_twos» .exit) ≡ sTwosExit z i)
-        × (now («work_ones» .exit) ≡ drawWorkOnesExit z i) × (now («work_twos» .exit) ≡ drawWorkTwosExit z i)) ⌝ }
+        (r ≡ drawAnswer z i) × (pairOf (now («word_ones» .exit)) (now («word_twos» .exit)) ≡ wordExit z i) × (pairOf (now («s_ones» .exit)) (now («s_twos» .exit)) ≡ sExit z i)
+        × (pairOf (now («work_ones» .exit)) (now («work_twos» .exit)) ≡ drawWorkExit z i)) ⌝ }
 {
     let outcome = draw::draw(
         z,

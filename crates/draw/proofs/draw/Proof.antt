@@ -1,19 +1,20 @@
 -- Each return has the number of the first test that applies; nothing is written before all tests have passed, and then what `finish` says.
 -- Assumes nothing.
-use Prim.Native.Nat.{ℕ}
-use mathlib.Core.Path.{sym, ap, _∙_}
+use Prim.Native.Nat.{ℕ, _≤_, _<_}
+use mathlib.Core.Path.{_≡_, sym, ap, ap₂, _∙_}
+use mathlib.Core.Bool.{true, false}
 use native.Mathlib.Omega.{arith}
 use denote.Ref.{now}
 use lib.Dec.{lit<}
-use Rattle.trits.specs.Trit.{upTo}
-use Rattle.trits.specs.Planes.{wordsFor, onesOf, twosOf}
+use Rattle.trits.specs.Planes.{Pair, pairOf, rowPair}
 use Rattle.trits.specs.Refusal.{first, atExit, spaceExit}
 use Rattle.trits.proofs.Refusals.{exit-kept}
 use Rattle.matrix.proofs.Field.{not-true, not-false}
-use Rattle.scheme.specs.Sizes.{places, dim}
+use Rattle.scheme.specs.declared.sizes.Sizes.{Sizes}
+use Rattle.scheme.specs.Sizes.{places, dim, sizesFit}
 use Rattle.scheme.specs.Draw.{signature}
 use Rattle.calls.specs.Lent.{planes, secretOf, secretRefusal}
-use Rattle.calls.specs.DrawCall.{drawCall, syndromeOf, choicesOf, wordOf, wordOnesExit, wordTwosExit, sOnesExit, sTwosExit, drawWorkOnesExit, drawWorkTwosExit}
+use Rattle.calls.specs.DrawCall.{DrawCall, drawCall, syndromeOf, choicesOf, drawLengthsDiffer, drawAnswer, wordOf, wordExit, sExit, drawWorkExit}
 use Rattle.calls.proofs.Exits.{positive, work-kept}
 use Rattle.calls.proofs.Secrets.{readable}
 use Rattle.draw_tests.proofs.Answers.{same-lengths, same-choices, answer-size, answer-length, answer-contents, answer-ending, contents-le, contents-secret, work-ended, lengths-secret, lengths-choices, ready}
@@ -21,57 +22,95 @@ use borrow.Author.Needs.{needs}
 use Rattle.draw.proofs.draw.Statement.{statement}
 use Rattle.draw.proofs.draw.Tie as tie
 
-sizes-fit-requires : tie.Need-sizes-fit-requires
-sizes-fit-requires c κs = search needs
-
 returns : tie.Need-returns
-unfolding wordOnesExit wordTwosExit sOnesExit sTwosExit drawWorkOnesExit drawWorkTwosExit
+unfolding wordExit sExit drawWorkExit
 returns c =
     let h = sym (c .before .sizes-fit .ensures) ∙ not-true (c .before .sizes-fit .result) (c .if1 .taken) in (
       answer-size _ _ h,
-      exit-kept _ _ (answer-size _ _ h) (lit< tt),
-      exit-kept _ _ (answer-size _ _ h) (lit< tt),
-      exit-kept _ _ (answer-size _ _ h) (lit< tt),
-      exit-kept _ _ (answer-size _ _ h) (lit< tt),
-      work-kept _ (answer-size _ _ h) (lit< tt) (lit< tt),
-      work-kept _ (answer-size _ _ h) (lit< tt) (lit< tt),
+      ap₂ pairOf (exit-kept _ _ (answer-size _ _ h) (lit< tt)) (exit-kept _ _ (answer-size _ _ h) (lit< tt)),
+      ap₂ pairOf (exit-kept _ _ (answer-size _ _ h) (lit< tt)) (exit-kept _ _ (answer-size _ _ h) (lit< tt)),
+      ap₂ pairOf (work-kept _ (answer-size _ _ h) (lit< tt) (lit< tt)) (work-kept _ (answer-size _ _ h) (lit< tt) (lit< tt)),
     )
 
+-- the entry, and what is lent there
+abbrev entry : tie.After-sizes-fit → tie.Start
+entry c = c .before .before .before .before .before .before .before .before .before .before .before .before .before .before .before .before .before .before .before .before .before .before .before .before
+
+abbrev lent : tie.Start → DrawCall
+lent s =
+    let a = s .args in
+    drawCall (planes (now (a .hu-ones)) (now (a .hu-twos)) (now (a .hv-ones)) (now (a .hv-twos)) (now (a .b-ones)) (now (a .b-twos)) (now (a .c-ones)) (now (a .c-twos)))
+    (now (a .p)) (now (a .y-ones)) (now (a .y-twos)) (now (a .v-order)) (now (a .v-ones)) (now (a .v-twos)) (now (a .u-order)) (now (a .u-ones)) (now (a .u-twos))
+    (now (a .word-ones)) (now (a .word-twos)) (now (a .s-ones)) (now (a .s-twos)) (now (a .work-ones)) (now (a .work-twos))
+
+-- every buffer stays where the answer is from 1 to 8
+kept : (z : Sizes) (i : DrawCall) {r : ℕ} → r ≡ drawAnswer z i → 0 < r → r ≤ 8 → (i .word ≡ wordExit z i) × (i .s ≡ sExit z i) × (i .work ≡ drawWorkExit z i)
+unfolding wordExit sExit drawWorkExit
+kept z i e h g = (
+  ap₂ pairOf (exit-kept _ _ e h) (exit-kept _ _ e h),
+  ap₂ pairOf (exit-kept _ _ e h) (exit-kept _ _ e h),
+  ap₂ pairOf (work-kept _ e h g) (work-kept _ e h g),
+)
+
+-- the sizes and the lengths are right
+fits : (c : tie.Else1) → sizesFit (entry (c .before) .args .z) ≡ true
+fits c = sym (c .before .sizes-fit .ensures) ∙ not-false (c .before .sizes-fit .result) (c .if1 .left)
+
+lengths : (c : tie.Else2) → drawLengthsDiffer (entry (c .before .before .before) .args .z) (lent (entry (c .before .before .before))) ≡ false
+lengths c = same-lengths _ _ (sym (c .before .lengths-differ .ensures) ∙ c .if2 .left)
+
+sizes-fit-requires : tie.Need-sizes-fit-requires
+sizes-fit-requires c κs = search needs
+
 lengths-differ-requires : tie.Need-lengths-differ-requires
-lengths-differ-requires c κs =
-    sym (c .before .sizes-fit .ensures) ∙ not-false (c .before .sizes-fit .result) (c .if1 .left)
+lengths-differ-requires c κs = fits c
 
 returns-2 : tie.Need-returns-2
-unfolding wordOnesExit wordTwosExit sOnesExit sTwosExit drawWorkOnesExit drawWorkTwosExit
 returns-2 c =
-    let s = c .before .before .before .before .before .before .before .before .before .before .before .before .before .before .before .before .before .before .before .before .before .before .before .before .before .before .before in let a = s .args in let i = (drawCall (planes (now (a .hu-ones)) (now (a .hu-twos)) (now (a .hv-ones)) (now (a .hv-twos)) (now (a .b-ones)) (now (a .b-twos)) (now (a .c-ones)) (now (a .c-twos))) (now (a .p)) (now (a .y-ones)) (now (a .y-twos)) (now (a .v-order)) (now (a .v-ones)) (now (a .v-twos)) (now (a .u-order)) (now (a .u-ones)) (now (a .u-twos)) (now (a .word-ones)) (now (a .word-twos)) (now (a .s-ones)) (now (a .s-twos)) (now (a .work-ones)) (now (a .work-twos))) in let z = sym (c .before .before .before .sizes-fit .ensures) ∙ not-false (c .before .before .before .sizes-fit .result) (c .before .before .if1 .left) in let f = answer-length (a .z) i z (same-lengths (a .z) i (sym (c .before .lengths-differ .ensures) ∙ c .if2 .taken)) in (f, exit-kept _ _ f (lit< tt), exit-kept _ _ f (lit< tt), exit-kept _ _ f (lit< tt), exit-kept _ _ f (lit< tt), work-kept _ f (lit< tt) (lit< tt), work-kept _ f (lit< tt) (lit< tt))
+    let s = entry (c .before .before .before) in
+    let f = answer-length (s .args .z) (lent s) (fits (c .before .before)) (same-lengths (s .args .z) (lent s) (sym (c .before .lengths-differ .ensures) ∙ c .if2 .taken)) in
+    let k = kept (s .args .z) (lent s) f (lit< tt) (lit< tt) in
+    (f, k .0, k .1, k .2)
 
 test-contents-requires : tie.Need-test-contents-requires
 test-contents-requires c κs =
-    let s = c .before .before .before .before .before .before .before .before .before .before .before .before .before .before .before .before .before .before .before .before .before .before .before .before .before .before .before in let a = s .args in let i = (drawCall (planes (now (a .hu-ones)) (now (a .hu-twos)) (now (a .hv-ones)) (now (a .hv-twos)) (now (a .b-ones)) (now (a .b-twos)) (now (a .c-ones)) (now (a .c-twos))) (now (a .p)) (now (a .y-ones)) (now (a .y-twos)) (now (a .v-order)) (now (a .v-ones)) (now (a .v-twos)) (now (a .u-order)) (now (a .u-ones)) (now (a .u-twos)) (now (a .word-ones)) (now (a .word-twos)) (now (a .s-ones)) (now (a .s-twos)) (now (a .work-ones)) (now (a .work-twos))) in let z = sym (c .before .before .before .sizes-fit .ensures) ∙ not-false (c .before .before .before .sizes-fit .result) (c .before .before .if1 .left) in let d = same-lengths (a .z) i (sym (c .before .lengths-differ .ensures) ∙ c .if2 .left) in let l = lengths-secret (a .z) i d in let k = lengths-choices (a .z) i d in (z, ((l .hu1, l .hu2, l .hv1, l .hv2, l .b1, l .b2, l .c1, l .c2), (k .order, k .yOnes, k .yTwos, k .orderV, k .vOnes, k .vTwos, k .orderU, k .uOnes, k .uTwos)))
+    let s = entry (c .before .before .before) in
+    let l = lengths-secret (s .args .z) (lent s) (lengths c) in
+    let k = lengths-choices (s .args .z) (lent s) (lengths c) in
+    (fits (c .before .before), ((l .hu1, l .hu2, l .hv1, l .hv2, l .b1, l .b2, l .c1, l .c2), (k .order, k .yOnes, k .yTwos, k .orderV, k .vOnes, k .vTwos, k .orderU, k .uOnes, k .uTwos)))
 
 code-requires : tie.Need-code-requires
 code-requires c κs = search needs
 
 returns-3 : tie.Need-returns-3
-unfolding wordOnesExit wordTwosExit sOnesExit sTwosExit drawWorkOnesExit drawWorkTwosExit
 returns-3 c =
-    let s = c .before .before .before .before .before .before .before .before .before .before .before .before .before .before .before .before .before .before .before .before .before .before .before .before .before .before .before .before .before .before in let a = s .args in let i = (drawCall (planes (now (a .hu-ones)) (now (a .hu-twos)) (now (a .hv-ones)) (now (a .hv-twos)) (now (a .b-ones)) (now (a .b-twos)) (now (a .c-ones)) (now (a .c-twos))) (now (a .p)) (now (a .y-ones)) (now (a .y-twos)) (now (a .v-order)) (now (a .v-ones)) (now (a .v-twos)) (now (a .u-order)) (now (a .u-ones)) (now (a .u-twos)) (now (a .word-ones)) (now (a .word-twos)) (now (a .s-ones)) (now (a .s-twos)) (now (a .work-ones)) (now (a .work-twos))) in let z = sym (c .before .before .before .before .before .before .sizes-fit .ensures) ∙ not-false (c .before .before .before .before .before .before .sizes-fit .result) (c .before .before .before .before .before .if1 .left) in let d = same-lengths (a .z) i (sym (c .before .before .before .before .lengths-differ .ensures) ∙ c .before .before .before .if2 .left) in let e = c .before .before .test-contents .ensures ∙ ap (first (secretRefusal (a .z) (i .secret))) (same-choices (a .z) i) in
-    let b = c .before .code .ensures in
-    let q = c .if3 .taken in
-    let g = answer-contents (a .z) i z d (b ∙ e) q in (
-      sym b ∙ g,
-      exit-kept _ _ g (positive _ q),
-      exit-kept _ _ g (positive _ q),
-      exit-kept _ _ g (positive _ q),
-      exit-kept _ _ g (positive _ q),
-      work-kept _ g (positive _ q) (omega (arith, b, e, contents-le (a .z) i)),
-      work-kept _ g (positive _ q) (omega (arith, b, e, contents-le (a .z) i)),
-    )
+    let s = entry (c .before .before .before .before .before .before) in
+    let z = s .args .z in
+    let told = c .before .code .ensures in
+    let e = c .before .before .test-contents .ensures ∙ ap (first (secretRefusal z (lent s .secret))) (same-choices z (lent s)) in
+    let g = answer-contents z (lent s) (fits (c .before .before .before .before .before)) (lengths (c .before .before .before)) (told ∙ e) (c .if3 .taken) in
+    let k = kept z (lent s) g (positive _ (c .if3 .taken)) (omega (arith, told, e, contents-le z (lent s))) in
+    (sym told ∙ g, k .0, k .1, k .2)
 
 finish-requires : tie.Need-finish-requires
 finish-requires c κs =
-    let s = c .before .before .before .before .before .before .before .before .before .before .before .before .before .before .before .before .before .before .before .before .before .before .before .before .before .before .before .before .before .before .before .before .before .before .before .before in let a = s .args in let i = (drawCall (planes (now (a .hu-ones)) (now (a .hu-twos)) (now (a .hv-ones)) (now (a .hv-twos)) (now (a .b-ones)) (now (a .b-twos)) (now (a .c-ones)) (now (a .c-twos))) (now (a .p)) (now (a .y-ones)) (now (a .y-twos)) (now (a .v-order)) (now (a .v-ones)) (now (a .v-twos)) (now (a .u-order)) (now (a .u-ones)) (now (a .u-twos)) (now (a .word-ones)) (now (a .word-twos)) (now (a .s-ones)) (now (a .s-twos)) (now (a .work-ones)) (now (a .work-twos))) in let z = sym (c .before .before .before .before .before .before .before .before .before .before .before .before .sizes-fit .ensures) ∙ not-false (c .before .before .before .before .before .before .before .before .before .before .before .before .sizes-fit .result) (c .before .before .before .before .before .before .before .before .before .before .before .if1 .left) in let d = same-lengths (a .z) i (sym (c .before .before .before .before .before .before .before .before .before .before .lengths-differ .ensures) ∙ c .before .before .before .before .before .before .before .before .before .if2 .left) in let e = c .before .before .before .before .before .before .before .before .test-contents .ensures ∙ ap (first (secretRefusal (a .z) (i .secret))) (same-choices (a .z) i) in let y = sym e ∙ sym (c .before .before .before .before .before .before .before .code .ensures) ∙ c .before .before .before .before .before .before .if3 .left in let q = contents-secret (a .z) i y in let l = lengths-choices (a .z) i d in (z, (ready (a .z) i d y (readable (a .z) (i .secret) (lengths-secret (a .z) i d) q (λ j. c .before .before .before .before .before .before .before .before .before .before .before .before .before .before .before .before .before .before .before .before .before .before .before .before .before .before .before .before .before .before .before .before .before .before .before .shared-slice-known .given j) (λ j. c .before .before .before .before .before .before .before .before .before .before .before .before .before .before .before .before .before .before .before .before .before .before .before .before .before .before .before .before .before .before .before .before .before .before .shared-slice-known2 .given j) (λ j. c .before .before .before .before .before .before .before .before .before .before .before .before .before .before .before .before .before .before .before .before .before .before .before .before .before .before .before .before .before .before .before .before .before .shared-slice-known3 .given j) (λ j. c .before .before .before .before .before .before .before .before .before .before .before .before .before .before .before .before .before .before .before .before .before .before .before .before .before .before .before .before .before .before .before .before .shared-slice-known4 .given j) (λ j. c .before .before .before .before .before .before .before .before .before .before .before .before .before .before .before .before .before .before .before .before .before .before .before .before .before .before .before .before .before .before .before .shared-slice-known5 .given j) (λ j. c .before .before .before .before .before .before .before .before .before .before .before .before .before .before .before .before .before .before .before .before .before .before .before .before .before .before .before .before .before .before .shared-slice-known6 .given j) (λ j. c .before .before .before .before .before .before .before .before .before .before .before .before .before .before .before .before .before .before .before .before .before .before .before .before .before .before .before .before .before .shared-slice-known7 .given j) (λ j. c .before .before .before .before .before .before .before .before .before .before .before .before .before .before .before .before .before .before .before .before .before .before .before .before .before .before .before .before .shared-slice-known8 .given j)) (λ j. c .before .before .before .before .before .before .before .before .before .before .before .before .before .before .before .before .before .before .before .before .before .before .before .before .before .before .shared-slice-known10 .given j) (λ j. c .before .before .before .before .before .before .before .before .before .before .before .before .before .before .before .before .before .before .before .before .before .before .before .before .before .shared-slice-known11 .given j) (λ j. c .before .before .before .before .before .before .before .before .before .before .before .before .before .before .before .before .before .before .before .before .before .before .before .shared-slice-known13 .given j) (λ j. c .before .before .before .before .before .before .before .before .before .before .before .before .before .before .before .before .before .before .before .before .before .before .shared-slice-known14 .given j) (λ j. c .before .before .before .before .before .before .before .before .before .before .before .before .before .before .before .before .before .before .before .before .shared-slice-known16 .given j) (λ j. c .before .before .before .before .before .before .before .before .before .before .before .before .before .before .before .before .before .before .before .shared-slice-known17 .given j), (l .wordOnes, l .wordTwos, l .sOnes, l .sTwos, l .workOnes, l .workTwos)))
+    let s = entry (c .before .before .before .before .before .before .before .before .before .before .before .before) in
+    let z = s .args .z in
+    let d = lengths (c .before .before .before .before .before .before .before .before .before) in
+    let e = c .before .before .before .before .before .before .before .before .test-contents .ensures ∙ ap (first (secretRefusal z (lent s .secret))) (same-choices z (lent s)) in
+    let y = sym e ∙ sym (c .before .before .before .before .before .before .before .code .ensures) ∙ c .before .before .before .before .before .before .if3 .left in
+    let l = lengths-choices z (lent s) d in
+    let r = readable z (lent s .secret) (lengths-secret z (lent s) d) (contents-secret z (lent s) y) (λ j. c .before .before .before .before .before .before .before .before .before .before .before .before .before .before .before .before .before .before .before .before .before .before .before .before .before .before .before .before .before .before .before .before .before .before .before .shared-slice-known .given j)
+    (λ j. c .before .before .before .before .before .before .before .before .before .before .before .before .before .before .before .before .before .before .before .before .before .before .before .before .before .before .before .before .before .before .before .before .before .before .shared-slice-known2 .given j) (λ j. c .before .before .before .before .before .before .before .before .before .before .before .before .before .before .before .before .before .before .before .before .before .before .before .before .before .before .before .before .before .before .before .before .before .shared-slice-known3 .given j) (λ j. c .before .before .before .before .before .before .before .before .before .before .before .before .before .before .before .before .before .before .before .before .before .before .before .before .before .before .before .before .before .before .before .before .shared-slice-known4 .given j)
+    (λ j. c .before .before .before .before .before .before .before .before .before .before .before .before .before .before .before .before .before .before .before .before .before .before .before .before .before .before .before .before .before .before .before .shared-slice-known5 .given j) (λ j. c .before .before .before .before .before .before .before .before .before .before .before .before .before .before .before .before .before .before .before .before .before .before .before .before .before .before .before .before .before .before .shared-slice-known6 .given j) (λ j. c .before .before .before .before .before .before .before .before .before .before .before .before .before .before .before .before .before .before .before .before .before .before .before .before .before .before .before .before .before .shared-slice-known7 .given j)
+    (λ j. c .before .before .before .before .before .before .before .before .before .before .before .before .before .before .before .before .before .before .before .before .before .before .before .before .before .before .before .before .shared-slice-known8 .given j) in (
+      fits (c .before .before .before .before .before .before .before .before .before .before .before),
+      (
+        ready z (lent s) d y r (λ j. c .before .before .before .before .before .before .before .before .before .before .before .before .before .before .before .before .before .before .before .before .before .before .before .before .before .before .shared-slice-known10 .given j) (λ j. c .before .before .before .before .before .before .before .before .before .before .before .before .before .before .before .before .before .before .before .before .before .before .before .before .before .shared-slice-known11 .given j) (λ j. c .before .before .before .before .before .before .before .before .before .before .before .before .before .before .before .before .before .before .before .before .before .before .before .shared-slice-known13 .given j)
+            (λ j. c .before .before .before .before .before .before .before .before .before .before .before .before .before .before .before .before .before .before .before .before .before .before .shared-slice-known14 .given j) (λ j. c .before .before .before .before .before .before .before .before .before .before .before .before .before .before .before .before .before .before .before .before .shared-slice-known16 .given j) (λ j. c .before .before .before .before .before .before .before .before .before .before .before .before .before .before .before .before .before .before .before .shared-slice-known17 .given j),
+        (l .wordOnes, l .wordTwos, l .sOnes, l .sTwos, l .workOnes, l .workTwos),
+      ),
+    )
 
 same-length : tie.Need-same-length
 same-length c = search needs
@@ -92,9 +131,22 @@ same-length-6 : tie.Need-same-length-6
 same-length-6 c = search needs
 
 returns-4 : tie.Need-returns-4
-unfolding wordOf wordOnesExit wordTwosExit sOnesExit sTwosExit drawWorkOnesExit drawWorkTwosExit
+unfolding wordOf wordExit sExit drawWorkExit
 returns-4 c =
-    let s = c .before .before .before .before .before .before .before .before .before .before .before .before .before .before .before .before .before .before .before .before .before .before .before .before .before .before .before .before .before .before .before .before .before .before .before .before .before .before .before .before .before .before .before .before .before .before .before .before .before in let a = s .args in let i = (drawCall (planes (now (a .hu-ones)) (now (a .hu-twos)) (now (a .hv-ones)) (now (a .hv-twos)) (now (a .b-ones)) (now (a .b-twos)) (now (a .c-ones)) (now (a .c-twos))) (now (a .p)) (now (a .y-ones)) (now (a .y-twos)) (now (a .v-order)) (now (a .v-ones)) (now (a .v-twos)) (now (a .u-order)) (now (a .u-ones)) (now (a .u-twos)) (now (a .word-ones)) (now (a .word-twos)) (now (a .s-ones)) (now (a .s-twos)) (now (a .work-ones)) (now (a .work-twos))) in let z = sym (c .before .before .before .before .before .before .before .before .before .before .before .before .before .before .before .before .before .before .before .before .before .before .before .before .before .sizes-fit .ensures) ∙ not-false (c .before .before .before .before .before .before .before .before .before .before .before .before .before .before .before .before .before .before .before .before .before .before .before .before .before .sizes-fit .result) (c .before .before .before .before .before .before .before .before .before .before .before .before .before .before .before .before .before .before .before .before .before .before .before .before .if1 .left) in let d = same-lengths (a .z) i (sym (c .before .before .before .before .before .before .before .before .before .before .before .before .before .before .before .before .before .before .before .before .before .before .before .lengths-differ .ensures) ∙ c .before .before .before .before .before .before .before .before .before .before .before .before .before .before .before .before .before .before .before .before .before .before .if2 .left) in let e = c .before .before .before .before .before .before .before .before .before .before .before .before .before .before .before .before .before .before .before .before .before .test-contents .ensures ∙ ap (first (secretRefusal (a .z) (i .secret))) (same-choices (a .z) i) in let y = sym e ∙ sym (c .before .before .before .before .before .before .before .before .before .before .before .before .before .before .before .before .before .before .before .before .code .ensures) ∙ c .before .before .before .before .before .before .before .before .before .before .before .before .before .before .before .before .before .before .before .if3 .left in let g = answer-ending (a .z) i z d y in let n = c .before .before .before .before .before .before .before .before .before .before .before .before .finish .ensures in (n .0 ∙ g, n .1 ∙ ap (λ (r : ℕ). atExit r (onesOf (upTo (places (a .z)) (wordOf (a .z) i)) (wordsFor (places (a .z)))) (i .wordOnes)) g, n .2 ∙ ap (λ (r : ℕ). atExit r (twosOf (upTo (places (a .z)) (wordOf (a .z) i)) (wordsFor (places (a .z)))) (i .wordTwos)) g, n .3 ∙ ap (λ (r : ℕ). atExit r (onesOf (upTo (dim (a .z)) (signature (a .z) (wordOf (a .z) i))) (wordsFor (dim (a .z)))) (i .sOnes)) g, n .4 ∙ ap (λ (r : ℕ). atExit r (twosOf (upTo (dim (a .z)) (signature (a .z) (wordOf (a .z) i))) (wordsFor (dim (a .z)))) (i .sTwos)) g, n .5 ∙ work-ended (a .z) (secretOf (a .z) (i .secret)) (i .p) (syndromeOf i) (choicesOf i) (i .workOnes) ∙ ap (λ (r : ℕ). spaceExit r (i .workOnes)) g, n .6 ∙ work-ended (a .z) (secretOf (a .z) (i .secret)) (i .p) (syndromeOf i) (choicesOf i) (i .workTwos) ∙ ap (λ (r : ℕ). spaceExit r (i .workTwos)) g)
+    let s = entry (c .before .before .before .before .before .before .before .before .before .before .before .before .before .before .before .before .before .before .before .before .before .before .before .before .before) in
+    let z = s .args .z in
+    let i = lent s in
+    let e = c .before .before .before .before .before .before .before .before .before .before .before .before .before .before .before .before .before .before .before .before .before .test-contents .ensures ∙ ap (first (secretRefusal z (i .secret))) (same-choices z i) in
+    let g = answer-ending z i (fits (c .before .before .before .before .before .before .before .before .before .before .before .before .before .before .before .before .before .before .before .before .before .before .before .before)) (lengths (c .before .before .before .before .before .before .before .before .before .before .before .before .before .before .before .before .before .before .before .before .before .before)) (sym e ∙ sym (c .before .before .before .before .before .before .before .before .before .before .before .before .before .before .before .before .before .before .before .before .code .ensures) ∙ c .before .before .before .before .before .before .before .before .before .before .before .before .before .before .before .before .before .before .before .if3 .left) in
+    let w : Pair = rowPair (places z) (wordOf z i) in
+    let t : Pair = rowPair (dim z) (signature z (wordOf z i)) in
+    let n = c .before .before .before .before .before .before .before .before .before .before .before .before .finish .ensures in (
+      n .0 ∙ g,
+      ap₂ pairOf (n .1 ∙ ap (λ (r : ℕ). atExit r (w .ones) (i .word .ones)) g) (n .2 ∙ ap (λ (r : ℕ). atExit r (w .twos) (i .word .twos)) g),
+      ap₂ pairOf (n .3 ∙ ap (λ (r : ℕ). atExit r (t .ones) (i .s .ones)) g) (n .4 ∙ ap (λ (r : ℕ). atExit r (t .twos) (i .s .twos)) g),
+      ap₂ pairOf (n .5 ∙ work-ended z (secretOf z (i .secret)) (i .p) (syndromeOf i) (choicesOf i) (i .work .ones) ∙ ap (λ (r : ℕ). spaceExit r (i .work .ones)) g)
+          (n .6 ∙ work-ended z (secretOf z (i .secret)) (i .p) (syndromeOf i) (choicesOf i) (i .work .twos) ∙ ap (λ (r : ℕ). spaceExit r (i .work .twos)) g),
+    )
 
 pub draw-spec : {M : Type 1} → statement M
 draw-spec =

@@ -37,6 +37,47 @@ lent s =
 rows : (c : tie.After-more-rows) → c .more-rows .result ≡ matrixRows (entry c .args .z)
 rows c = rw (c .before .shape-of .ensures) at (c .more-rows .ensures)
 
+-- words made 0 at a length that is also the entry's
+cleared : {w : List ℕ} {n m : ℕ} → w ≡ zeroWords n → n ≡ m → w ≡ zeroWords m
+cleared e d = e ∙ ap zeroWords d
+
+returns : tie.Need-returns
+unfolding wordOf
+returns c =
+    let j = c .before .before .before .before .before .before .before in
+    let k = j .before in
+    let s = entry (k .before .before .before .before .before .before .before .before) in
+    let z = s .args .z in
+    let i = lent s in
+    let told = k .before .before .before .before .before .make-word .ensures in
+    let e = k .code .ensures ∙ told .0 in
+    ⊎-elim
+    (λ w.
+    let n = sym (k .code .ensures) ∙ w .0 .taken in
+    let f = sym e ∙ w .0 .taken in
+    let d = word-written z (secretOf z (i .secret)) (i .p) (syndromeOf i) (choicesOf i) _ _ (told .2 .left n) (told .2 .right n) in
+    let t = signature-written z (secretOf z (i .secret)) (i .p) (syndromeOf i) (choicesOf i) _ _ (told .2 .left n) (told .2 .right n) in
+    let g = w .7 .ensures in (
+      told .0,
+      w .16 ∙ g .0 ∙ ap (λ (v : Vector). onesOf (upTo (places z) v) (wordsFor (places z))) d ∙ exit-new _ _ f,
+      w .17 ∙ g .1 ∙ ap (λ (v : Vector). twosOf (upTo (places z) v) (wordsFor (places z))) d ∙ exit-new _ _ f,
+      w .18 ∙ g .2 ∙ ap (λ (v : Vector). onesOf (upTo (dim z) v) (wordsFor (dim z))) t ∙ exit-new _ _ f,
+      w .19 ∙ g .3 ∙ ap (λ (v : Vector). twosOf (upTo (dim z) v) (wordsFor (dim z))) t ∙ exit-new _ _ f,
+      cleared (c .before .before .before .before .clear .ensures .0) (k .before .before .before .before .work-ones .given),
+      cleared (c .before .before .before .before .clear .ensures .1) (k .before .before .work-twos .given),
+    ))
+    (λ w.
+    let h = positive _ (w .0 .left) in (
+      told .0,
+      w .1 ∙ exit-kept _ _ e h,
+      w .2 ∙ exit-kept _ _ e h,
+      w .3 ∙ exit-kept _ _ e h,
+      w .4 ∙ exit-kept _ _ e h,
+      cleared (c .before .before .before .before .clear .ensures .0) (k .before .before .before .before .work-ones .given),
+      cleared (c .before .before .before .before .clear .ensures .1) (k .before .before .work-twos .given),
+    ))
+    (j .if1 .came)
+
 shape-of-requires : tie.Need-shape-of-requires
 shape-of-requires c κs = search needs
 
@@ -99,47 +140,6 @@ same-length-5 c = search needs
 
 same-length-6 : tie.Need-same-length-6
 same-length-6 c = search needs
-
--- words made 0 at a length that is also the entry's
-cleared : {w : List ℕ} {n m : ℕ} → w ≡ zeroWords n → n ≡ m → w ≡ zeroWords m
-cleared e d = e ∙ ap zeroWords d
-
-returns : tie.Need-returns
-unfolding wordOf
-returns c =
-    let j = c .before .before .before .before .before .before .before in
-    let k = j .before in
-    let s = entry (k .before .before .before .before .before .before .before .before) in
-    let z = s .args .z in
-    let i = lent s in
-    let told = k .before .before .before .before .before .make-word .ensures in
-    let e = k .code .ensures ∙ told .0 in
-    ⊎-elim
-    (λ w.
-    let n = sym (k .code .ensures) ∙ w .0 .taken in
-    let f = sym e ∙ w .0 .taken in
-    let d = word-written z (secretOf z (i .secret)) (i .p) (syndromeOf i) (choicesOf i) _ _ (told .2 .left n) (told .2 .right n) in
-    let t = signature-written z (secretOf z (i .secret)) (i .p) (syndromeOf i) (choicesOf i) _ _ (told .2 .left n) (told .2 .right n) in
-    let g = w .7 .ensures in (
-      told .0,
-      w .16 ∙ g .0 ∙ ap (λ (v : Vector). onesOf (upTo (places z) v) (wordsFor (places z))) d ∙ exit-new _ _ f,
-      w .17 ∙ g .1 ∙ ap (λ (v : Vector). twosOf (upTo (places z) v) (wordsFor (places z))) d ∙ exit-new _ _ f,
-      w .18 ∙ g .2 ∙ ap (λ (v : Vector). onesOf (upTo (dim z) v) (wordsFor (dim z))) t ∙ exit-new _ _ f,
-      w .19 ∙ g .3 ∙ ap (λ (v : Vector). twosOf (upTo (dim z) v) (wordsFor (dim z))) t ∙ exit-new _ _ f,
-      cleared (c .before .before .before .before .clear .ensures .0) (k .before .before .before .before .work-ones .given),
-      cleared (c .before .before .before .before .clear .ensures .1) (k .before .before .work-twos .given),
-    ))
-    (λ w.
-    let h = positive _ (w .0 .left) in (
-      told .0,
-      w .1 ∙ exit-kept _ _ e h,
-      w .2 ∙ exit-kept _ _ e h,
-      w .3 ∙ exit-kept _ _ e h,
-      w .4 ∙ exit-kept _ _ e h,
-      cleared (c .before .before .before .before .clear .ensures .0) (k .before .before .before .before .work-ones .given),
-      cleared (c .before .before .before .before .clear .ensures .1) (k .before .before .work-twos .given),
-    ))
-    (j .if1 .came)
 
 pub finish-spec : {M : Type 1} → statement M
 finish-spec =

@@ -28,7 +28,7 @@ same-length-5 c = search needs
 
 returns : tie.Need-returns
 returns c =
-    let e = c .before .before .before .before .before .before .before .before .before .before .before .build .ensures in (c .code .ensures ∙ e .0, e .1, e .2, e .3, e .4, e .5)
+    let e = c .before .before .before .before .before .before .before .before .before .before .before .build .ensures in (c .code .ensures ∙ e .0, e .1, e .2, e .3)
 
 pub wave-build-spec : {M : Type 1} → statement M
 wave-build-spec =

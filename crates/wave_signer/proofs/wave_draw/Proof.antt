@@ -31,7 +31,7 @@ same-length-6 c = search needs
 
 returns : tie.Need-returns
 returns c =
-    let e = c .before .before .before .before .before .before .before .before .before .before .before .before .before .draw .ensures in (c .code .ensures ∙ e .0, e .1, e .2, e .3, e .4, e .5, e .6)
+    let e = c .before .before .before .before .before .before .before .before .before .before .before .before .before .draw .ensures in (c .code .ensures ∙ e .0, e .1, e .2, e .3)
 
 pub wave-draw-spec : {M : Type 1} → statement M
 wave-draw-spec =

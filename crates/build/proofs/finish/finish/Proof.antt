@@ -36,6 +36,36 @@ told c =
     c .before .before .before .before .before .test-ranks .ensures
     ∙ same-ranks (a .z) (matrices (a .z) (now (a .hu-ones)) (now (a .hu-twos)) (now (a .hv-ones)) (now (a .hv-twos))) (secret (entry c)) refl refl
 
+-- words made 0 at a length that is also the entry's
+cleared : {w : List ℕ} {n m : ℕ} → w ≡ zeroWords n → n ≡ m → w ≡ zeroWords m
+cleared e d = e ∙ ap zeroWords d
+
+returns : tie.Need-returns
+returns c =
+    let j = c .before .before .before .before .before .before .before in
+    let k = j .before in
+    let e = k .code .ensures ∙ told k in
+    ⊎-elim
+    (λ w.
+    let f = sym e ∙ w .0 .taken in (
+      told k,
+      w .17 ∙ w .6 .ensures .0 ∙ exit-new _ _ f,
+      w .18 ∙ w .6 .ensures .1 ∙ exit-new _ _ f,
+      w .19 ∙ w .6 .ensures .2 ∙ exit-new _ _ f,
+      cleared (c .before .before .before .before .clear .ensures .0) (omega (arith, ap length (w .20), w .13 .given, k .before .before .before .before .work-ones .given)),
+      cleared (c .before .before .before .before .clear .ensures .1) (omega (arith, ap length (w .21), w .15 .given, k .before .before .work-twos .given)),
+    ))
+    (λ w.
+    let h = positive _ (w .0 .left) in (
+      told k,
+      w .1 ∙ exit-kept _ _ e h,
+      w .2 ∙ exit-kept _ _ e h,
+      w .3 ∙ exit-kept _ _ e h,
+      cleared (c .before .before .before .before .clear .ensures .0) (omega (arith, ap length (w .4), k .before .before .before .before .work-ones .given)),
+      cleared (c .before .before .before .before .clear .ensures .1) (omega (arith, ap length (w .5), k .before .before .work-twos .given)),
+    ))
+    (j .if1 .came)
+
 test-ranks-requires : tie.Need-test-ranks-requires
 test-ranks-requires c κs = (search needs, (search needs, (search needs, (search needs, search needs))))
 
@@ -83,36 +113,6 @@ same-length-4 c =
 same-length-5 : tie.Need-same-length-5
 same-length-5 c =
     ⊎-elim (λ w. omega (arith, ap length (w .21), w .15 .given, c .before .before .before .before .before .before .before .before .before .before .work-twos .given, c .before .work-twos3 .given)) (λ w. omega (arith, ap length (w .5), c .before .before .before .before .before .before .before .before .before .before .work-twos .given, c .before .work-twos3 .given)) (c .before .before .before .before .before .before .before .if1 .came)
-
--- words made 0 at a length that is also the entry's
-cleared : {w : List ℕ} {n m : ℕ} → w ≡ zeroWords n → n ≡ m → w ≡ zeroWords m
-cleared e d = e ∙ ap zeroWords d
-
-returns : tie.Need-returns
-returns c =
-    let j = c .before .before .before .before .before .before .before in
-    let k = j .before in
-    let e = k .code .ensures ∙ told k in
-    ⊎-elim
-    (λ w.
-    let f = sym e ∙ w .0 .taken in (
-      told k,
-      w .17 ∙ w .6 .ensures .0 ∙ exit-new _ _ f,
-      w .18 ∙ w .6 .ensures .1 ∙ exit-new _ _ f,
-      w .19 ∙ w .6 .ensures .2 ∙ exit-new _ _ f,
-      cleared (c .before .before .before .before .clear .ensures .0) (omega (arith, ap length (w .20), w .13 .given, k .before .before .before .before .work-ones .given)),
-      cleared (c .before .before .before .before .clear .ensures .1) (omega (arith, ap length (w .21), w .15 .given, k .before .before .work-twos .given)),
-    ))
-    (λ w.
-    let h = positive _ (w .0 .left) in (
-      told k,
-      w .1 ∙ exit-kept _ _ e h,
-      w .2 ∙ exit-kept _ _ e h,
-      w .3 ∙ exit-kept _ _ e h,
-      cleared (c .before .before .before .before .clear .ensures .0) (omega (arith, ap length (w .4), k .before .before .before .before .work-ones .given)),
-      cleared (c .before .before .before .before .clear .ensures .1) (omega (arith, ap length (w .5), k .before .before .work-twos .given)),
-    ))
-    (j .if1 .came)
 
 pub finish-spec : {M : Type 1} → statement M
 finish-spec =

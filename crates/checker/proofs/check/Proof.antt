@@ -7,6 +7,7 @@ use Rattle.check_tests.specs.Check.{checkAnswer}
 use Rattle.check_tests.proofs.Passed.{whole, check-passed}
 use Rattle.held_key.proofs.Answers.{positive}
 use Rattle.check_tests.proofs.Answers.{answer-kept, answer-new, leaves-check, left-kept, left-zero}
+use Rattle.checker.proofs.Spaces.{check-spaces}
 use Rattle.checker.proofs.check.Statement.{statement}
 use Rattle.checker.proofs.check.Tie as tie
 
@@ -29,8 +30,11 @@ returns : tie.Need-returns
 unfolding checkAnswer
 returns c =
     let l = positive (λ z. c .before .if1 .taken (c .before .before .code .ensures ∙ z)) in
-    let e = c .before .before .before .test-check .ensures in
-    (c .judge .ensures ∙ answer-kept 0 _ _ e l, left-kept _ e l (leaves-check _), left-kept _ e l (leaves-check _))
+    let e = c .before .before .before .test-check .ensures in (
+      c .judge .ensures ∙ answer-kept 0 _ _ (e ∙ check-spaces _ _ _ _ _ _ _ _ _ _ _ _ (omega arith) (omega arith)) l,
+      left-kept _ (e ∙ check-spaces _ _ _ _ _ _ _ _ _ _ _ _ (omega arith) (omega arith)) l (leaves-check _),
+      left-kept _ (e ∙ check-spaces _ _ _ _ _ _ _ _ _ _ _ _ (omega arith) (omega arith)) l (leaves-check _),
+    )
 
 weigh-requires : tie.Need-weigh-requires
 weigh-requires c κs =

@@ -7,6 +7,7 @@ use Rattle.check_tests.specs.Check.{checkPackedAnswer}
 use Rattle.check_tests.proofs.Passed.{whole, check-packed-passed}
 use Rattle.held_key.proofs.Answers.{positive}
 use Rattle.check_tests.proofs.Answers.{answer-kept, answer-new, leaves-packed-check, left-kept, left-zero}
+use Rattle.checker.proofs.Spaces.{packed-spaces}
 use Rattle.checker.proofs.check_packed.Statement.{statement}
 use Rattle.checker.proofs.check_packed.Tie as tie
 
@@ -29,8 +30,11 @@ returns : tie.Need-returns
 unfolding checkPackedAnswer
 returns c =
     let l = positive (λ z. c .before .if1 .taken (c .before .before .code .ensures ∙ z)) in
-    let e = c .before .before .before .test-packed-check .ensures in
-    (c .judge .ensures ∙ answer-kept 0 _ _ e l, left-kept _ e l (leaves-packed-check _), left-kept _ e l (leaves-packed-check _))
+    let e = c .before .before .before .test-packed-check .ensures in (
+      c .judge .ensures ∙ answer-kept 0 _ _ (e ∙ packed-spaces _ _ _ _ _ _ _ _ _ _ (omega arith) (omega arith)) l,
+      left-kept _ (e ∙ packed-spaces _ _ _ _ _ _ _ _ _ _ (omega arith) (omega arith)) l (leaves-packed-check _),
+      left-kept _ (e ∙ packed-spaces _ _ _ _ _ _ _ _ _ _ (omega arith) (omega arith)) l (leaves-packed-check _),
+    )
 
 weigh-packed-requires : tie.Need-weigh-packed-requires
 weigh-packed-requires c κs =

@@ -12,7 +12,6 @@ ghost use Rattle.scheme.specs.Build.{buildRefusal};
 ghost use Rattle.calls.specs.Lent.{halfWords};
 ghost use Rattle.calls.specs.BuildCall.{buildWorkWords};
 ghost use Rattle.build_ranks.specs.Steps.{matrices};
-use scheme::sizes;
 use scheme::sizes::Sizes;
 use trits::refusal::Outcome;
 use trits::refusal::Refusal;
@@ -80,31 +79,14 @@ pub fn test_ranks(
     requires { ⌜ (length (now «work_ones») ≡ buildWorkWords z) × (length (now «work_twos») ≡ buildWorkWords z) ⌝ }
     ensures { λ r. ⌜ codeOf r ≡ buildRefusal z (matrices z (now («hu_ones» .entry)) (now («hu_twos» .entry)) (now («hv_ones» .entry)) (now («hv_twos» .entry))) ⌝ }
 {
-    let s = sizes::shape_of(z);
-    if rank_of(
-        hu_ones,
-        hu_twos,
-        s.ru,
-        s.words,
-        s.half,
-        work_ones,
-        work_twos,
-    )
-        != s.ru
-    {
+    let half = z.n as usize / 2;
+    let hw = (half + 63) / 64;
+    let ru = half - z.ku as usize;
+    if rank_of(hu_ones, hu_twos, ru, hw, half, work_ones, work_twos) != ru {
         return Outcome::Refused(Refusal::RankU);
     }
-    if rank_of(
-        hv_ones,
-        hv_twos,
-        s.rv,
-        s.words,
-        s.half,
-        work_ones,
-        work_twos,
-    )
-        != s.rv
-    {
+    let rv = half - z.kv as usize;
+    if rank_of(hv_ones, hv_twos, rv, hw, half, work_ones, work_twos) != rv {
         return Outcome::Refused(Refusal::RankV);
     }
     Outcome::Done

@@ -7,16 +7,17 @@ use borrow.Author.Needs.{needs}
 use Rattle.build_ranks.proofs.ranks.test_ranks.Statement.{statement}
 use Rattle.build_ranks.proofs.ranks.test_ranks.Tie as tie
 
-shape-of-requires : tie.Need-shape-of-requires
-shape-of-requires c κs = search needs
+add-hw : tie.Need-add-hw
+add-hw c =
+    let s = c .before .before .before .before .before .before in let b = bounds (s .args .z) (s .pre .0) in omega (arith, b .high)
+
+sub-ru : tie.Need-sub-ru
+sub-ru c =
+    let s = c .before .before .before .before .before .before in let b = bounds (s .args .z) (s .pre .0) in omega (arith, b .ku)
 
 rank-of-requires : tie.Need-rank-of-requires
 rank-of-requires c κs =
-    let s = c .before .before .before .before .before .before .before .before .before in
-    let p = products (s .args .z) (bounds (s .args .z) (s .pre .0)) in
-    let g = s .pre .1 .0 in
-    let l = s .pre .1 .1 .1 in
-    rw (c .before .before .shape-of .ensures) (g, ((omega (arith, g .size, p .u), omega arith), (omega (arith, g .size, p .u-room, l .0), omega (arith, g .size, p .u-room, l .1))))
+    let s = c .before .before .before .before .before .before .before .before in let p = products (s .args .z) (bounds (s .args .z) (s .pre .0)) in let g = s .pre .1 .0 in (g, ((omega (arith, g .size, p .u), omega arith), (omega (arith, g .size, p .u-room, s .pre .1 .1 .1 .0), omega (arith, g .size, p .u-room, s .pre .1 .1 .1 .1))))
 
 same-length : tie.Need-same-length
 same-length c = search needs
@@ -26,17 +27,19 @@ same-length-2 c = search needs
 
 returns : tie.Need-returns
 returns c =
-    let e = c .before .before .before .before .before .before .before .before .before .shape-of .ensures in
-    lacks-u _ _ (rw e at (c .before .before .before .before .before .before .rank-of .ensures)) (rw e at (c .if1 .taken))
+    lacks-u _ _ (c .before .before .before .before .before .rank-of .ensures) (c .if1 .taken)
+
+sub-rv : tie.Need-sub-rv
+sub-rv c =
+    let s = c .before .before .before .before .before .before .before .before .before .before .before .before .before .before in let b = bounds (s .args .z) (s .pre .0) in omega (arith, b .kv)
 
 rank-of-requires-2 : tie.Need-rank-of-requires-2
 rank-of-requires-2 c κs =
-    let s = c .before .before .before .before .before .before .before .before .before .before .before .before .before .before .before .before .before .before in
+    let s = c .before .before .before .before .before .before .before .before .before .before .before .before .before .before .before .before in
     let p = products (s .args .z) (bounds (s .args .z) (s .pre .0)) in
     let u = s .pre .1 .0 in
     let v = s .pre .1 .1 .0 in
-    let l = s .pre .1 .1 .1 in
-    rw (c .before .before .before .before .before .before .before .before .before .before .before .shape-of .ensures) (
+    let l = s .pre .1 .1 .1 in (
       search needs,
       (
         (omega (arith, u .size, v .size, p .u, p .v), omega arith),
@@ -52,8 +55,7 @@ same-length-4 c = search needs
 
 returns-2 : tie.Need-returns-2
 returns-2 c =
-    let e = c .before .before .before .before .before .before .before .before .before .before .before .before .before .before .before .before .before .before .shape-of .ensures in
-    lacks-v _ _ (rw e at (c .before .before .before .before .before .before .before .before .before .before .before .before .before .before .before .rank-of .ensures)) (rw e at (c .before .before .before .before .before .before .before .before .before .if1 .left)) (rw e at (c .before .before .before .before .before .before .rank-of2 .ensures)) (rw e at (c .if2 .taken))
+    lacks-v _ _ (c .before .before .before .before .before .before .before .before .before .before .before .before .before .rank-of .ensures) (c .before .before .before .before .before .before .before .before .if1 .left) (c .before .before .before .before .before .rank-of2 .ensures) (c .if2 .taken)
 
 same-length-5 : tie.Need-same-length-5
 same-length-5 c = search needs
@@ -63,18 +65,19 @@ same-length-6 c = search needs
 
 returns-3 : tie.Need-returns-3
 returns-3 c =
-    let e = c .before .before .before .before .before .before .before .before .before .before .before .before .before .before .before .before .before .before .shape-of .ensures in
-    lacks-none _ _ (rw e at (c .before .before .before .before .before .before .before .before .before .before .before .before .before .before .before .rank-of .ensures)) (rw e at (c .before .before .before .before .before .before .before .before .before .if1 .left)) (rw e at (c .before .before .before .before .before .before .rank-of2 .ensures)) (rw e at (c .if2 .left))
+    lacks-none _ _ (c .before .before .before .before .before .before .before .before .before .before .before .before .before .rank-of .ensures) (c .before .before .before .before .before .before .before .before .if1 .left) (c .before .before .before .before .before .rank-of2 .ensures) (c .if2 .left)
 
 pub test-ranks-spec : {M : Type 1} → statement M
 test-ranks-spec =
     tie.close
     (tie.spec
-    shape-of-requires
+    add-hw
+    sub-ru
     rank-of-requires
     same-length
     same-length-2
     returns
+    sub-rv
     rank-of-requires-2
     same-length-3
     same-length-4

@@ -17,6 +17,13 @@ Inv-loop ones₀ twos₀ so st times i₀ ones twos i =
 abbrev μ-loop : tie.MeasureT-loop
 μ-loop ones₀ twos₀ so st times i₀ ones twos i = times - i
 
+-- The places that the answers look back to, each from a later one.
+abbrev start-from-in-loop : tie.In-loop Inv-loop μ-loop → tie.Start Inv-loop μ-loop
+start-from-in-loop c = c .before .before .before .before .before .before
+
+abbrev start-from-after-loop : tie.After-loop Inv-loop μ-loop → tie.Start Inv-loop μ-loop
+start-from-after-loop c = c .before .before .before .before .before .before
+
 loop-holds : tie.Need-loop-holds Inv-loop μ-loop
 unfolding addedTo
 loop-holds c =
@@ -24,9 +31,10 @@ loop-holds c =
 
 add-row-requires : tie.Need-add-row-requires Inv-loop μ-loop
 add-row-requires c κs =
+    let start = start-from-in-loop (c .before .before) in
     let s = c .before .before .before in
     let r = s .loop .inv .1 in
-    (r .row, (s .before .before .before .before .before .pre .1 .0, s .before .before .before .before .before .pre .1 .1 ∙ sym (r .size)))
+    (r .row, (start .pre .1 .0, start .pre .1 .1 ∙ sym (r .size)))
 
 add-i : tie.Need-add-i Inv-loop μ-loop
 add-i c =
@@ -38,8 +46,9 @@ loop-less c =
 
 loop-again : tie.Need-loop-again Inv-loop μ-loop
 loop-again c =
-    let s = c .before .before .before .before .before .before .before .before in
-    (omega arith, added-turn (s .loop .i) _ _ (s .loop .inv .1) (c .before .before .before .before .add-row .ensures))
+    let after-add-row = c .before .before .before .before in
+    let s = after-add-row .before .before .before .before in
+    (omega arith, added-turn (s .loop .i) _ _ (s .loop .inv .1) (after-add-row .add-row .ensures))
 
 same-length : tie.Need-same-length Inv-loop μ-loop
 same-length c =
@@ -47,12 +56,12 @@ same-length c =
 
 same-length-2 : tie.Need-same-length-2 Inv-loop μ-loop
 same-length-2 c =
-    c .before .loop .inv .1 .row .same ∙ c .before .loop .inv .1 .size ∙ sym (c .before .before .before .before .before .before .pre .0 .same)
+    c .before .loop .inv .1 .row .same ∙ c .before .loop .inv .1 .size ∙ sym (start-from-after-loop c .pre .0 .same)
 
 returns : tie.Need-returns Inv-loop μ-loop
 returns c =
     let l = c .before .loop in
-    let e : l .i ≡ c .before .before .before .before .before .before .args .times = omega arith in
+    let e : l .i ≡ start-from-after-loop c .args .times = omega arith in
     rw (← e) (l .inv .1)
 
 pub add-times-spec : {M : Type 1} → statement M

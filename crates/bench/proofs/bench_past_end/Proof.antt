@@ -35,7 +35,12 @@ returns-3 c =
 returns-4 : tie.Need-returns-4
 unfolding pastOf
 returns-4 c =
-    rw (le-leb _ _ (c .before .before .before .if1 .left), le-leb _ _ (c .before .before .if2 .left), eq-eqb _ _ (c .before .if3 .left), ne-eqb _ _ (c .if4 .taken))
+    rw (
+      le-leb _ _ (c .before .before .before .if1 .left),
+      le-leb _ _ (c .before .before .if2 .left),
+      eq-eqb _ _ (c .before .if3 .left),
+      ne-eqb _ _ (c .if4 .taken),
+    )
 
 rows-past-end-requires : tie.Need-rows-past-end-requires
 rows-past-end-requires c κs = search needs
@@ -46,7 +51,14 @@ told-requires c κs = search needs
 returns-5 : tie.Need-returns-5
 unfolding pastOf
 returns-5 c =
-    rw (le-leb _ _ (c .before .before .before .before .before .if1 .left), le-leb _ _ (c .before .before .before .before .if2 .left), eq-eqb _ _ (c .before .before .before .if3 .left), eq-eqb _ _ (c .before .before .if4 .left)) (c .told .ensures ∙ ap flag (c .before .rows-past-end .ensures))
+    let else2 = c .before .before .before .before in
+    let else1 = else2 .before in
+    rw (
+      le-leb _ _ (else1 .if1 .left),
+      le-leb _ _ (else2 .if2 .left),
+      eq-eqb _ _ (c .before .before .before .if3 .left),
+      eq-eqb _ _ (c .before .before .if4 .left),
+    ) (c .told .ensures ∙ ap flag (c .before .rows-past-end .ensures))
 
 pub bench-past-end-spec : {M : Type 1} → statement M
 bench-past-end-spec =

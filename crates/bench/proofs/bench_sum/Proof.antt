@@ -29,8 +29,16 @@ returns c =
 
 add-times-requires : tie.Need-add-times-requires
 add-times-requires c κs =
-    let s = c .before .before .before .before .before .before .before .before .before .before in
-    let a = addable _ _ _ _ (c .before .before .before .before .before .before .before .before .before .slice-known .given) (c .before .before .before .before .before .before .before .before .slice-known2 .given) (c .before .before .before .before .before .before .before .shared-slice-known .given) (c .before .before .before .before .before .before .shared-slice-known2 .given) (sym (c .before .before .before .sum-refusal .ensures) ∙ c .before .before .if1 .left) in
+    let after-shared-slice-known2 = c .before .before .before .before .before .before in
+    let after-shared-slice-known = after-shared-slice-known2 .before in
+    let after-slice-known2 = after-shared-slice-known .before in
+    let after-slice-known = after-slice-known2 .before in
+    let s = after-slice-known .before in
+    let a = addable _ _ _ _ (after-slice-known .slice-known .given)
+    (after-slice-known2 .slice-known2 .given)
+    (after-shared-slice-known .shared-slice-known .given)
+    (after-shared-slice-known2 .shared-slice-known2 .given)
+    (sym (c .before .before .before .sum-refusal .ensures) ∙ c .before .before .if1 .left) in
     (a .row, (a .source, a .same))
 
 same-length-3 : tie.Need-same-length-3
@@ -42,8 +50,13 @@ same-length-4 c = search needs
 returns-2 : tie.Need-returns-2
 unfolding sumOnes sumTwos
 returns-2 c =
-    let z = sym (c .before .before .before .before .before .before .before .before .sum-refusal .ensures) ∙ c .before .before .before .before .before .before .before .if1 .left in
-    let w = reads-words (c .before .before .before .before .add-times .ensures) refl (λ j. c .before .before .slice-known3 .given j .fits) (λ j. c .slice-known4 .given j .fits) in
+    let after-add-times = c .before .before .before .before in
+    let else1 = after-add-times .before .before .before in
+    let after-sum-refusal = else1 .before in
+    let z = sym (after-sum-refusal .sum-refusal .ensures) ∙
+    else1 .if1 .left in
+    let w = reads-words (after-add-times .add-times .ensures) refl (λ j. c .before .before .slice-known3 .given j .fits)
+    (λ j. c .slice-known4 .given j .fits) in
     (sym z, (w .ones-are ∙ exit-new _ _ z, w .twos-are ∙ exit-new _ _ z))
 
 pub bench-sum-spec : {M : Type 1} → statement M

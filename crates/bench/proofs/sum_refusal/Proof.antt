@@ -29,7 +29,12 @@ returns-4 : tie.Need-returns-4
 unfolding sumRefusal
 returns-4 c =
     let b = sym (c .before .both-set .ensures) ∙ c .if4 .taken in
-    rw (eq-eqb _ _ (c .before .before .before .before .if1 .left), eq-eqb _ _ (c .before .before .before .if2 .left), eq-eqb _ _ (c .before .before .if3 .left), b)
+    rw (
+      eq-eqb _ _ (c .before .before .before .before .if1 .left),
+      eq-eqb _ _ (c .before .before .before .if2 .left),
+      eq-eqb _ _ (c .before .before .if3 .left),
+      b,
+    )
 
 both-set-requires-2 : tie.Need-both-set-requires-2
 both-set-requires-2 c κs = search needs
@@ -37,16 +42,34 @@ both-set-requires-2 c κs = search needs
 returns-5 : tie.Need-returns-5
 unfolding sumRefusal
 returns-5 c =
+    let else3 = c .before .before .before .before in
+    let else2 = else3 .before in
+    let else1 = else2 .before in
     let b = sym (c .before .before .before .both-set .ensures) ∙ c .before .before .if4 .left in
     let d = sym (c .before .both-set2 .ensures) ∙ c .if5 .taken in
-    rw (eq-eqb _ _ (c .before .before .before .before .before .before .if1 .left), eq-eqb _ _ (c .before .before .before .before .before .if2 .left), eq-eqb _ _ (c .before .before .before .before .if3 .left), b, d)
+    rw (
+      eq-eqb _ _ (else1 .if1 .left),
+      eq-eqb _ _ (else2 .if2 .left),
+      eq-eqb _ _ (else3 .if3 .left),
+      b,
+      d,
+    )
 
 returns-6 : tie.Need-returns-6
 unfolding sumRefusal
 returns-6 c =
+    let else3 = c .before .before .before .before in
+    let else2 = else3 .before in
+    let else1 = else2 .before in
     let b = sym (c .before .before .before .both-set .ensures) ∙ c .before .before .if4 .left in
     let d = sym (c .before .both-set2 .ensures) ∙ c .if5 .left in
-    rw (eq-eqb _ _ (c .before .before .before .before .before .before .if1 .left), eq-eqb _ _ (c .before .before .before .before .before .if2 .left), eq-eqb _ _ (c .before .before .before .before .if3 .left), b, d)
+    rw (
+      eq-eqb _ _ (else1 .if1 .left),
+      eq-eqb _ _ (else2 .if2 .left),
+      eq-eqb _ _ (else3 .if3 .left),
+      b,
+      d,
+    )
 
 pub sum-refusal-spec : {M : Type 1} → statement M
 sum-refusal-spec =

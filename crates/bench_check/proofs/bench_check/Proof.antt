@@ -4,6 +4,10 @@ use mathlib.Core.Path.{_∙_}
 use Rattle.bench_check.proofs.bench_check.Statement.{statement}
 use Rattle.bench_check.proofs.bench_check.Tie as tie
 
+-- The places that the answers look back to, each from a later one.
+abbrev check-from-tell : tie.After-tell → tie.After-check
+check-from-tell c = c .before .before .before .before .before
+
 check-requires : tie.Need-check-requires
 check-requires c κs = tt
 
@@ -18,7 +22,7 @@ same-length-2 c = c .before .before .work-twos .given
 
 returns : tie.Need-returns
 returns c =
-    let e = c .before .before .before .before .before .check .ensures in
+    let e = check-from-tell c .check .ensures in
     (c .tell .ensures ∙ e .0, e .1, e .2)
 
 pub bench-check-spec : {M : Type 1} → statement M

@@ -9,6 +9,13 @@ use Rattle.check_tests.proofs.Answers.{answer-kept, answer-new, leaves-check, l
 use Rattle.bench_check.proofs.bench_weigh.Statement.{statement}
 use Rattle.bench_check.proofs.bench_weigh.Tie as tie
 
+-- The places that the last answer looks back to, each from a later one.
+abbrev weigh-times-from-judge2 : tie.After-judge2 → tie.After-weigh-times
+weigh-times-from-judge2 c = c .before .before .before .before .before .before .before .before .before .before .before .before .before
+
+abbrev else1-from-judge2 : tie.After-judge2 → tie.Else1
+else1-from-judge2 c = weigh-times-from-judge2 c .before .before .before
+
 test-check-requires : tie.Need-test-check-requires
 test-check-requires c κs = tt
 
@@ -35,7 +42,9 @@ returns c =
 
 weigh-times-requires : tie.Need-weigh-times-requires
 weigh-times-requires c κs =
-    let p = check-passed _ (sym (c .before .before .before .before .test-check .ensures) ∙ sym (c .before .before .before .code .ensures) ∙ c .before .before .if1 .left) in
+    let p =
+    check-passed _ (sym (c .before .before .before .before .test-check .ensures) ∙ sym (c .before .before .before .code .ensures) ∙
+    c .before .before .if1 .left) in
     (whole (p .0), (p .1, (p .2, (p .0 .work-ones, p .0 .work-twos))))
 
 zero-words-requires : tie.Need-zero-words-requires
@@ -58,9 +67,13 @@ same-length-4 c = search needs
 
 returns-2 : tie.Need-returns-2
 returns-2 c =
-    let e = c .before .before .before .before .before .before .before .before .before .before .before .before .before .before .before .before .before .before .before .test-check .ensures in
-    let z = sym e ∙ sym (c .before .before .before .before .before .before .before .before .before .before .before .before .before .before .before .before .before .before .code .ensures) ∙ c .before .before .before .before .before .before .before .before .before .before .before .before .before .before .before .before .before .if1 .left in
-    (c .tell2 .ensures ∙ c .before .judge2 .ensures ∙ answer-new _ e (c .before .before .before .before .before .before .before .before .before .before .before .before .before .before .weigh-times .ensures), left-zero _ z (omega arith) (c .before .before .before .before .before .before .before .before .zero-words .ensures), left-zero _ z (omega arith) (c .before .before .before .before .zero-words2 .ensures))
+    let second = c .before .before .before .before in
+    let e = else1-from-judge2 (c .before) .before .before .test-check .ensures in
+    let z = sym e ∙ sym (else1-from-judge2 (c .before) .before .code .ensures) ∙ else1-from-judge2 (c .before) .if1 .left in (
+      c .tell2 .ensures ∙ c .before .judge2 .ensures ∙ answer-new _ e (weigh-times-from-judge2 (c .before) .weigh-times .ensures),
+      left-zero _ z (omega arith) (second .before .before .before .before .zero-words .ensures),
+      left-zero _ z (omega arith) (second .zero-words2 .ensures),
+    )
 
 pub bench-weigh-spec : {M : Type 1} → statement M
 bench-weigh-spec =

@@ -13,10 +13,21 @@ use Rattle.bench_check.proofs.weigh_times.Tie as tie
 
 abbrev Inv-loop : tie.InvT-loop
 Inv-loop held ones twos y-ones y-twos s-ones s-twos work-ones₀ work-twos₀ times weight₀ i₀ work-ones work-twos weight i =
-    (i ≤ times) × (length work-ones ≡ length work-ones₀) × (length work-twos ≡ length work-twos₀) × (weight ≡ after i (heldWeight held ones twos (tritAt y-ones y-twos) (tritAt s-ones s-twos)))
+    (i ≤ times) × (length work-ones ≡ length work-ones₀) × (length work-twos ≡ length work-twos₀) ×
+    (weight ≡ after i (heldWeight held ones twos (tritAt y-ones y-twos) (tritAt s-ones s-twos)))
 
 abbrev μ-loop : tie.MeasureT-loop
 μ-loop held ones twos y-ones y-twos s-ones s-twos work-ones₀ work-twos₀ times weight₀ i₀ work-ones work-twos weight i = times - i
+
+-- The places that the answers look back to, each from a later one.
+abbrev start-from-at-loop : tie.At-loop Inv-loop μ-loop → tie.Start Inv-loop μ-loop
+start-from-at-loop c = c .before .before .before .before .before .before .before .before .before
+
+abbrev start-from-in-loop : tie.In-loop Inv-loop μ-loop → tie.Start Inv-loop μ-loop
+start-from-in-loop c = start-from-at-loop (c .before)
+
+abbrev start-from-after-loop : tie.After-loop Inv-loop μ-loop → tie.Start Inv-loop μ-loop
+start-from-after-loop c = start-from-at-loop (c .before)
 
 loop-holds : tie.Need-loop-holds Inv-loop μ-loop
 unfolding after
@@ -25,7 +36,7 @@ loop-holds c = (omega arith, refl, refl, refl)
 weigh-requires : tie.Need-weigh-requires Inv-loop μ-loop
 weigh-requires c κs =
     let l = c .before .before .before .loop .inv in
-    let p = c .before .before .before .before .before .before .before .before .before .before .before .before .pre in
+    let p = start-from-in-loop (c .before .before) .pre in
     (p .0, (p .1 .0, (p .1 .1 .0, (l .1 ∙ p .1 .1 .1 .0, l .2 ∙ p .1 .1 .1 .1))))
 
 add-i : tie.Need-add-i Inv-loop μ-loop
@@ -38,8 +49,14 @@ loop-less c =
 
 loop-again : tie.Need-loop-again Inv-loop μ-loop
 loop-again c =
-    let l = c .before .before .before .before .before .before .before .before .loop in
-    (omega arith, c .before .before .before .work-ones .given ∙ l .inv .1, c .before .work-twos .given ∙ l .inv .2, after-turn (l .i) (c .before .before .before .before .weigh .ensures))
+    let after-weigh = c .before .before .before .before in
+    let at-loop = after-weigh .before .before .before .before in
+    let l = at-loop .loop in (
+      omega arith,
+      c .before .before .before .work-ones .given ∙ l .inv .1,
+      c .before .work-twos .given ∙ l .inv .2,
+      after-turn (l .i) (after-weigh .weigh .ensures),
+    )
 
 same-length : tie.Need-same-length Inv-loop μ-loop
 same-length c =
@@ -52,7 +69,7 @@ same-length-2 c =
 returns : tie.Need-returns Inv-loop μ-loop
 returns c =
     let l = c .before .loop in
-    let e : l .i ≡ c .before .before .before .before .before .before .before .before .before .before .args .times = omega arith in
+    let e : l .i ≡ start-from-after-loop c .args .times = omega arith in
     rw (← e) (l .inv .3)
 
 pub weigh-times-spec : {M : Type 1} → statement M

@@ -17,10 +17,27 @@ use Rattle.calls.specs.Lent.{planes, secretOf}
 use Rattle.calls.specs.BuildCall.{BuildCall, buildCall, buildLengthsDiffer, buildAnswer, orderExit, keyOnesOf, keyTwosOf, keyExit, buildWorkExit}
 use Rattle.calls.proofs.Exits.{positive, work-kept}
 use Rattle.calls.proofs.Secrets.{readable}
-use Rattle.build.proofs.Answers.{same-lengths, answer-size, answer-length, answer-contents, answer-ranks, contents-le, contents-passed, work-ended, lengths-secret, lengths-key}
+use Rattle.build.proofs.Answers.{same-lengths, answer-size, answer-length, answer-contents, answer-ranks, contents-le, contents-passed, work-ended}
+use Rattle.build.proofs.Answers.{lengths-secret, lengths-key}
 use borrow.Author.Needs.{needs}
 use Rattle.build.proofs.build.Statement.{statement}
 use Rattle.build.proofs.build.Tie as tie
+
+-- The places that the answers look back to, each from a later one.
+abbrev else1-from-then3 : tie.Then3 → tie.Else1
+else1-from-then3 c = c .before .before .before .before .before
+
+abbrev else3-from-finish-arg5 : tie.After-finish-arg5 → tie.Else3
+else3-from-finish-arg5 c = c .before .before .before .before .before
+
+abbrev shared-slice-known8-from-sizes-fit : tie.After-sizes-fit → tie.After-shared-slice-known8
+shared-slice-known8-from-sizes-fit c = c .before .before .before .before .before .before .before
+
+abbrev finish-from-slice-known10 : tie.After-slice-known10 → tie.After-finish
+finish-from-slice-known10 c = c .before .before .before .before .before .before .before .before .before .before
+
+abbrev else3-from-finish : tie.After-finish → tie.Else3
+else3-from-finish c = c .before .before .before .before .before .before
 
 returns : tie.Need-returns
 unfolding orderExit keyExit buildWorkExit
@@ -39,11 +56,13 @@ entry c = c .before .before .before .before .before .before .before .before .bef
 abbrev lent : tie.Start → BuildCall
 lent s =
     let a = s .args in
-    buildCall (planes (now (a .hu-ones)) (now (a .hu-twos)) (now (a .hv-ones)) (now (a .hv-twos)) (now (a .b-ones)) (now (a .b-twos)) (now (a .c-ones)) (now (a .c-twos)))
+    buildCall (planes (now (a .hu-ones)) (now (a .hu-twos)) (now (a .hv-ones)) (now (a .hv-twos)) (now (a .b-ones)) (now (a .b-twos)) (now (a .c-ones))
+    (now (a .c-twos)))
     (now (a .start)) (now (a .p)) (now (a .key-ones)) (now (a .key-twos)) (now (a .work-ones)) (now (a .work-twos))
 
 -- every buffer stays where the answer is from 1 to 8
-kept : (z : Sizes) (i : BuildCall) {r : ℕ} → r ≡ buildAnswer z i → 0 < r → r ≤ 8 → (i .p ≡ orderExit z i) × (i .key ≡ keyExit z i) × (i .work ≡ buildWorkExit z i)
+kept : (z : Sizes) (i : BuildCall) {r : ℕ} → r ≡ buildAnswer z i → 0 < r → r ≤ 8 → (i .p ≡ orderExit z i) × (i .key ≡ keyExit z i) ×
+    (i .work ≡ buildWorkExit z i)
 unfolding orderExit keyExit buildWorkExit
 kept z i e h g = (exit-kept _ _ e h, ap₂ pairOf (exit-kept _ _ e h) (exit-kept _ _ e h), ap₂ pairOf (work-kept _ e h g) (work-kept _ e h g))
 
@@ -63,7 +82,8 @@ lengths-differ-requires c κs = fits c
 returns-2 : tie.Need-returns-2
 returns-2 c =
     let s = entry (c .before .before .before) in
-    let f = answer-length (s .args .z) (lent s) (fits (c .before .before)) (same-lengths (s .args .z) (lent s) (sym (c .before .lengths-differ .ensures) ∙ c .if2 .taken)) in
+    let f = answer-length (s .args .z) (lent s) (fits (c .before .before))
+    (same-lengths (s .args .z) (lent s) (sym (c .before .lengths-differ .ensures) ∙ c .if2 .taken)) in
     let k = kept (s .args .z) (lent s) f (lit< tt) (lit< tt) in
     (f, k .0, k .1, k .2)
 
@@ -78,26 +98,45 @@ code-requires c κs = search needs
 
 returns-3 : tie.Need-returns-3
 returns-3 c =
-    let s = entry (c .before .before .before .before .before .before) in
+    let else1 = else1-from-then3 c in
+    let after-sizes-fit = else1 .before in
+    let s = entry (after-sizes-fit) in
     let z = s .args .z in
     let told = c .before .code .ensures in
     let e = c .before .before .test-contents .ensures in
-    let g = answer-contents z (lent s) (fits (c .before .before .before .before .before)) (lengths (c .before .before .before)) e (λ y. c .if3 .taken (told ∙ y)) in
+    let g = answer-contents z (lent s) (fits (else1)) (lengths (c .before .before .before)) e (λ y. c .if3 .taken (told ∙ y)) in
     let k = kept z (lent s) (told ∙ g) (positive _ (c .if3 .taken)) (omega (arith, told, e, contents-le z (lent s))) in
     (g, k .0, k .1, k .2)
 
 finish-requires : tie.Need-finish-requires
 finish-requires c κs =
-    let s = entry (c .before .before .before .before .before .before .before .before .before .before .before) in
+    let else3 = else3-from-finish-arg5 c in
+    let after-code = else3 .before in
+    let after-test-contents = after-code .before in
+    let else2 = after-test-contents .before in
+    let else1 = else2 .before .before in
+    let after-sizes-fit = else1 .before in
+    let after-shared-slice-known8 = shared-slice-known8-from-sizes-fit after-sizes-fit in
+    let after-shared-slice-known7 = after-shared-slice-known8 .before in
+    let after-shared-slice-known6 = after-shared-slice-known7 .before in
+    let after-shared-slice-known5 = after-shared-slice-known6 .before in
+    let after-shared-slice-known4 = after-shared-slice-known5 .before in
+    let after-shared-slice-known3 = after-shared-slice-known4 .before in
+    let after-shared-slice-known2 = after-shared-slice-known3 .before in
+    let after-shared-slice-known = after-shared-slice-known2 .before in
+    let s = entry (after-sizes-fit) in
     let z = s .args .z in
-    let d = lengths (c .before .before .before .before .before .before .before .before) in
-    let q = contents-passed z (lent s) (sym (c .before .before .before .before .before .before .before .test-contents .ensures) ∙ sym (c .before .before .before .before .before .before .code .ensures) ∙ c .before .before .before .before .before .if3 .left) in
+    let d = lengths (else2) in
+    let q = contents-passed z (lent s) (sym (after-test-contents .test-contents .ensures) ∙ sym (after-code .code .ensures) ∙ else3 .if3 .left) in
     let l = lengths-key z (lent s) d in (
-      fits (c .before .before .before .before .before .before .before .before .before .before),
+      fits (else1),
       (
-        readable z (lent s .secret) (lengths-secret z (lent s) d) (q .0) (λ j. c .before .before .before .before .before .before .before .before .before .before .before .before .before .before .before .before .before .before .before .before .before .before .before .before .before .shared-slice-known .given j) (λ j. c .before .before .before .before .before .before .before .before .before .before .before .before .before .before .before .before .before .before .before .before .before .before .before .before .shared-slice-known2 .given j)
-            (λ j. c .before .before .before .before .before .before .before .before .before .before .before .before .before .before .before .before .before .before .before .before .before .before .before .shared-slice-known3 .given j) (λ j. c .before .before .before .before .before .before .before .before .before .before .before .before .before .before .before .before .before .before .before .before .before .before .shared-slice-known4 .given j) (λ j. c .before .before .before .before .before .before .before .before .before .before .before .before .before .before .before .before .before .before .before .before .before .shared-slice-known5 .given j)
-            (λ j. c .before .before .before .before .before .before .before .before .before .before .before .before .before .before .before .before .before .before .before .before .shared-slice-known6 .given j) (λ j. c .before .before .before .before .before .before .before .before .before .before .before .before .before .before .before .before .before .before .before .shared-slice-known7 .given j) (λ j. c .before .before .before .before .before .before .before .before .before .before .before .before .before .before .before .before .before .before .shared-slice-known8 .given j),
+        readable z (lent s .secret) (lengths-secret z (lent s) d) (q .0) (λ j. after-shared-slice-known .shared-slice-known .given j)
+            (λ j. after-shared-slice-known2 .shared-slice-known2 .given j)
+            (λ j. after-shared-slice-known3 .shared-slice-known3 .given j) (λ j. after-shared-slice-known4 .shared-slice-known4 .given j)
+            (λ j. after-shared-slice-known5 .shared-slice-known5 .given j)
+            (λ j. after-shared-slice-known6 .shared-slice-known6 .given j) (λ j. after-shared-slice-known7 .shared-slice-known7 .given j)
+            (λ j. after-shared-slice-known8 .shared-slice-known8 .given j),
         (q .1, (l .p, l .k1, l .k2, l .w1, l .w2)),
       ),
     )
@@ -120,16 +159,26 @@ same-length-5 c = search needs
 returns-4 : tie.Need-returns-4
 unfolding orderExit keyExit buildWorkExit
 returns-4 c =
-    let s = entry (c .before .before .before .before .before .before .before .before .before .before .before .before .before .before .before .before .before .before .before .before .before .before) in
+    let after-finish = finish-from-slice-known10 c in
+    let else3 = else3-from-finish after-finish in
+    let after-code = else3 .before in
+    let after-test-contents = after-code .before in
+    let else2 = after-test-contents .before in
+    let else1 = else2 .before .before in
+    let after-sizes-fit = else1 .before in
+    let s = entry (after-sizes-fit) in
     let z = s .args .z in
     let i = lent s in
     let k = secretOf z (i .secret) in
-    let g = answer-ranks z i (fits (c .before .before .before .before .before .before .before .before .before .before .before .before .before .before .before .before .before .before .before .before .before)) (lengths (c .before .before .before .before .before .before .before .before .before .before .before .before .before .before .before .before .before .before .before)) (sym (c .before .before .before .before .before .before .before .before .before .before .before .before .before .before .before .before .before .before .test-contents .ensures) ∙ sym (c .before .before .before .before .before .before .before .before .before .before .before .before .before .before .before .before .before .code .ensures) ∙ c .before .before .before .before .before .before .before .before .before .before .before .before .before .before .before .before .if3 .left) in
-    let n = c .before .before .before .before .before .before .before .before .before .before .finish .ensures in (
+    let g = answer-ranks z i (fits (else1)) (lengths (else2))
+    (sym (after-test-contents .test-contents .ensures) ∙ sym (after-code .code .ensures) ∙ else3 .if3 .left) in
+    let n = after-finish .finish .ensures in (
       n .0 ∙ g,
       n .1 ∙ ap (λ (r : ℕ). atExit r (keyOrder z k (i .start)) (i .p)) g,
-      ap₂ pairOf (n .2 ∙ ap (λ (r : ℕ). atExit r (keyOnesOf z k (i .start)) (i .key .ones)) g) (n .3 ∙ ap (λ (r : ℕ). atExit r (keyTwosOf z k (i .start)) (i .key .twos)) g),
-      ap₂ pairOf (n .4 ∙ work-ended z k (i .work .ones) ∙ ap (λ (r : ℕ). spaceExit r (i .work .ones)) g) (n .5 ∙ work-ended z k (i .work .twos) ∙ ap (λ (r : ℕ). spaceExit r (i .work .twos)) g),
+      ap₂ pairOf (n .2 ∙ ap (λ (r : ℕ). atExit r (keyOnesOf z k (i .start)) (i .key .ones)) g)
+          (n .3 ∙ ap (λ (r : ℕ). atExit r (keyTwosOf z k (i .start)) (i .key .twos)) g),
+      ap₂ pairOf (n .4 ∙ work-ended z k (i .work .ones) ∙ ap (λ (r : ℕ). spaceExit r (i .work .ones)) g)
+          (n .5 ∙ work-ended z k (i .work .twos) ∙ ap (λ (r : ℕ). spaceExit r (i .work .twos)) g),
     )
 
 pub build-spec : {M : Type 1} → statement M

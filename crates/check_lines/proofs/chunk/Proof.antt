@@ -20,6 +20,13 @@ Inv-loop bytes line₀ ones₀ twos₀ out₀ state₀ i₀ line ones twos out s
 abbrev μ-loop : tie.MeasureT-loop
 μ-loop bytes line₀ ones₀ twos₀ out₀ state₀ i₀ line ones twos out state i = length bytes - i
 
+-- The places that the answers look back to, each from a later one.
+abbrev in-loop-from-step : tie.After-step Inv-loop μ-loop → tie.In-loop Inv-loop μ-loop
+in-loop-from-step c = c .before .before .before .before .before .before
+
+abbrev at-loop-from-step : tie.After-step Inv-loop μ-loop → tie.At-loop Inv-loop μ-loop
+at-loop-from-step c = in-loop-from-step c .before
+
 loop-holds : tie.Need-loop-holds Inv-loop μ-loop
 loop-holds c = (omega arith, after-none _)
 
@@ -37,10 +44,13 @@ print-requires c κs = search needs
 
 returns : tie.Need-returns Inv-loop μ-loop
 returns c =
-    let s = c .before .before .before .before .before .before .before .before .before .before .before in
-    let a = c .before .before .before .before .before .before .before .before .before .before .before .before .before .args in
+    let after-step = c .before .before .before .before in
+    let in-loop = after-step .before .before .before .before .before .before in
+    let s = in-loop .before in
+    let start = s .before .before in
+    let a = start .args in
     let m = machine (a .start) (now (a .line)) (now (a .ones)) (now (a .twos)) in
-    let e = c .before .before .before .before .step .ensures .0 ∙ ap (stepped _) (s .loop .inv .1) ∙ after-more (now (a .bytes)) (s .loop .i) m (omega arith) in
+    let e = after-step .step .ensures .0 ∙ ap (stepped _) (s .loop .inv .1) ∙ after-more (now (a .bytes)) (s .loop .i) m (omega arith) in
     (e, λ f. absurd (subst T (sym f) tt))
 
 loop-less : tie.Need-loop-less Inv-loop μ-loop
@@ -48,10 +58,13 @@ loop-less c = search needs
 
 loop-again : tie.Need-loop-again Inv-loop μ-loop
 loop-again c =
-    let s = c .before .before .before .before .before .before .before .before .before .before .before in
-    let a = c .before .before .before .before .before .before .before .before .before .before .before .before .before .args in
+    let after-step = c .before .before .before .before in
+    let in-loop = after-step .before .before .before .before .before .before in
+    let s = in-loop .before in
+    let start = s .before .before in
+    let a = start .args in
     let m = machine (a .start) (now (a .line)) (now (a .ones)) (now (a .twos)) in
-    let e = c .before .before .before .before .step .ensures .0 ∙ ap (stepped _) (s .loop .inv .1) ∙ after-more (now (a .bytes)) (s .loop .i) m (omega arith) in
+    let e = after-step .step .ensures .0 ∙ ap (stepped _) (s .loop .inv .1) ∙ after-more (now (a .bytes)) (s .loop .i) m (omega arith) in
     (omega arith, e)
 
 returns-2 : tie.Need-returns-2 Inv-loop μ-loop

@@ -19,6 +19,16 @@ Inv-loop line₀ ones₀ twos₀ out₀ state₀ turns₀ line ones twos out sta
 abbrev μ-loop : tie.MeasureT-loop
 μ-loop line₀ ones₀ twos₀ out₀ state₀ turns₀ line ones twos out state turns = turns
 
+-- The places that the answers look back to, each from a later one.
+abbrev at-loop-from-read-some : tie.After-read-some Inv-loop μ-loop → tie.At-loop Inv-loop μ-loop
+at-loop-from-read-some c = c .before .before .before .before .before .before
+
+abbrev at-loop-from-at-match-keys2 : tie.At-match-keys2 Inv-loop μ-loop → tie.At-loop Inv-loop μ-loop
+at-loop-from-at-match-keys2 c = at-loop-from-read-some (c .before)
+
+abbrev at-loop-from-at-match-keys1 : tie.At-match-keys1 Inv-loop μ-loop → tie.At-loop Inv-loop μ-loop
+at-loop-from-at-match-keys1 c = at-loop-from-read-some (c .before)
+
 loop-holds : tie.Need-loop-holds Inv-loop μ-loop
 loop-holds c = (omega arith, ([], after-none _))
 
@@ -30,8 +40,10 @@ enum-known-read c = search needs
 
 returns : tie.Need-returns Inv-loop μ-loop
 returns c =
-    let i = c .before .before .before .before .before .before .before .loop in
-    let a = c .before .before .before .before .before .before .before .before .args in
+    let at-loop = at-loop-from-at-match-keys2 c in
+    let start = at-loop .before in
+    let i = at-loop .loop in
+    let a = start .args in
     let p = c .before .read-some in
     let m = machine (a .start) (now (a .line)) (now (a .ones)) (now (a .twos)) in
     let n = machine (i .state) (i .line) (i .ones) (i .twos) in
@@ -45,8 +57,10 @@ loop-less c = search needs
 
 loop-again : tie.Need-loop-again Inv-loop μ-loop
 loop-again c =
-    let i = c .before .before .before .before .before .before .before .before .before .loop in
-    let a = c .before .before .before .before .before .before .before .before .before .before .args in
+    let at-loop = at-loop-from-at-match-keys1 (c .before .before) in
+    let start = at-loop .before in
+    let i = at-loop .loop in
+    let a = start .args in
     let p = c .before .before .before .read-some in
     let m = machine (a .start) (now (a .line)) (now (a .ones)) (now (a .twos)) in
     let n = machine (i .state) (i .line) (i .ones) (i .twos) in

@@ -21,7 +21,12 @@ returns c =
 returns-2 : tie.Need-returns-2
 unfolding planesLengths
 returns-2 c =
-    rw (eq-eqb (c .before .before .before .args .y-ones) (rowWords (c .before .before .before .args .held)) (c .before .if1 .left ∙ c .before .before .row-words .ensures), ne-eqb (c .before .before .before .args .y-twos) (rowWords (c .before .before .before .args .held)) (λ e. c .if2 .taken (e ∙ sym (c .before .before .row-words .ensures))))
+    rw (
+      eq-eqb (c .before .before .before .args .y-ones) (rowWords (c .before .before .before .args .held))
+          (c .before .if1 .left ∙ c .before .before .row-words .ensures),
+      ne-eqb (c .before .before .before .args .y-twos) (rowWords (c .before .before .before .args .held))
+          (λ e. c .if2 .taken (e ∙ sym (c .before .before .row-words .ensures))),
+    )
 
 add-words : tie.Need-add-words
 add-words c =
@@ -30,17 +35,39 @@ add-words c =
 returns-3 : tie.Need-returns-3
 unfolding planesLengths
 returns-3 c =
-    rw (eq-eqb (c .before .before .before .before .args .y-ones) (rowWords (c .before .before .before .before .args .held)) (c .before .before .if1 .left ∙ c .before .before .before .row-words .ensures), eq-eqb (c .before .before .before .before .args .y-twos) (rowWords (c .before .before .before .before .args .held)) (c .before .if2 .left ∙ c .before .before .before .row-words .ensures), ne-eqb _ _ (c .if3 .taken))
+    let start = c .before .before .before .before in
+    let a = start .args in
+    rw (
+      eq-eqb (a .y-ones) (rowWords (a .held)) (c .before .before .if1 .left ∙ c .before .before .before .row-words .ensures),
+      eq-eqb (a .y-twos) (rowWords (a .held)) (c .before .if2 .left ∙ c .before .before .before .row-words .ensures),
+      ne-eqb _ _ (c .if3 .taken),
+    )
 
 returns-4 : tie.Need-returns-4
 unfolding planesLengths
 returns-4 c =
-    rw (eq-eqb (c .before .before .before .before .before .args .y-ones) (rowWords (c .before .before .before .before .before .args .held)) (c .before .before .before .if1 .left ∙ c .before .before .before .before .row-words .ensures), eq-eqb (c .before .before .before .before .before .args .y-twos) (rowWords (c .before .before .before .before .before .args .held)) (c .before .before .if2 .left ∙ c .before .before .before .before .row-words .ensures), eq-eqb _ _ (c .before .if3 .left), ne-eqb _ _ (c .if4 .taken))
+    let after-row-words = c .before .before .before .before in
+    let start = after-row-words .before in
+    let a = start .args in
+    rw (
+      eq-eqb (a .y-ones) (rowWords (a .held)) (c .before .before .before .if1 .left ∙ after-row-words .row-words .ensures),
+      eq-eqb (a .y-twos) (rowWords (a .held)) (c .before .before .if2 .left ∙ after-row-words .row-words .ensures),
+      eq-eqb _ _ (c .before .if3 .left),
+      ne-eqb _ _ (c .if4 .taken),
+    )
 
 returns-5 : tie.Need-returns-5
 unfolding planesLengths
 returns-5 c =
-    rw (eq-eqb (c .before .before .before .before .before .args .y-ones) (rowWords (c .before .before .before .before .before .args .held)) (c .before .before .before .if1 .left ∙ c .before .before .before .before .row-words .ensures), eq-eqb (c .before .before .before .before .before .args .y-twos) (rowWords (c .before .before .before .before .before .args .held)) (c .before .before .if2 .left ∙ c .before .before .before .before .row-words .ensures), eq-eqb _ _ (c .before .if3 .left), eq-eqb _ _ (c .if4 .left))
+    let after-row-words = c .before .before .before .before in
+    let start = after-row-words .before in
+    let a = start .args in
+    rw (
+      eq-eqb (a .y-ones) (rowWords (a .held)) (c .before .before .before .if1 .left ∙ after-row-words .row-words .ensures),
+      eq-eqb (a .y-twos) (rowWords (a .held)) (c .before .before .if2 .left ∙ after-row-words .row-words .ensures),
+      eq-eqb _ _ (c .before .if3 .left),
+      eq-eqb _ _ (c .if4 .left),
+    )
 
 pub test-lengths-spec : {M : Type 1} → statement M
 test-lengths-spec =

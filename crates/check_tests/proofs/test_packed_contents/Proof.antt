@@ -13,15 +13,30 @@ use Rattle.held_key.proofs.Sizes.{sizes}
 use Rattle.check_tests.proofs.test_packed_contents.Statement.{statement}
 use Rattle.check_tests.proofs.test_packed_contents.Tie as tie
 
+-- The places that the answers look back to, each from a later one.
+abbrev start-from-row-trits : tie.After-row-trits → tie.Start
+start-from-row-trits c = c .before .before .before .before .before
+
+abbrev start-from-test-planes : tie.After-test-planes → tie.Start
+start-from-test-planes c = c .before .before .before .before .before .before
+
+abbrev start-from-code : tie.After-code → tie.Start
+start-from-code c = start-from-test-planes (c .before)
+
+abbrev start-from-then1 : tie.Then1 → tie.Start
+start-from-then1 c = start-from-code (c .before)
+
 row-trits-requires : tie.Need-row-trits-requires
 row-trits-requires c κs = search needs
 
 test-planes-requires : tie.Need-test-planes-requires
 test-planes-requires c κs =
-    let w = c .before .before .before .before .before .pre in
-    let s = sizes (c .before .before .before .before .before .args .held) (w .is-sound) in
+    let start = start-from-row-trits c in
+    let a = start .args in
+    let w = start .pre in
+    let s = sizes (a .held) (w .is-sound) in
     let e = c .row-trits .ensures in
-    (w .ones-size ∙ ap (λ (m : ℕ). c .before .before .before .before .before .args .held .k * wordsFor m) (sym e), w .twos-size ∙ ap (λ (m : ℕ). c .before .before .before .before .before .args .held .k * wordsFor m) (sym e), omega (arith, s, e))
+    (w .ones-size ∙ ap (λ (m : ℕ). a .held .k * wordsFor m) (sym e), w .twos-size ∙ ap (λ (m : ℕ). a .held .k * wordsFor m) (sym e), omega (arith, s, e))
 
 code-requires : tie.Need-code-requires
 code-requires c κs = search needs
@@ -29,7 +44,11 @@ code-requires c κs = search needs
 returns : tie.Need-returns
 unfolding packedContents
 returns c =
-    first-stops _ (c .before .before .test-planes .ensures ∙ ap (planesRefusal (now (c .before .before .before .before .before .before .before .before .args .ones)) (now (c .before .before .before .before .before .before .before .before .args .twos)) (c .before .before .before .before .before .before .before .before .args .held .k)) (c .before .before .before .row-trits .ensures)) (λ z. c .if1 .taken (c .before .code .ensures ∙ z))
+    let start = start-from-then1 c in
+    let a = start .args in
+    first-stops _ (c .before .before .test-planes .ensures ∙
+    ap (planesRefusal (now (a .ones)) (now (a .twos)) (a .held .k)) (c .before .before .before .row-trits .ensures))
+    (λ z. c .if1 .taken (c .before .code .ensures ∙ z))
 
 test-bytes-requires : tie.Need-test-bytes-requires
 test-bytes-requires c κs = search needs
@@ -40,7 +59,14 @@ code-requires-2 c κs = search needs
 returns-2 : tie.Need-returns-2
 unfolding packedContents
 returns-2 c =
-    first-goes (c .before .before .before .before .before .test-planes .ensures ∙ ap (planesRefusal (now (c .before .before .before .before .before .before .before .before .before .before .before .args .ones)) (now (c .before .before .before .before .before .before .before .before .before .before .before .args .twos)) (c .before .before .before .before .before .before .before .before .before .before .before .args .held .k)) (c .before .before .before .before .before .before .row-trits .ensures)) (sym (c .before .before .before .before .code .ensures) ∙ c .before .before .before .if1 .left) (first-stops _ (c .before .before .test-bytes .ensures) (λ z. c .if2 .taken (c .before .code2 .ensures ∙ z)))
+    let after-code = c .before .before .before .before in
+    let after-test-planes = after-code .before in
+    let after-row-trits = after-test-planes .before in
+    let start = start-from-row-trits after-row-trits in
+    let a = start .args in
+    first-goes (after-test-planes .test-planes .ensures ∙ ap (planesRefusal (now (a .ones)) (now (a .twos)) (a .held .k)) (after-row-trits .row-trits .ensures))
+    (sym (after-code .code .ensures) ∙ c .before .before .before .if1 .left)
+    (first-stops _ (c .before .before .test-bytes .ensures) (λ z. c .if2 .taken (c .before .code2 .ensures ∙ z)))
 
 test-bytes-requires-2 : tie.Need-test-bytes-requires-2
 test-bytes-requires-2 c κs = search needs
@@ -48,7 +74,15 @@ test-bytes-requires-2 c κs = search needs
 returns-3 : tie.Need-returns-3
 unfolding packedContents
 returns-3 c =
-    first-goes (c .before .before .before .before .before .before .test-planes .ensures ∙ ap (planesRefusal (now (c .before .before .before .before .before .before .before .before .before .before .before .before .args .ones)) (now (c .before .before .before .before .before .before .before .before .before .before .before .before .args .twos)) (c .before .before .before .before .before .before .before .before .before .before .before .before .args .held .k)) (c .before .before .before .before .before .before .before .row-trits .ensures)) (sym (c .before .before .before .before .before .code .ensures) ∙ c .before .before .before .before .if1 .left) (first-goes (c .before .before .before .test-bytes .ensures) (sym (c .before .before .code2 .ensures) ∙ c .before .if2 .left) (c .test-bytes2 .ensures))
+    let else1 = c .before .before .before .before in
+    let after-code = else1 .before in
+    let after-test-planes = after-code .before in
+    let after-row-trits = after-test-planes .before in
+    let start = start-from-row-trits after-row-trits in
+    let a = start .args in
+    first-goes (after-test-planes .test-planes .ensures ∙ ap (planesRefusal (now (a .ones)) (now (a .twos)) (a .held .k)) (after-row-trits .row-trits .ensures))
+    (sym (after-code .code .ensures) ∙ else1 .if1 .left) (first-goes (c .before .before .before .test-bytes .ensures)
+    (sym (c .before .before .code2 .ensures) ∙ c .before .if2 .left) (c .test-bytes2 .ensures))
 
 pub test-packed-contents-spec : {M : Type 1} → statement M
 test-packed-contents-spec =

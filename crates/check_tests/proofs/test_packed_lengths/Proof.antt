@@ -21,7 +21,8 @@ add-if1 c =
 returns : tie.Need-returns
 unfolding packedLengths
 returns c =
-    rw (ne-eqb (c .before .before .args .y) (bytesFor (rowTrits (c .before .before .args .held))) (λ e. c .if1 .taken (e ∙ sym (ap bytesFor (c .before .row-trits .ensures)))))
+    rw (ne-eqb (c .before .before .args .y) (bytesFor (rowTrits (c .before .before .args .held)))
+    (λ e. c .if1 .taken (e ∙ sym (ap bytesFor (c .before .row-trits .ensures)))))
 
 add-if2 : tie.Need-add-if2
 add-if2 c =
@@ -30,12 +31,20 @@ add-if2 c =
 returns-2 : tie.Need-returns-2
 unfolding packedLengths
 returns-2 c =
-    rw (eq-eqb (c .before .before .before .args .y) (bytesFor (rowTrits (c .before .before .before .args .held))) (c .before .if1 .left ∙ ap bytesFor (c .before .before .row-trits .ensures)), ne-eqb _ _ (c .if2 .taken))
+    rw (
+      eq-eqb (c .before .before .before .args .y) (bytesFor (rowTrits (c .before .before .before .args .held)))
+          (c .before .if1 .left ∙ ap bytesFor (c .before .before .row-trits .ensures)),
+      ne-eqb _ _ (c .if2 .taken),
+    )
 
 returns-3 : tie.Need-returns-3
 unfolding packedLengths
 returns-3 c =
-    rw (eq-eqb (c .before .before .before .args .y) (bytesFor (rowTrits (c .before .before .before .args .held))) (c .before .if1 .left ∙ ap bytesFor (c .before .before .row-trits .ensures)), eq-eqb _ _ (c .if2 .left))
+    rw (
+      eq-eqb (c .before .before .before .args .y) (bytesFor (rowTrits (c .before .before .before .args .held)))
+          (c .before .if1 .left ∙ ap bytesFor (c .before .before .row-trits .ensures)),
+      eq-eqb _ _ (c .if2 .left),
+    )
 
 pub test-packed-lengths-spec : {M : Type 1} → statement M
 test-packed-lengths-spec =

@@ -11,6 +11,13 @@ use Rattle.checker.proofs.Spaces.{packed-spaces}
 use Rattle.checker.proofs.check_packed.Statement.{statement}
 use Rattle.checker.proofs.check_packed.Tie as tie
 
+-- The places that the last answer looks back to, each from a later one.
+abbrev weigh-packed-from-judge2 : tie.After-judge2 → tie.After-weigh-packed
+weigh-packed-from-judge2 c = c .before .before .before .before .before .before .before .before .before .before .before .before .before
+
+abbrev else1-from-judge2 : tie.After-judge2 → tie.Else1
+else1-from-judge2 c = weigh-packed-from-judge2 c .before .before .before
+
 test-packed-check-requires : tie.Need-test-packed-check-requires
 test-packed-check-requires c κs = tt
 
@@ -38,7 +45,9 @@ returns c =
 
 weigh-packed-requires : tie.Need-weigh-packed-requires
 weigh-packed-requires c κs =
-    let p = check-packed-passed _ (sym (c .before .before .before .before .test-packed-check .ensures) ∙ sym (c .before .before .before .code .ensures) ∙ c .before .before .if1 .left) in
+    let p =
+    check-packed-passed _ (sym (c .before .before .before .before .test-packed-check .ensures) ∙ sym (c .before .before .before .code .ensures) ∙
+    c .before .before .if1 .left) in
     (whole (p .0), (p .1, (p .2, (p .0 .work-ones, p .0 .work-twos))))
 
 zero-words-requires : tie.Need-zero-words-requires
@@ -59,9 +68,13 @@ same-length-4 c = search needs
 returns-2 : tie.Need-returns-2
 unfolding checkPackedAnswer
 returns-2 c =
-    let e = c .before .before .before .before .before .before .before .before .before .before .before .before .before .before .before .before .before .before .test-packed-check .ensures in
-    let z = sym e ∙ sym (c .before .before .before .before .before .before .before .before .before .before .before .before .before .before .before .before .before .code .ensures) ∙ c .before .before .before .before .before .before .before .before .before .before .before .before .before .before .before .before .if1 .left in
-    (c .judge2 .ensures ∙ answer-new _ e (c .before .before .before .before .before .before .before .before .before .before .before .before .before .weigh-packed .ensures), left-zero _ z (omega arith) (c .before .before .before .before .before .before .before .zero-words .ensures), left-zero _ z (omega arith) (c .before .before .before .zero-words2 .ensures))
+    let second = c .before .before .before in
+    let e = else1-from-judge2 c .before .before .test-packed-check .ensures in
+    let z = sym e ∙ sym (else1-from-judge2 c .before .code .ensures) ∙ else1-from-judge2 c .if1 .left in (
+      c .judge2 .ensures ∙ answer-new _ e (weigh-packed-from-judge2 c .weigh-packed .ensures),
+      left-zero _ z (omega arith) (second .before .before .before .before .zero-words .ensures),
+      left-zero _ z (omega arith) (second .zero-words2 .ensures),
+    )
 
 pub check-packed-spec : {M : Type 1} → statement M
 check-packed-spec =

@@ -25,13 +25,16 @@ use Rattle.draw_finish.proofs.finish.Tie as tie
 
 -- the entry, and what is lent there
 abbrev entry : tie.After-more-rows → tie.Start
-entry c = c .before .before .before .before .before .before .before .before .before .before .before .before .before .before .before .before .before .before .before .before .before .before .before .before .before
+entry c =
+    c .before .before .before .before .before .before .before .before .before .before .before .before .before .before .before .before .before .before .before .before .before .before .before .before .before
 
 abbrev lent : tie.Start → DrawCall
 lent s =
     let a = s .args in
-    given (planes (now (a .hu-ones)) (now (a .hu-twos)) (now (a .hv-ones)) (now (a .hv-twos)) (now (a .b-ones)) (now (a .b-twos)) (now (a .c-ones)) (now (a .c-twos)))
-    (now (a .p)) (now (a .y-ones)) (now (a .y-twos)) (now (a .v-order)) (now (a .v-ones)) (now (a .v-twos)) (now (a .u-order)) (now (a .u-ones)) (now (a .u-twos))
+    given (planes (now (a .hu-ones)) (now (a .hu-twos)) (now (a .hv-ones)) (now (a .hv-twos)) (now (a .b-ones)) (now (a .b-twos)) (now (a .c-ones))
+    (now (a .c-twos)))
+    (now (a .p)) (now (a .y-ones)) (now (a .y-twos)) (now (a .v-order)) (now (a .v-ones)) (now (a .v-twos)) (now (a .u-order)) (now (a .u-ones))
+    (now (a .u-twos))
 
 -- as many rows as the larger matrix has
 rows : (c : tie.After-more-rows) → c .more-rows .result ≡ matrixRows (entry c .args .z)
@@ -41,15 +44,35 @@ rows c = rw (c .before .shape-of .ensures) at (c .more-rows .ensures)
 cleared : {w : List ℕ} {n m : ℕ} → w ≡ zeroWords n → n ≡ m → w ≡ zeroWords m
 cleared e d = e ∙ ap zeroWords d
 
+-- The places that the answers look back to, each from a later one.
+abbrev work-ones-from-joined1 : tie.Joined1 → tie.After-work-ones
+work-ones-from-joined1 c = c .before .before .before .before .before
+
+abbrev then1-from-release-word-arg6 : tie.After-release-word-arg6 → tie.Then1
+then1-from-release-word-arg6 c = c .before .before .before .before .before .before
+
+abbrev code-from-release-word-arg6 : tie.After-release-word-arg6 → tie.After-code
+code-from-release-word-arg6 c = then1-from-release-word-arg6 c .before
+
+abbrev make-word-from-code : tie.After-code → tie.After-make-word
+make-word-from-code c = c .before .before .before .before .before
+
+abbrev joined1-from-clear : tie.After-clear → tie.Joined1
+joined1-from-clear c = c .before .before .before
+
 returns : tie.Need-returns
 unfolding wordOf
 returns c =
-    let j = c .before .before .before .before .before .before .before in
+    let after-clear = c .before .before .before .before in
+    let j = after-clear .before .before .before in
+    let after-work-ones = work-ones-from-joined1 j in
+    let after-make-word = after-work-ones .before in
+    let after-more-rows = after-make-word .before .before .before in
     let k = j .before in
-    let s = entry (k .before .before .before .before .before .before .before .before) in
+    let s = entry (after-more-rows) in
     let z = s .args .z in
     let i = lent s in
-    let told = k .before .before .before .before .before .make-word .ensures in
+    let told = after-make-word .make-word .ensures in
     let e = k .code .ensures ∙ told .0 in
     ⊎-elim
     (λ w.
@@ -63,8 +86,8 @@ returns c =
       w .17 ∙ g .1 ∙ ap (λ (v : Vector). twosOf (upTo (places z) v) (wordsFor (places z))) d ∙ exit-new _ _ f,
       w .18 ∙ g .2 ∙ ap (λ (v : Vector). onesOf (upTo (dim z) v) (wordsFor (dim z))) t ∙ exit-new _ _ f,
       w .19 ∙ g .3 ∙ ap (λ (v : Vector). twosOf (upTo (dim z) v) (wordsFor (dim z))) t ∙ exit-new _ _ f,
-      cleared (c .before .before .before .before .clear .ensures .0) (k .before .before .before .before .work-ones .given),
-      cleared (c .before .before .before .before .clear .ensures .1) (k .before .before .work-twos .given),
+      cleared (after-clear .clear .ensures .0) (after-work-ones .work-ones .given),
+      cleared (after-clear .clear .ensures .1) (k .before .before .work-twos .given),
     ))
     (λ w.
     let h = positive _ (w .0 .left) in (
@@ -73,8 +96,8 @@ returns c =
       w .2 ∙ exit-kept _ _ e h,
       w .3 ∙ exit-kept _ _ e h,
       w .4 ∙ exit-kept _ _ e h,
-      cleared (c .before .before .before .before .clear .ensures .0) (k .before .before .before .before .work-ones .given),
-      cleared (c .before .before .before .before .clear .ensures .1) (k .before .before .work-twos .given),
+      cleared (after-clear .clear .ensures .0) (after-work-ones .work-ones .given),
+      cleared (after-clear .clear .ensures .1) (k .before .before .work-twos .given),
     ))
     (j .if1 .came)
 
@@ -109,31 +132,37 @@ code-requires c κs = search needs
 
 release-word-requires : tie.Need-release-word-requires
 release-word-requires c κs =
-    let k = c .before .before .before .before .before .before .before in
-    let s = entry (k .before .before .before .before .before .before .before .before) in
+    let k = code-from-release-word-arg6 c in
+    let after-make-word = make-word-from-code k in
+    let after-more-rows = after-make-word .before .before .before in
+    let s = entry (after-more-rows) in
     let z = s .args .z in
     let m = s .pre .1 .1 in
     let p = space z (bounds z (s .pre .0)) in
-    (s .pre .0, (s .pre .1 .0 .p, (omega (arith, rows (k .before .before .before .before .before .before .before .before), p .rows), (k .before .before .before .before .before .make-word .ensures .1, (m .0, m .1, m .2, m .3)))))
+    (s .pre .0, (s .pre .1 .0 .p, (omega (arith, rows (after-more-rows), p .rows), (after-make-word .make-word .ensures .1, (m .0, m .1, m .2, m .3)))))
 
 clear-requires : tie.Need-clear-requires
 clear-requires c κs = search needs
 
 same-length : tie.Need-same-length
 same-length c =
-    ⊎-elim (λ w. omega (arith, ap length (w .16), w .8 .given)) (λ w. omega (arith, ap length (w .1))) (c .before .before .before .before .before .before .before .if1 .came)
+    ⊎-elim (λ w. omega (arith, ap length (w .16), w .8 .given)) (λ w. omega (arith, ap length (w .1)))
+    (joined1-from-clear (c .before .before .before .before) .if1 .came)
 
 same-length-2 : tie.Need-same-length-2
 same-length-2 c =
-    ⊎-elim (λ w. omega (arith, ap length (w .17), w .10 .given)) (λ w. omega (arith, ap length (w .2))) (c .before .before .before .before .before .before .before .if1 .came)
+    ⊎-elim (λ w. omega (arith, ap length (w .17), w .10 .given)) (λ w. omega (arith, ap length (w .2)))
+    (joined1-from-clear (c .before .before .before .before) .if1 .came)
 
 same-length-3 : tie.Need-same-length-3
 same-length-3 c =
-    ⊎-elim (λ w. omega (arith, ap length (w .18), w .12 .given)) (λ w. omega (arith, ap length (w .3))) (c .before .before .before .before .before .before .before .if1 .came)
+    ⊎-elim (λ w. omega (arith, ap length (w .18), w .12 .given)) (λ w. omega (arith, ap length (w .3)))
+    (joined1-from-clear (c .before .before .before .before) .if1 .came)
 
 same-length-4 : tie.Need-same-length-4
 same-length-4 c =
-    ⊎-elim (λ w. omega (arith, ap length (w .19), w .14 .given)) (λ w. omega (arith, ap length (w .4))) (c .before .before .before .before .before .before .before .if1 .came)
+    ⊎-elim (λ w. omega (arith, ap length (w .19), w .14 .given)) (λ w. omega (arith, ap length (w .4)))
+    (joined1-from-clear (c .before .before .before .before) .if1 .came)
 
 same-length-5 : tie.Need-same-length-5
 same-length-5 c = search needs

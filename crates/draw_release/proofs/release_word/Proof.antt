@@ -19,55 +19,82 @@ ones-sized v e f = e ∙ ap (onesOf v) f
 twos-sized : {o : List ℕ} (v : Vector) {n m : ℕ} → o ≡ twosOf v n → n ≡ m → o ≡ twosOf v m
 twos-sized v e f = e ∙ ap (twosOf v) f
 
+-- The places that the answers look back to, each from a later one.
+abbrev start-from-shape-of : tie.After-shape-of → tie.Start
+start-from-shape-of c = c .before .before .before .before .before .before .before .before
+
+abbrev write-places-from-write-places-arg4 : tie.After-write-places-arg4 → tie.After-write-places
+write-places-from-write-places-arg4 c = c .before .before .before .before .before .before
+
+abbrev shape-of-from-write-places : tie.After-write-places → tie.After-shape-of
+shape-of-from-write-places c = c .before .before .before .before .before
+
+abbrev shape-of-from-write-places-arg4 : tie.After-write-places-arg4 → tie.After-shape-of
+shape-of-from-write-places-arg4 c = shape-of-from-write-places (write-places-from-write-places-arg4 c)
+
 shape-of-requires : tie.Need-shape-of-requires
 shape-of-requires c κs = search needs
 
 add-rows : tie.Need-add-rows
-add-rows c = omega (arith, c .before .before .before .before .before .before .before .before .pre .1 .1 .0)
+add-rows c = omega (arith, start-from-shape-of c .pre .1 .1 .0)
 
 add-u : tie.Need-add-u
-add-u c = omega (arith, c .before .before .before .before .before .before .before .before .pre .1 .1 .0)
+add-u c = omega (arith, start-from-shape-of c .pre .1 .1 .0)
 
 add-v : tie.Need-add-v
-add-v c = omega (arith, c .before .before .before .before .before .before .before .before .pre .1 .1 .0)
+add-v c = omega (arith, start-from-shape-of c .pre .1 .1 .0)
 
 add-n : tie.Need-add-n
 add-n c =
-    let s = c .before .before .before .before .before .before .before .before .before in rw (c .before .shape-of .ensures) (omega (arith, bounds (s .args .z) (s .pre .0) .high))
+    let s = start-from-shape-of (c .before) in
+    rw (c .before .shape-of .ensures) (omega (arith, bounds (s .args .z) (s .pre .0) .high))
 
 add-k : tie.Need-add-k
 add-k c =
-    let s = c .before .before .before .before .before .before .before .before .before in let b = bounds (s .args .z) (s .pre .0) in omega (arith, b .high, b .ku, b .kv)
+    let s = start-from-shape-of (c .before) in
+    let b = bounds (s .args .z) (s .pre .0) in
+    omega (arith, b .high, b .ku, b .kv)
 
 add-first : tie.Need-add-first
 add-first c =
-    let s = c .before .before .before .before .before .before .before .before .before .before in rw (c .before .before .shape-of .ensures) (omega (arith, bounds (s .args .z) (s .pre .0) .high))
+    let s = start-from-shape-of (c .before .before) in
+    rw (c .before .before .shape-of .ensures) (omega (arith, bounds (s .args .z) (s .pre .0) .high))
 
 write-places-requires : tie.Need-write-places-requires
 write-places-requires c κs =
-    let s = c .before .before .before .before .before .before .before .before .before .before .before .before in
+    let after-shape-of = c .before .before .before .before in
+    let s = start-from-shape-of after-shape-of in
+    let a = s .args in
     let R = s .pre .1 .1 .1 .0 in
     let n = s .pre .1 .1 .1 .1 in
     let o = s .pre .1 .0 in
-    let h = bounds (s .args .z) (s .pre .0) .high in
-    let big = prod (s .args .l + 5) (halfWords (s .args .z)) 8197 128 (omega (arith, s .pre .1 .1 .0)) (omega (arith, h)) in
-    rw (c .before .before .before .before .shape-of .ensures) (
+    let h = bounds (a .z) (s .pre .0) .high in
+    let big = prod (a .l + 5) (halfWords (a .z)) 8197 128 (omega (arith, s .pre .1 .1 .0)) (omega (arith, h)) in
+    rw (after-shape-of .shape-of .ensures) (
       R,
       (o, ((omega (arith, R .size, big), omega arith, omega arith, omega (arith, h)), (omega (arith, o .size), omega (arith, n .0), n .1 ∙ sym (n .0)))),
     )
 
 write-places-requires-2 : tie.Need-write-places-requires-2
 write-places-requires-2 c κs =
-    let s = c .before .before .before .before .before .before .before .before .before .before .before .before .before .before .before .before .before .before .before in
-    let b = bounds (s .args .z) (s .pre .0) in
+    let after-shape-of = shape-of-from-write-places-arg4 c in
+    let s = start-from-shape-of after-shape-of in
+    let a = s .args in
+    let b = bounds (a .z) (s .pre .0) in
     let R = s .pre .1 .1 .1 .0 in
     let n = s .pre .1 .1 .1 .1 in
     let o = s .pre .1 .0 in
     let h = b .high in
-    let big = prod (s .args .l + 5) (halfWords (s .args .z)) 8197 128 (omega (arith, s .pre .1 .1 .0)) (omega (arith, h)) in
-    rw (c .before .before .before .before .before .before .before .before .before .before .before .shape-of .ensures) (
+    let big = prod (a .l + 5) (halfWords (a .z)) 8197 128 (omega (arith, s .pre .1 .1 .0)) (omega (arith, h)) in
+    rw (after-shape-of .shape-of .ensures) (
       R,
-      (o, ((omega (arith, R .size, big), omega arith, omega arith, omega (arith, h)), (omega (arith, o .size, b .ku, b .kv), omega (arith, n .2), n .3 ∙ sym (n .2)))),
+      (
+        o,
+        (
+          (omega (arith, R .size, big), omega arith, omega arith, omega (arith, h)),
+          (omega (arith, o .size, b .ku, b .kv), omega (arith, n .2), n .3 ∙ sym (n .2)),
+        ),
+      ),
     )
 
 same-length : tie.Need-same-length
@@ -84,10 +111,14 @@ same-length-4 c = search needs
 
 returns : tie.Need-returns
 returns c =
-    let s = c .before .before .before .before .before .before .before .before .before .before .before .before .before .before .before .before .before .before .before .before .before .before .before .before in
-    let n = s .pre .1 .1 .1 .1 in
-    let w = rw (c .before .before .before .before .before .before .before .before .before .before .before .before .before .before .before .before .shape-of .ensures) at (c .before .before .before .before .before .before .before .before .before .before .before .write-places .ensures) in
-    let t = rw (c .before .before .before .before .before .before .before .before .before .before .before .before .before .before .before .before .shape-of .ensures) at (c .before .before .before .before .write-places2 .ensures) in
+    let after-write-places2 = c .before .before .before .before in
+    let after-word-ones = after-write-places2 .before .before .before .before .before .before in
+    let after-write-places = after-word-ones .before in
+    let after-shape-of = after-write-places .before .before .before .before .before in
+    let n = start-from-shape-of after-shape-of .pre .1 .1 .1 .1 in
+    let e = after-shape-of .shape-of .ensures in
+    let w = rw e at (after-write-places .write-places .ensures) in
+    let t = rw e at (after-write-places2 .write-places2 .ensures) in
     (ones-sized _ (w .0) (n .0), twos-sized _ (w .1) (n .0), ones-sized _ (t .0) (n .2), twos-sized _ (t .1) (n .2))
 
 pub release-word-spec : {M : Type 1} → statement M

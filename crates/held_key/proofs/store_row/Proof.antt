@@ -15,6 +15,25 @@ use Rattle.held_key.proofs.Storing.{plane-kept, plane-put}
 use Rattle.held_key.proofs.store_row.Statement.{statement}
 use Rattle.held_key.proofs.store_row.Tie as tie
 
+-- The places that the answers look back to, each from a later one.
+abbrev start-from-test-row : tie.After-test-row → tie.Start
+start-from-test-row c = c .before .before .before .before .before .before .before
+
+abbrev start-from-code : tie.After-code → tie.Start
+start-from-code c = start-from-test-row (c .before)
+
+abbrev start-from-else1 : tie.Else1 → tie.Start
+start-from-else1 c = start-from-code (c .before)
+
+abbrev start-from-row-words : tie.After-row-words → tie.Start
+start-from-row-words c = start-from-else1 (c .before)
+
+abbrev else1-from-put-row2 : tie.After-put-row2 → tie.Else1
+else1-from-put-row2 c = c .before .before .before .before .before .before .before
+
+abbrev put-row-from-count-row : tie.After-count-row → tie.After-put-row
+put-row-from-count-row c = c .before .before .before .before .before .before .before
+
 test-row-requires : tie.Need-test-row-requires
 test-row-requires c κs = search needs
 
@@ -40,25 +59,41 @@ row-words-requires c κs =
 
 mul-start : tie.Need-mul-start
 mul-start c =
+    let start′ = start-from-row-words c in
+    let a = start′ .args in
     let r = stored-passed _ (sym (c .before .before .before .test-row .ensures) ∙ sym (c .before .before .code .ensures) ∙ c .before .if1 .left) .0 in
-    let e : c .before .before .before .before .before .before .before .before .before .before .args .held .rows * c .row-words .result ≡ c .before .before .before .before .before .before .before .before .before .before .args .held .rows * rowWords (c .before .before .before .before .before .before .before .before .before .before .args .held) = ap (λ (x : ℕ). c .before .before .before .before .before .before .before .before .before .before .args .held .rows * x) (c .row-words .ensures) in
+    let e : a .held .rows * c .row-words .result ≡ a .held .rows * rowWords (a .held) = ap (λ (x : ℕ). a .held .rows * x) (c .row-words .ensures) in
     omega (arith, e, r .within, r .all .room)
 
 put-row-requires : tie.Need-put-row-requires
 put-row-requires c κs =
-    let r = stored-passed _ (sym (c .before .before .before .before .test-row .ensures) ∙ sym (c .before .before .before .code .ensures) ∙ c .before .before .if1 .left) in
-    let e : c .before .before .before .before .before .before .before .before .before .before .before .args .held .rows * c .before .row-words .result ≡ c .before .before .before .before .before .before .before .before .before .before .before .args .held .rows * rowWords (c .before .before .before .before .before .before .before .before .before .before .before .args .held) = ap (λ (x : ℕ). c .before .before .before .before .before .before .before .before .before .before .before .args .held .rows * x) (c .before .row-words .ensures) in
+    let after-test-row = c .before .before .before .before in
+    let start′ = start-from-test-row after-test-row in
+    let a = start′ .args in
+    let r = stored-passed _ (sym (after-test-row .test-row .ensures) ∙ sym (c .before .before .before .code .ensures) ∙ c .before .before .if1 .left) in
+    let e : a .held .rows * c .before .row-words .result ≡ a .held .rows * rowWords (a .held) = ap (λ (x : ℕ). a .held .rows * x)
+    (c .before .row-words .ensures) in
     omega (arith, e, r .0 .within, r .0 .ones-are, r .1)
 
 put-row-requires-2 : tie.Need-put-row-requires-2
 put-row-requires-2 c κs =
-    let r = stored-passed _ (sym (c .before .before .before .before .before .before .before .before .test-row .ensures) ∙ sym (c .before .before .before .before .before .before .before .code .ensures) ∙ c .before .before .before .before .before .before .if1 .left) in
-    let e : c .before .before .before .before .before .before .before .before .before .before .before .before .before .before .before .args .held .rows * c .before .before .before .before .before .row-words .result ≡ c .before .before .before .before .before .before .before .before .before .before .before .before .before .before .before .args .held .rows * rowWords (c .before .before .before .before .before .before .before .before .before .before .before .before .before .before .before .args .held) = ap (λ (x : ℕ). c .before .before .before .before .before .before .before .before .before .before .before .before .before .before .before .args .held .rows * x) (c .before .before .before .before .before .row-words .ensures) in
+    let after-row-words = c .before .before .before .before .before in
+    let else1 = after-row-words .before in
+    let after-code = else1 .before in
+    let after-test-row = after-code .before in
+    let start′ = start-from-test-row after-test-row in
+    let a = start′ .args in
+    let r = stored-passed _ (sym (after-test-row .test-row .ensures) ∙ sym (after-code .code .ensures) ∙ else1 .if1 .left) in
+    let e : a .held .rows * after-row-words .row-words .result ≡ a .held .rows * rowWords (a .held) = ap (λ (x : ℕ). a .held .rows * x)
+    (after-row-words .row-words .ensures) in
     omega (arith, e, r .0 .within, r .0 .twos-are, r .2)
 
 count-row-requires : tie.Need-count-row-requires
 count-row-requires c κs =
-    stored-passed _ (sym (c .before .before .before .before .before .before .before .before .before .before .before .test-row .ensures) ∙ sym (c .before .before .before .before .before .before .before .before .before .before .code .ensures) ∙ c .before .before .before .before .before .before .before .before .before .if1 .left) .0 .is-sound
+    let else1 = else1-from-put-row2 (c .before .before) in
+    let after-code = else1 .before in
+    let after-test-row = after-code .before in
+    stored-passed _ (sym (after-test-row .test-row .ensures) ∙ sym (after-code .code .ensures) ∙ else1 .if1 .left) .0 .is-sound
 
 same-length-3 : tie.Need-same-length-3
 same-length-3 c = search needs
@@ -69,9 +104,21 @@ same-length-4 c = search needs
 returns-2 : tie.Need-returns-2
 unfolding storedHeld
 returns-2 c =
-    let z = (sym (c .before .before .before .before .before .before .before .before .before .before .before .before .test-row .ensures) ∙ sym (c .before .before .before .before .before .before .before .before .before .before .before .code .ensures) ∙ c .before .before .before .before .before .before .before .before .before .before .if1 .left) in
-    let e : c .before .before .before .before .before .before .before .before .before .before .before .before .before .before .before .before .before .before .before .args .held .rows * c .before .before .before .before .before .before .before .before .before .row-words .result ≡ c .before .before .before .before .before .before .before .before .before .before .before .before .before .before .before .before .before .before .before .args .held .rows * rowWords (c .before .before .before .before .before .before .before .before .before .before .before .before .before .before .before .before .before .before .before .args .held) = ap (λ (x : ℕ). c .before .before .before .before .before .before .before .before .before .before .before .before .before .before .before .before .before .before .before .args .held .rows * x) (c .before .before .before .before .before .before .before .before .before .row-words .ensures) in
-    (c .before .before .before .before .before .before .before .before .before .before .before .before .test-row .ensures, c .count-row .ensures ∙ exit-new _ _ z, c .before .before .before .before .before .before .before .put-row .ensures ∙ ap (λ (x : ℕ). putWords x (now (c .before .before .before .before .before .before .before .before .before .before .before .before .before .before .before .before .before .before .before .args .ones)) (now (c .before .before .before .before .before .before .before .before .before .before .before .before .before .before .before .before .before .before .before .args .row-ones))) e ∙ plane-put _ _ _ z, c .before .before .before .put-row2 .ensures ∙ ap (λ (x : ℕ). putWords x (now (c .before .before .before .before .before .before .before .before .before .before .before .before .before .before .before .before .before .before .before .args .twos)) (now (c .before .before .before .before .before .before .before .before .before .before .before .before .before .before .before .before .before .before .before .args .row-twos))) e ∙ plane-put _ _ _ z)
+    let after-put-row = put-row-from-count-row c in
+    let after-row-words = after-put-row .before .before in
+    let else1 = after-row-words .before in
+    let after-code = else1 .before in
+    let after-test-row = after-code .before in
+    let start′ = start-from-test-row after-test-row in
+    let a = start′ .args in
+    let z = (sym (after-test-row .test-row .ensures) ∙ sym (after-code .code .ensures) ∙ else1 .if1 .left) in
+    let e : a .held .rows * after-row-words .row-words .result ≡ a .held .rows * rowWords (a .held) = ap (λ (x : ℕ). a .held .rows * x)
+    (after-row-words .row-words .ensures) in (
+      after-test-row .test-row .ensures,
+      c .count-row .ensures ∙ exit-new _ _ z,
+      after-put-row .put-row .ensures ∙ ap (λ (x : ℕ). putWords x (now (a .ones)) (now (a .row-ones))) e ∙ plane-put _ _ _ z,
+      c .before .before .before .put-row2 .ensures ∙ ap (λ (x : ℕ). putWords x (now (a .twos)) (now (a .row-twos))) e ∙ plane-put _ _ _ z,
+    )
 
 pub store-row-spec : {M : Type 1} → statement M
 store-row-spec =

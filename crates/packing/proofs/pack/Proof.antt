@@ -49,7 +49,11 @@ code-requires c κs = search needs
 returns-5 : tie.Need-returns-5
 unfolding packExit
 returns-5 c =
-    let e = c .before .before .test-planes .ensures ∙ pack-passed _ _ _ _ (c .before .before .before .before .before .before .if1 .left) (c .before .before .before .if4 .left) (c .before .before .before .before .before .if2 .left) (c .before .before .before .before .if3 .left) in
+    let else3 = c .before .before .before .before in
+    let else2 = else3 .before in
+    let else1 = else2 .before in
+    let e = c .before .before .test-planes .ensures ∙
+    pack-passed _ _ _ _ (else1 .if1 .left) (c .before .before .before .if4 .left) (else2 .if2 .left) (else3 .if3 .left) in
     (e, exit-kept _ _ (c .before .code .ensures ∙ e) (omega arith))
 
 read-bytes-requires : tie.Need-read-bytes-requires
@@ -62,8 +66,15 @@ same-length c = search needs
 returns-6 : tie.Need-returns-6
 unfolding packExit
 returns-6 c =
-    let e = c .before .before .before .before .before .before .test-planes .ensures ∙ pack-passed _ _ _ _ (c .before .before .before .before .before .before .before .before .before .before .if1 .left) (c .before .before .before .before .before .before .before .if4 .left) (c .before .before .before .before .before .before .before .before .before .if2 .left) (c .before .before .before .before .before .before .before .before .if3 .left) in
-    let z = sym e ∙ sym (c .before .before .before .before .before .code .ensures) ∙ c .before .before .before .before .if5 .left in
+    let else5 = c .before .before .before .before in
+    let after-code = else5 .before in
+    let after-test-planes = after-code .before in
+    let else4 = after-test-planes .before in
+    let else3 = else4 .before in
+    let else2 = else3 .before in
+    let else1 = else2 .before in
+    let e = after-test-planes .test-planes .ensures ∙ pack-passed _ _ _ _ (else1 .if1 .left) (else4 .if4 .left) (else2 .if2 .left) (else3 .if3 .left) in
+    let z = sym e ∙ sym (after-code .code .ensures) ∙ else5 .if5 .left in
     (sym z, c .before .before .read-bytes .ensures ∙ exit-new _ _ z)
 
 pub pack-spec : {M : Type 1} → statement M

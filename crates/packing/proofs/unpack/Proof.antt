@@ -50,7 +50,11 @@ code-requires c κs = search needs
 returns-5 : tie.Need-returns-5
 unfolding unpackOnes unpackTwos
 returns-5 c =
-    let e = c .before .before .test-bytes .ensures ∙ unpack-passed _ _ _ _ (c .before .before .before .before .before .before .if1 .left) (c .before .before .before .before .before .if2 .left) (c .before .before .before .before .if3 .left) (c .before .before .before .if4 .left) in
+    let else3 = c .before .before .before .before in
+    let else2 = else3 .before in
+    let else1 = else2 .before in
+    let e = c .before .before .test-bytes .ensures ∙
+    unpack-passed _ _ _ _ (else1 .if1 .left) (else2 .if2 .left) (else3 .if3 .left) (c .before .before .before .if4 .left) in
     let f = c .before .code .ensures ∙ e in
     (e, exit-kept _ _ f (omega arith), exit-kept _ _ f (omega arith))
 
@@ -67,10 +71,20 @@ same-length-2 c = search needs
 returns-6 : tie.Need-returns-6
 unfolding unpackOnes unpackTwos
 returns-6 c =
-    let a = c .before .before .before .before .before .before .before .before .before .before .before .before .before .before .before .before .before .args in
-    let e = c .before .before .before .before .before .before .before .before .before .test-bytes .ensures ∙ unpack-passed _ _ _ _ (c .before .before .before .before .before .before .before .before .before .before .before .before .before .if1 .left) (c .before .before .before .before .before .before .before .before .before .before .before .before .if2 .left) (c .before .before .before .before .before .before .before .before .before .before .before .if3 .left) (c .before .before .before .before .before .before .before .before .before .before .if4 .left) in
-    let z = sym e ∙ sym (c .before .before .before .before .before .before .before .before .code .ensures) ∙ c .before .before .before .before .before .before .before .if5 .left in
-    let w = reads-words (c .before .before .before .before .write-packed .ensures) (c .before .before .before .before .before .before .before .before .before .before .before .if3 .left) (λ j. c .before .before .slice-known3 .given j .fits) (λ j. c .slice-known4 .given j .fits) in
+    let after-write-packed = c .before .before .before .before in
+    let else5 = after-write-packed .before .before .before in
+    let after-code = else5 .before in
+    let after-test-bytes = after-code .before in
+    let else4 = after-test-bytes .before in
+    let else3 = else4 .before in
+    let else2 = else3 .before in
+    let else1 = else2 .before in
+    let start = else1 .before .before .before .before in
+    let a = start .args in
+    let e = after-test-bytes .test-bytes .ensures ∙ unpack-passed _ _ _ _ (else1 .if1 .left) (else2 .if2 .left) (else3 .if3 .left) (else4 .if4 .left) in
+    let z = sym e ∙ sym (after-code .code .ensures) ∙ else5 .if5 .left in
+    let w = reads-words (after-write-packed .write-packed .ensures) (else3 .if3 .left) (λ j. c .before .before .slice-known3 .given j .fits)
+    (λ j. c .slice-known4 .given j .fits) in
     (sym z, w .ones-are ∙ exit-new _ _ z, w .twos-are ∙ exit-new _ _ z)
 
 pub unpack-spec : {M : Type 1} → statement M

@@ -24,11 +24,13 @@ end-line-requires c κs = search needs
 
 returns-2 : tie.Need-returns-2
 returns-2 c =
-    let s = c .before .before .before .before .before .before in
-    let m = machine (s .args .state) (now (s .args .line)) (now (s .args .ones)) (now (s .args .twos)) in
-    let q = end-some m (c .before .before .before .before .if1 .left) in
+    let else1 = c .before .before .before .before in
+    let s = else1 .before .before in
+    let a = s .args in
+    let m = machine (a .state) (now (a .line)) (now (a .ones)) (now (a .twos)) in
+    let q = end-some m (else1 .if1 .left) in
     let p = c .end-line .ensures in
-    (p .0 ∙ q .0, (p .1 .0 ∙ ap length (q .1), p .1 .1 ∙ ap (putWords 0 (now (s .args .out))) (q .1)))
+    (p .0 ∙ q .0, (p .1 .0 ∙ ap length (q .1), p .1 .1 ∙ ap (putWords 0 (now (a .out))) (q .1)))
 
 pub end-spec : {M : Type 1} → statement M
 end-spec = tie.close (tie.spec returns end-line-requires returns-2)

@@ -12,16 +12,22 @@ use Rattle.text_lines.proofs.Bytes.{step-end, step-none, step-more, ste
 use Rattle.text_lines.proofs.step.Statement.{statement}
 use Rattle.text_lines.proofs.step.Tie as tie
 
+-- The places that the answers look back to, each from a later one.
+abbrev then1-from-end-line : tie.After-end-line → tie.Then1
+then1-from-end-line c = c .before .before .before .before .before
+
 end-line-requires : tie.Need-end-line-requires
 end-line-requires c κs = search needs
 
 returns : tie.Need-returns
 returns c =
-    let s = c .before .before .before .before .before .before in
-    let m = machine (s .args .state) (now (s .args .line)) (now (s .args .ones)) (now (s .args .twos)) in
-    let q = step-end m (s .args .byte) (c .before .before .before .before .before .if1 .taken) in
+    let then1 = then1-from-end-line c in
+    let s = then1 .before in
+    let a = s .args in
+    let m = machine (a .state) (now (a .line)) (now (a .ones)) (now (a .twos)) in
+    let q = step-end m (a .byte) (then1 .if1 .taken) in
     let p = c .end-line .ensures in
-    (p .0 ∙ q .0, (p .1 .0 ∙ ap length (q .1), p .1 .1 ∙ ap (putWords 0 (now (s .args .out))) (q .1)))
+    (p .0 ∙ q .0, (p .1 .0 ∙ ap length (q .1), p .1 .1 ∙ ap (putWords 0 (now (a .out))) (q .1)))
 
 element-write-line : tie.Need-element-write-line
 element-write-line c = search needs
@@ -34,8 +40,10 @@ returns-2 c =
     let s = c .before .before .before in
     let m = machine (s .args .state) (now (s .args .line)) (now (s .args .ones)) (now (s .args .twos)) in
     let f = c .before .before .if1 .left in
-    let z = step-none m (s .args .byte) f in
-    (step-more m (s .args .byte) f (omega (arith, c .before .if2 .taken)), (ap length z, none-put (now (s .args .out)) ∙ ap (putWords 0 (now (s .args .out))) z))
+    let z = step-none m (s .args .byte) f in (
+      step-more m (s .args .byte) f (omega (arith, c .before .if2 .taken)),
+      (ap length z, none-put (now (s .args .out)) ∙ ap (putWords 0 (now (s .args .out))) z),
+    )
 
 returns-3 : tie.Need-returns-3
 returns-3 c =

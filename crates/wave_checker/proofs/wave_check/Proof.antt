@@ -5,6 +5,10 @@ use borrow.Author.Needs.{needs}
 use Rattle.wave_checker.proofs.wave_check.Statement.{statement}
 use Rattle.wave_checker.proofs.wave_check.Tie as tie
 
+-- The places that the answers look back to, each from a later one.
+abbrev check-packed-from-tell : tie.After-tell → tie.After-check-packed
+check-packed-from-tell c = c .before .before .before .before .before
+
 check-packed-requires : tie.Need-check-packed-requires
 check-packed-requires c κs = search needs
 
@@ -19,7 +23,7 @@ same-length-2 c = search needs
 
 returns : tie.Need-returns
 returns c =
-    let e = c .before .before .before .before .before .check-packed .ensures in
+    let e = check-packed-from-tell c .check-packed .ensures in
     (c .tell .ensures ∙ e .0, e .1, e .2)
 
 pub wave-check-spec : {M : Type 1} → statement M

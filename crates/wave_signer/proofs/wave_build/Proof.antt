@@ -5,6 +5,10 @@ use borrow.Author.Needs.{needs}
 use Rattle.wave_signer.proofs.wave_build.Statement.{statement}
 use Rattle.wave_signer.proofs.wave_build.Tie as tie
 
+-- The places that the answers look back to, each from a later one.
+abbrev build-from-code : tie.After-code → tie.After-build
+build-from-code c = c .before .before .before .before .before .before .before .before .before .before .before
+
 build-requires : tie.Need-build-requires
 build-requires c κs = search needs
 
@@ -28,7 +32,7 @@ same-length-5 c = search needs
 
 returns : tie.Need-returns
 returns c =
-    let e = c .before .before .before .before .before .before .before .before .before .before .before .build .ensures in (c .code .ensures ∙ e .0, e .1, e .2, e .3)
+    let e = build-from-code c .build .ensures in (c .code .ensures ∙ e .0, e .1, e .2, e .3)
 
 pub wave-build-spec : {M : Type 1} → statement M
 wave-build-spec =

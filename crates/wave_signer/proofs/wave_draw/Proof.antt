@@ -5,6 +5,10 @@ use borrow.Author.Needs.{needs}
 use Rattle.wave_signer.proofs.wave_draw.Statement.{statement}
 use Rattle.wave_signer.proofs.wave_draw.Tie as tie
 
+-- The places that the answers look back to, each from a later one.
+abbrev draw-from-code : tie.After-code → tie.After-draw
+draw-from-code c = c .before .before .before .before .before .before .before .before .before .before .before .before .before
+
 draw-requires : tie.Need-draw-requires
 draw-requires c κs = search needs
 
@@ -31,7 +35,7 @@ same-length-6 c = search needs
 
 returns : tie.Need-returns
 returns c =
-    let e = c .before .before .before .before .before .before .before .before .before .before .before .before .before .draw .ensures in (c .code .ensures ∙ e .0, e .1, e .2, e .3)
+    let e = draw-from-code c .draw .ensures in (c .code .ensures ∙ e .0, e .1, e .2, e .3)
 
 pub wave-draw-spec : {M : Type 1} → statement M
 wave-draw-spec =

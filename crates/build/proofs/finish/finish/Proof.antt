@@ -20,20 +20,35 @@ use borrow.Author.Needs.{needs}
 use Rattle.build.proofs.finish.finish.Statement.{statement}
 use Rattle.build.proofs.finish.finish.Tie as tie
 
+-- The places that the answers look back to, each from a later one.
+abbrev test-ranks-from-code : tie.After-code → tie.After-test-ranks
+test-ranks-from-code c = c .before .before .before .before .before
+
+abbrev work-ones-from-joined1 : tie.Joined1 → tie.After-work-ones
+work-ones-from-joined1 c = c .before .before .before .before .before
+
+abbrev then1-from-release-arg5 : tie.After-release-arg5 → tie.Then1
+then1-from-release-arg5 c = c .before .before .before .before .before
+
+abbrev joined1-from-clear : tie.After-clear → tie.Joined1
+joined1-from-clear c = c .before .before .before
+
 -- the entry, and the secret lent there
 abbrev entry : tie.After-code → tie.Start
-entry c = c .before .before .before .before .before .before .before .before .before .before .before .before .before .before .before .before .before .before .before .before .before .before
+entry c =
+    c .before .before .before .before .before .before .before .before .before .before .before .before .before .before .before .before .before .before .before .before .before .before
 
 abbrev secret : tie.Start → Secret
 secret s =
     let a = s .args in
-    secretOf (a .z) (planes (now (a .hu-ones)) (now (a .hu-twos)) (now (a .hv-ones)) (now (a .hv-twos)) (now (a .b-ones)) (now (a .b-twos)) (now (a .c-ones)) (now (a .c-twos)))
+    secretOf (a .z) (planes (now (a .hu-ones)) (now (a .hu-twos)) (now (a .hv-ones)) (now (a .hv-twos)) (now (a .b-ones)) (now (a .b-twos)) (now (a .c-ones))
+    (now (a .c-twos)))
 
 -- the test of the ranks tells the refusal that the definition says
 told : (c : tie.After-code) → codeOf (c .before .before .before .before .before .test-ranks .result) ≡ buildRefusal (entry c .args .z) (secret (entry c))
 told c =
     let a = entry c .args in
-    c .before .before .before .before .before .test-ranks .ensures
+    test-ranks-from-code c .test-ranks .ensures
     ∙ same-ranks (a .z) (matrices (a .z) (now (a .hu-ones)) (now (a .hu-twos)) (now (a .hv-ones)) (now (a .hv-twos))) (secret (entry c)) refl refl
 
 -- words made 0 at a length that is also the entry's
@@ -42,7 +57,9 @@ cleared e d = e ∙ ap zeroWords d
 
 returns : tie.Need-returns
 returns c =
-    let j = c .before .before .before .before .before .before .before in
+    let after-clear = c .before .before .before .before in
+    let j = after-clear .before .before .before in
+    let after-work-ones = work-ones-from-joined1 j in
     let k = j .before in
     let e = k .code .ensures ∙ told k in
     ⊎-elim
@@ -52,8 +69,8 @@ returns c =
       w .17 ∙ w .6 .ensures .0 ∙ exit-new _ _ f,
       w .18 ∙ w .6 .ensures .1 ∙ exit-new _ _ f,
       w .19 ∙ w .6 .ensures .2 ∙ exit-new _ _ f,
-      cleared (c .before .before .before .before .clear .ensures .0) (omega (arith, ap length (w .20), w .13 .given, k .before .before .before .before .work-ones .given)),
-      cleared (c .before .before .before .before .clear .ensures .1) (omega (arith, ap length (w .21), w .15 .given, k .before .before .work-twos .given)),
+      cleared (after-clear .clear .ensures .0) (omega (arith, ap length (w .20), w .13 .given, after-work-ones .work-ones .given)),
+      cleared (after-clear .clear .ensures .1) (omega (arith, ap length (w .21), w .15 .given, k .before .before .work-twos .given)),
     ))
     (λ w.
     let h = positive _ (w .0 .left) in (
@@ -61,8 +78,8 @@ returns c =
       w .1 ∙ exit-kept _ _ e h,
       w .2 ∙ exit-kept _ _ e h,
       w .3 ∙ exit-kept _ _ e h,
-      cleared (c .before .before .before .before .clear .ensures .0) (omega (arith, ap length (w .4), k .before .before .before .before .work-ones .given)),
-      cleared (c .before .before .before .before .clear .ensures .1) (omega (arith, ap length (w .5), k .before .before .work-twos .given)),
+      cleared (after-clear .clear .ensures .0) (omega (arith, ap length (w .4), after-work-ones .work-ones .given)),
+      cleared (after-clear .clear .ensures .1) (omega (arith, ap length (w .5), k .before .before .work-twos .given)),
     ))
     (j .if1 .came)
 
@@ -74,10 +91,12 @@ code-requires c κs = search needs
 
 release-requires : tie.Need-release-requires
 release-requires c κs =
-    let k = c .before .before .before .before .before .before in
+    let then1 = then1-from-release-arg5 c in
+    let k = then1 .before in
+    let after-work-ones = k .before .before .before .before in
     let s = entry k in
     let l = s .pre .1 .1 .1 in
-    let f = sym (told k) ∙ sym (k .code .ensures) ∙ c .before .before .before .before .before .if1 .taken in (
+    let f = sym (told k) ∙ sym (k .code .ensures) ∙ then1 .if1 .taken in (
       s .pre .0,
       (
         s .pre .1 .0,
@@ -85,7 +104,7 @@ release-requires c κs =
           s .pre .1 .1 .0,
           (
             full-rank (s .args .z) (secret s) f,
-            (l .0, l .1, l .2, omega (arith, k .before .before .before .before .work-ones .given, l .3), omega (arith, k .before .before .work-twos .given, l .4)),
+            (l .0, l .1, l .2, omega (arith, after-work-ones .work-ones .given, l .3), omega (arith, k .before .before .work-twos .given, l .4)),
           ),
         ),
       ),
@@ -96,23 +115,32 @@ clear-requires c κs = search needs
 
 same-length : tie.Need-same-length
 same-length c =
-    ⊎-elim (λ w. omega (arith, ap length (w .17), w .7 .given)) (λ w. omega (arith, ap length (w .1))) (c .before .before .before .before .before .before .before .if1 .came)
+    ⊎-elim (λ w. omega (arith, ap length (w .17), w .7 .given)) (λ w. omega (arith, ap length (w .1)))
+    (joined1-from-clear (c .before .before .before .before) .if1 .came)
 
 same-length-2 : tie.Need-same-length-2
 same-length-2 c =
-    ⊎-elim (λ w. omega (arith, ap length (w .18), w .9 .given)) (λ w. omega (arith, ap length (w .2))) (c .before .before .before .before .before .before .before .if1 .came)
+    ⊎-elim (λ w. omega (arith, ap length (w .18), w .9 .given)) (λ w. omega (arith, ap length (w .2)))
+    (joined1-from-clear (c .before .before .before .before) .if1 .came)
 
 same-length-3 : tie.Need-same-length-3
 same-length-3 c =
-    ⊎-elim (λ w. omega (arith, ap length (w .19), w .11 .given)) (λ w. omega (arith, ap length (w .3))) (c .before .before .before .before .before .before .before .if1 .came)
+    ⊎-elim (λ w. omega (arith, ap length (w .19), w .11 .given)) (λ w. omega (arith, ap length (w .3)))
+    (joined1-from-clear (c .before .before .before .before) .if1 .came)
 
 same-length-4 : tie.Need-same-length-4
 same-length-4 c =
-    ⊎-elim (λ w. omega (arith, ap length (w .20), w .13 .given, c .before .before .before .before .before .before .before .before .before .before .before .before .work-ones .given, c .before .before .before .work-ones3 .given)) (λ w. omega (arith, ap length (w .4), c .before .before .before .before .before .before .before .before .before .before .before .before .work-ones .given, c .before .before .before .work-ones3 .given)) (c .before .before .before .before .before .before .before .if1 .came)
+    let joined1 = joined1-from-clear (c .before .before .before .before) in
+    let after-work-ones = work-ones-from-joined1 joined1 in
+    ⊎-elim (λ w. omega (arith, ap length (w .20), w .13 .given, after-work-ones .work-ones .given, c .before .before .before .work-ones3 .given))
+    (λ w. omega (arith, ap length (w .4), after-work-ones .work-ones .given, c .before .before .before .work-ones3 .given)) (joined1 .if1 .came)
 
 same-length-5 : tie.Need-same-length-5
 same-length-5 c =
-    ⊎-elim (λ w. omega (arith, ap length (w .21), w .15 .given, c .before .before .before .before .before .before .before .before .before .before .work-twos .given, c .before .work-twos3 .given)) (λ w. omega (arith, ap length (w .5), c .before .before .before .before .before .before .before .before .before .before .work-twos .given, c .before .work-twos3 .given)) (c .before .before .before .before .before .before .before .if1 .came)
+    let joined1 = joined1-from-clear (c .before .before .before .before) in
+    let after-work-twos = joined1 .before .before .before in
+    ⊎-elim (λ w. omega (arith, ap length (w .21), w .15 .given, after-work-twos .work-twos .given, c .before .work-twos3 .given))
+    (λ w. omega (arith, ap length (w .5), after-work-twos .work-twos .given, c .before .work-twos3 .given)) (joined1 .if1 .came)
 
 pub finish-spec : {M : Type 1} → statement M
 finish-spec =

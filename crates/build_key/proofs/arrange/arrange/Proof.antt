@@ -11,17 +11,32 @@ use Rattle.build_key.proofs.arrange.arrange.Statement.{statement}
 use Rattle.build_key.proofs.arrange.arrange.Tie as tie
 
 abbrev Inv-loop : tie.InvT-loop
-Inv-loop ones₀ twos₀ rows w half hw order₀ j₀ left₀ ones twos order j left = Arranging rows half hw w (placedAt half hw w ones₀ twos₀) order₀ left j ones twos order
+Inv-loop ones₀ twos₀ rows w half hw order₀ j₀ left₀ ones twos order j left = Arranging rows half hw w (placedAt half hw w ones₀ twos₀) order₀ left j ones twos
+    order
 
 abbrev μ-loop : tie.MeasureT-loop
 μ-loop ones₀ twos₀ rows w half hw order₀ j₀ left₀ ones twos order j left = left
+
+-- The places that the answers look back to, each from a later one.
+abbrev start-from-in-loop : tie.In-loop Inv-loop μ-loop → tie.Start Inv-loop μ-loop
+start-from-in-loop c = c .before .before .before .before .before
+
+abbrev try-column-from-slice-known7 : tie.After-slice-known7 Inv-loop μ-loop → tie.After-try-column Inv-loop μ-loop
+try-column-from-slice-known7 c = c .before .before .before .before .before .before
+
+abbrev in-loop-from-try-column : tie.After-try-column Inv-loop μ-loop → tie.In-loop Inv-loop μ-loop
+in-loop-from-try-column c = c .before .before .before .before .before .before
+
+abbrev in-loop-from-slice-known7 : tie.After-slice-known7 Inv-loop μ-loop → tie.In-loop Inv-loop μ-loop
+in-loop-from-slice-known7 c = in-loop-from-try-column (try-column-from-slice-known7 c)
 
 loop-holds : tie.Need-loop-holds Inv-loop μ-loop
 loop-holds c =
     arrange-none _ _ (c .before .before .before .pre .0) (c .before .before .before .pre .1 .1 .0)
 
-facts : (c : tie.In-loop Inv-loop μ-loop) → Facts (c .before .loop .left) (c .before .loop .j) (length (now (c .before .before .before .before .before .args .order))) (c .before .loop .order)
-facts c = turn-facts (c .before .loop .inv) (c .before .before .before .before .before .pre .1 .1 .1) (omega arith)
+facts : (c : tie.In-loop Inv-loop μ-loop) →
+    Facts (c .before .loop .left) (c .before .loop .j) (length (now (c .before .before .before .before .before .args .order))) (c .before .loop .order)
+facts c = turn-facts (c .before .loop .inv) (start-from-in-loop c .pre .1 .1 .1) (omega arith)
 
 sub-left : tie.Need-sub-left Inv-loop μ-loop
 sub-left c =
@@ -54,24 +69,32 @@ add-try-column c =
 
 try-column-requires : tie.Need-try-column-requires Inv-loop μ-loop
 try-column-requires c κs =
-    let a = c .before .before .before .before .before .before .before .before .before .before .args in
-    let l = c .before .before .before .before .before .before .loop in
-    let f = facts (c .before .before .before .before .before) in
+    let in-loop = c .before .before .before .before .before in
+    let at-loop = in-loop .before in
+    let start = at-loop .before .before .before .before in
+    let a = start .args in
+    let l = at-loop .loop in
+    let f = facts (in-loop) in
     let h : c .before .before .before .column .result < 64 * a .w =
-    subst (λ (z : ℕ). z < 64 * a .w) (sym (c .before .before .before .column .ensures)) (col-below (a .half) (a .hw) (a .w) (getD (l .order) (l .j) 0) (omega arith) (omega arith) (omega arith)) in
+    subst (λ (z : ℕ). z < 64 * a .w) (sym (c .before .before .before .column .ensures))
+    (col-below (a .half) (a .hw) (a .w) (getD (l .order) (l .j) 0) (omega arith) (omega arith) (omega arith)) in
     (l .inv .rows, (omega (arith, l .inv .rows .size), h, omega arith, omega arith, omega arith))
 
 loop-less : tie.Need-loop-less Inv-loop μ-loop
 loop-less c =
-    let f = facts (c .before .before .before .before .before .before .before .before .before .before .before .before) in
+    let f = facts (in-loop-from-slice-known7 c) in
     omega arith
 
 loop-again : tie.Need-loop-again Inv-loop μ-loop
 loop-again c =
-    let l = c .before .before .before .before .before .before .before .before .before .before .before .before .before .loop in
-    let f = facts (c .before .before .before .before .before .before .before .before .before .before .before .before) in
-    let e = c .before .before .before .before .before .before .try-column .ensures in
-    arrange-turn (arrange-some (l .inv) (f .some)) (omega arith) _ (c .before .before .before .before .before .before .before .before .before .before .column .ensures) (e .0) (e .1 .0) (e .1 .1)
+    let after-try-column = try-column-from-slice-known7 c in
+    let after-column = after-try-column .before .before .before .before in
+    let in-loop = after-column .before .before in
+    let at-loop = in-loop .before in
+    let l = at-loop .loop in
+    let f = facts (in-loop) in
+    let e = after-try-column .try-column .ensures in
+    arrange-turn (arrange-some (l .inv) (f .some)) (omega arith) _ (after-column .column .ensures) (e .0) (e .1 .0) (e .1 .1)
 
 same-length : tie.Need-same-length Inv-loop μ-loop
 same-length c = omega arith

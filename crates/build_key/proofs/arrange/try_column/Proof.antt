@@ -7,6 +7,16 @@ use Prim.Native.Nat.{_-_}
 use Rattle.build_key.proofs.arrange.try_column.Statement.{statement}
 use Rattle.build_key.proofs.arrange.try_column.Tie as tie
 
+-- The places that the answers look back to, each from a later one.
+abbrev step-from-then1 : tie.Then1 → tie.After-step
+step-from-then1 c = c .before .before .before .before .before
+
+abbrev start-from-step : tie.After-step → tie.Start
+start-from-step c = c .before .before .before .before .before .before
+
+abbrev step-from-else1 : tie.Else1 → tie.After-step
+step-from-else1 c = c .before .before .before .before .before
+
 step-requires : tie.Need-step-requires
 step-requires c κs = search needs
 
@@ -21,9 +31,11 @@ same-length-2 c = search needs
 
 returns : tie.Need-returns
 returns c =
-    let e = c .before .before .before .before .before .step .ensures in
+    let after-step = step-from-then1 c in
+    let start = start-from-step after-step in
+    let e = after-step .step .ensures in
     let y = sym (e .0) ∙ c .if1 .taken in
-    (yes-count (c .before .before .before .before .before .before .before .before .before .before .before .args .j) y, (e .1, yes-list _ _ y refl))
+    (yes-count (start .args .j) y, (e .1, yes-list _ _ y refl))
 
 exchange-requires : tie.Need-exchange-requires
 exchange-requires c κs = search needs
@@ -39,9 +51,12 @@ same-length-5 c = search needs
 
 returns-2 : tie.Need-returns-2
 returns-2 c =
-    let e = c .before .before .before .before .before .before .before .before .before .step .ensures in
-    let y = sym (e .0) ∙ c .before .before .before .before .if1 .left in
-    (no-count (c .before .before .before .before .before .before .before .before .before .before .before .before .before .before .before .args .j) y, (e .1, no-list _ _ y (c .before .before .exchange .ensures)))
+    let else1 = c .before .before .before .before in
+    let after-step = step-from-else1 else1 in
+    let start = start-from-step after-step in
+    let e = after-step .step .ensures in
+    let y = sym (e .0) ∙ else1 .if1 .left in
+    (no-count (start .args .j) y, (e .1, no-list _ _ y (c .before .before .exchange .ensures)))
 
 pub try-column-spec : {M : Type 1} → statement M
 try-column-spec =

@@ -21,34 +21,44 @@ Inv-loop ones twos rows w c ko₀ kt₀ i₀ ko kt i =
 abbrev μ-loop : tie.MeasureT-loop
 μ-loop ones twos rows w c ko₀ kt₀ i₀ ko kt i = rows - i
 
+-- The places that the answers look back to, each from a later one.
+abbrev start-from-in-loop : tie.In-loop Inv-loop μ-loop → tie.Start Inv-loop μ-loop
+start-from-in-loop c = c .before .before .before .before .before .before
+
+abbrev start-from-at-loop : tie.At-loop Inv-loop μ-loop → tie.Start Inv-loop μ-loop
+start-from-at-loop c = c .before .before .before .before .before
+
+abbrev start-from-after-loop : tie.After-loop Inv-loop μ-loop → tie.Start Inv-loop μ-loop
+start-from-after-loop c = c .before .before .before .before .before .before
+
 loop-holds : tie.Need-loop-holds Inv-loop μ-loop
 loop-holds c =
     (omega arith, c .before .before .before .before .pre .1 .0)
 
 mul-trit-at : tie.Need-mul-trit-at Inv-loop μ-loop
 mul-trit-at c =
-    let s = c .before .before .before .before .before .before in
+    let s = start-from-in-loop c in
     let a = s .args in
     let h = row-le (a .w) {i = c .before .loop .i} {m = a .rows} (omega arith) in
     omega (arith, h, s .pre .0 .size, s .pre .0 .row .same)
 
 mul-trit-at-2 : tie.Need-mul-trit-at-2 Inv-loop μ-loop
 mul-trit-at-2 c =
-    let s = c .before .before .before .before .before .before in
+    let s = start-from-in-loop c in
     let a = s .args in
     let h = row-le (a .w) {i = c .before .loop .i} {m = a .rows} (omega arith) in
     omega (arith, h, s .pre .0 .size, s .pre .0 .row .same)
 
 add-trit-at : tie.Need-add-trit-at Inv-loop μ-loop
 add-trit-at c =
-    let s = c .before .before .before .before .before .before in
+    let s = start-from-in-loop c in
     let a = s .args in
     let h = row-le (a .w) {i = c .before .loop .i} {m = a .rows} (omega arith) in
     omega (arith, h, s .pre .0 .size, s .pre .0 .row .same)
 
 trit-at-requires : tie.Need-trit-at-requires Inv-loop μ-loop
 trit-at-requires c κs =
-    let s = c .before .before .before .before .before .before in
+    let s = start-from-in-loop c in
     let a = s .args in
     let h = row-le (a .w) {i = c .before .loop .i} {m = a .rows} (omega arith) in
     (s .pre .0 .row .same, omega (arith, h, s .pre .0 .size))
@@ -66,12 +76,16 @@ loop-less c = omega arith
 
 loop-again : tie.Need-loop-again Inv-loop μ-loop
 loop-again c =
-    let s = c .before .before .before .before .before .before .before .before .before .before .before .before .before .before in
+    let after-put-trit = c .before .before .before .before in
+    let after-trit-at = after-put-trit .before .before .before in
+    let at-loop = after-trit-at .before .before in
+    let s = start-from-at-loop at-loop in
     let a = s .args in
-    let l = c .before .before .before .before .before .before .before .before .before .loop in (
+    let l = at-loop .loop in (
       omega arith,
-      column-turn (column (matrixAt (a .w) (now (a .ones)) (now (a .twos))) (a .c)) (l .i) (c .before .before .before .before .before .before .before .trit-at .result) (l .inv .1)
-          (read-column (a .w) (now (a .ones)) (now (a .twos)) (l .i) (a .c) _ (s .pre .1 .1 .1) (c .before .before .before .before .before .before .before .trit-at .ensures)) (c .before .before .before .before .put-trit .ensures),
+      column-turn (column (matrixAt (a .w) (now (a .ones)) (now (a .twos))) (a .c)) (l .i) (after-trit-at .trit-at .result) (l .inv .1)
+          (read-column (a .w) (now (a .ones)) (now (a .twos)) (l .i) (a .c) _ (s .pre .1 .1 .1) (after-trit-at .trit-at .ensures))
+          (after-put-trit .put-trit .ensures),
     )
 
 same-length : tie.Need-same-length Inv-loop μ-loop
@@ -80,11 +94,11 @@ same-length c =
 
 same-length-2 : tie.Need-same-length-2 Inv-loop μ-loop
 same-length-2 c =
-    omega (arith, c .before .loop .inv .1 .size, c .before .loop .inv .1 .row .same, c .before .before .before .before .before .before .pre .1 .0 .row .same)
+    omega (arith, c .before .loop .inv .1 .size, c .before .loop .inv .1 .row .same, start-from-after-loop c .pre .1 .0 .row .same)
 
 returns : tie.Need-returns Inv-loop μ-loop
 returns c =
-    let e : c .before .loop .i ≡ c .before .before .before .before .before .before .args .rows = omega arith in
+    let e : c .before .loop .i ≡ start-from-after-loop c .args .rows = omega arith in
     rw e at (c .before .loop .inv .1)
 
 pub put-column-spec : {M : Type 1} → statement M

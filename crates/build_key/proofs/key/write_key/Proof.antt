@@ -26,11 +26,38 @@ Inv-loop ones twos rows w half hw order k kw ko₀ kt₀ i₀ ko kt i =
 abbrev μ-loop : tie.MeasureT-loop
 μ-loop ones twos rows w half hw order k kw ko₀ kt₀ i₀ ko kt i = k - i
 
+-- The places that the answers look back to, each from a later one.
+abbrev start-from-slice-known2 : tie.After-slice-known2 Inv-loop μ-loop → tie.Start Inv-loop μ-loop
+start-from-slice-known2 c = c .before .before .before .before .before
+
+abbrev start-from-at-loop : tie.At-loop Inv-loop μ-loop → tie.Start Inv-loop μ-loop
+start-from-at-loop c = c .before .before .before .before .before .before
+
+abbrev start-from-in-loop : tie.In-loop Inv-loop μ-loop → tie.Start Inv-loop μ-loop
+start-from-in-loop c = start-from-at-loop (c .before)
+
+abbrev start-from-column : tie.After-column Inv-loop μ-loop → tie.Start Inv-loop μ-loop
+start-from-column c = start-from-in-loop (c .before .before)
+
+abbrev start-from-after-loop : tie.After-loop Inv-loop μ-loop → tie.Start Inv-loop μ-loop
+start-from-after-loop c = start-from-at-loop (c .before)
+
+abbrev column-from-write-row : tie.After-write-row Inv-loop μ-loop → tie.After-column Inv-loop μ-loop
+column-from-write-row c = c .before .before .before
+
+abbrev loop-from-write-row : tie.After-write-row Inv-loop μ-loop → tie.At-loop Inv-loop μ-loop
+loop-from-write-row c = column-from-write-row c .before .before .before
+
 loop-holds : tie.Need-loop-holds Inv-loop μ-loop
 loop-holds c =
-    let s = c .before .before .before .before .before in
-    let a = s .args in
-    ((omega arith, s .pre .1 .1 .1 .2, s .pre .1 .1 .1 .3), rows-none (onesRow (a .rows) (a .half) (a .hw) (matrixAt (a .w) (now (a .ones)) (now (a .twos))) (now (a .order)) (a .kw)) (a .kw) (ones-size (a .rows) (a .half) (a .hw) (matrixAt (a .w) (now (a .ones)) (now (a .twos))) (now (a .order)) (a .kw)) (now (a .ko)), rows-none (twosRow (a .rows) (a .half) (a .hw) (matrixAt (a .w) (now (a .ones)) (now (a .twos))) (now (a .order)) (a .kw)) (a .kw) (twos-size (a .rows) (a .half) (a .hw) (matrixAt (a .w) (now (a .ones)) (now (a .twos))) (now (a .order)) (a .kw)) (now (a .kt)))
+    let s = start-from-slice-known2 c in
+    let a = s .args in (
+      (omega arith, s .pre .1 .1 .1 .2, s .pre .1 .1 .1 .3),
+      rows-none (onesRow (a .rows) (a .half) (a .hw) (matrixAt (a .w) (now (a .ones)) (now (a .twos))) (now (a .order)) (a .kw)) (a .kw)
+          (ones-size (a .rows) (a .half) (a .hw) (matrixAt (a .w) (now (a .ones)) (now (a .twos))) (now (a .order)) (a .kw)) (now (a .ko)),
+      rows-none (twosRow (a .rows) (a .half) (a .hw) (matrixAt (a .w) (now (a .ones)) (now (a .twos))) (now (a .order)) (a .kw)) (a .kw)
+          (twos-size (a .rows) (a .half) (a .hw) (matrixAt (a .w) (now (a .ones)) (now (a .twos))) (now (a .order)) (a .kw)) (now (a .kt)),
+    )
 
 add-q : tie.Need-add-q Inv-loop μ-loop
 add-q c = omega arith
@@ -43,19 +70,20 @@ shared-slice-read-q c = omega arith
 
 cast-q : tie.Need-cast-q Inv-loop μ-loop
 cast-q c =
-    omega (arith, c .shared-slice-known4 .given (c .before .before .before .before .before .before .before .before .args .rows + c .before .before .loop .i))
+    omega (arith, c .shared-slice-known4 .given (start-from-in-loop (c .before) .args .rows + c .before .before .loop .i))
 
 column-requires : tie.Need-column-requires Inv-loop μ-loop
 column-requires c κs =
-    let s = c .before .before .before .before .before .before .before .before in
+    let s = start-from-in-loop (c .before) in
     let a = s .args in
     let l = c .before .before .loop in
-    let q = order-good (length (now (a .order))) (now (a .order)) (s .pre .1 .1 .0) .1 (getD (now (a .order)) (a .rows + l .i) 0) (elem-at (now (a .order)) (a .rows + l .i) (omega arith)) in
+    let q = order-good (length (now (a .order))) (now (a .order)) (s .pre .1 .1 .0) .1 (getD (now (a .order)) (a .rows + l .i) 0)
+    (elem-at (now (a .order)) (a .rows + l .i) (omega arith)) in
     (s .pre .1 .0 .1, omega (arith, q, s .pre .1 .0 .3), s .pre .1 .0 .4)
 
 mul-a : tie.Need-mul-a Inv-loop μ-loop
 mul-a c =
-    let s = c .before .before .before .before .before .before .before .before .before in
+    let s = start-from-column c in
     let a = s .args in
     let l = c .before .before .before .loop in
     let h = row-le (a .kw) {i = l .i} {m = a .k} (omega arith) in
@@ -63,7 +91,7 @@ mul-a c =
 
 add-e : tie.Need-add-e Inv-loop μ-loop
 add-e c =
-    let s = c .before .before .before .before .before .before .before .before .before in
+    let s = start-from-column c in
     let a = s .args in
     let l = c .before .before .before .loop in
     let h = row-le (a .kw) {i = l .i} {m = a .k} (omega arith) in
@@ -71,7 +99,7 @@ add-e c =
 
 mul-write-row : tie.Need-mul-write-row Inv-loop μ-loop
 mul-write-row c =
-    let s = c .before .before .before .before .before .before .before .before .before in
+    let s = start-from-column c in
     let a = s .args in
     let l = c .before .before .before .loop in
     let h = row-le (a .kw) {i = l .i} {m = a .k} (omega arith) in
@@ -87,7 +115,7 @@ part-write-row-start c =
 
 part-write-row-end : tie.Need-part-write-row-end Inv-loop μ-loop
 part-write-row-end c =
-    let s = c .before .before .before .before .before .before .before .before .before in
+    let s = start-from-column c in
     let a = s .args in
     let l = c .before .before .before .loop in
     let h = row-le (a .kw) {i = l .i} {m = a .k} (omega arith) in
@@ -95,7 +123,7 @@ part-write-row-end c =
 
 mul-write-row-2 : tie.Need-mul-write-row-2 Inv-loop μ-loop
 mul-write-row-2 c =
-    let s = c .before .before .before .before .before .before .before .before .before .before in
+    let s = start-from-at-loop (c .before .before .before .before) in
     let a = s .args in
     let l = c .before .before .before .before .loop in
     let h = row-le (a .kw) {i = l .i} {m = a .k} (omega arith) in
@@ -111,24 +139,28 @@ part-write-row-start-2 c =
 
 part-write-row-end-2 : tie.Need-part-write-row-end-2 Inv-loop μ-loop
 part-write-row-end-2 c =
-    let s = c .before .before .before .before .before .before .before .before .before .before in
+    let at-loop = c .before .before .before .before in
+    let s = start-from-at-loop at-loop in
     let a = s .args in
-    let l = c .before .before .before .before .loop in
+    let l = at-loop .loop in
     let h = row-le (a .kw) {i = l .i} {m = a .k} (omega arith) in
     omega (arith, h, l .inv .0 .1, l .inv .0 .2)
 
 write-row-requires : tie.Need-write-row-requires Inv-loop μ-loop
 write-row-requires c κs =
-    let s = c .before .before .before .before .before .before .before .before .before .before .before in
+    let at-loop = c .before .before .before .before .before in
+    let s = start-from-at-loop at-loop in
     let a = s .args in
-    let l = c .before .before .before .before .before .loop in
+    let l = at-loop .loop in
     let h = row-le (a .kw) {i = l .i} {m = a .k} (omega arith) in
     let k = l .i * a .kw + a .kw - l .i * a .kw in
     let lo = length-mid (l .i * a .kw) k (l .ko) (omega (arith, h, l .inv .0 .1)) in
     let lt = length-mid (l .i * a .kw) k (l .kt) (omega (arith, h, l .inv .0 .2)) in
-    let q = order-good (length (now (a .order))) (now (a .order)) (s .pre .1 .1 .0) .1 (getD (now (a .order)) (a .rows + l .i) 0) (elem-at (now (a .order)) (a .rows + l .i) (omega arith)) in
+    let q = order-good (length (now (a .order))) (now (a .order)) (s .pre .1 .1 .0) .1 (getD (now (a .order)) (a .rows + l .i) 0)
+    (elem-at (now (a .order)) (a .rows + l .i) (omega arith)) in
     let z : c .before .before .column .result < 64 * a .w =
-    subst (λ (z : ℕ). z < 64 * a .w) (sym (c .before .before .column .ensures)) (col-below (a .half) (a .hw) (a .w) (getD (now (a .order)) (a .rows + l .i) 0) (s .pre .1 .0 .1) (s .pre .1 .0 .2) (omega (arith, q, s .pre .1 .0 .3))) in
+    subst (λ (z : ℕ). z < 64 * a .w) (sym (c .before .before .column .ensures))
+    (col-below (a .half) (a .hw) (a .w) (getD (now (a .order)) (a .rows + l .i) 0) (s .pre .1 .0 .1) (s .pre .1 .0 .2) (omega (arith, q, s .pre .1 .0 .3))) in
     (s .pre .0, (s .pre .1 .0 .0, z, omega (arith, lo, s .pre .1 .1 .1 .1), omega (arith, lo, lt)))
 
 add-i : tie.Need-add-i Inv-loop μ-loop
@@ -139,34 +171,42 @@ loop-less c = omega arith
 
 loop-again : tie.Need-loop-again Inv-loop μ-loop
 loop-again c =
-    let s = c .before .before .before .before .before .before .before .before .before .before .before .before .before .before .before .before in
+    let s = start-from-at-loop (loop-from-write-row (c .before .before .before .before)) in
     let a = s .args in
-    let l = c .before .before .before .before .before .before .before .before .before .before .loop in
+    let l = loop-from-write-row (c .before .before .before .before) .loop in
     let h = row-le (a .kw) {i = l .i} {m = a .k} (omega arith) in
     let k = l .i * a .kw + a .kw - l .i * a .kw in
     let d : k ≡ a .kw = omega arith in
     let lo = length-mid (l .i * a .kw) k (l .ko) (omega (arith, h, l .inv .0 .1)) in
     let lt = length-mid (l .i * a .kw) k (l .kt) (omega (arith, h, l .inv .0 .2)) in
     let e = c .before .before .before .before .write-row .ensures in
-    let f = c .before .before .before .before .before .before .before .column .ensures in
-    let x = rows-more (onesRow (a .rows) (a .half) (a .hw) (matrixAt (a .w) (now (a .ones)) (now (a .twos))) (now (a .order)) (a .kw)) (a .kw) (ones-size (a .rows) (a .half) (a .hw) (matrixAt (a .w) (now (a .ones)) (now (a .twos))) (now (a .order)) (a .kw)) (l .i) (now (a .ko)) (l .inv .1) d (e .0 ∙ ones-down (a .rows) (a .half) (a .hw) (matrixAt (a .w) (now (a .ones)) (now (a .twos))) (now (a .order)) (a .kw) (l .i) f (lo ∙ d)) in
-    let y = rows-more (twosRow (a .rows) (a .half) (a .hw) (matrixAt (a .w) (now (a .ones)) (now (a .twos))) (now (a .order)) (a .kw)) (a .kw) (twos-size (a .rows) (a .half) (a .hw) (matrixAt (a .w) (now (a .ones)) (now (a .twos))) (now (a .order)) (a .kw)) (l .i) (now (a .kt)) (l .inv .2) d (e .1 ∙ twos-down (a .rows) (a .half) (a .hw) (matrixAt (a .w) (now (a .ones)) (now (a .twos))) (now (a .order)) (a .kw) (l .i) f (lo ∙ d)) in
+    let f = column-from-write-row (c .before .before .before .before) .column .ensures in
+    let x = rows-more (onesRow (a .rows) (a .half) (a .hw) (matrixAt (a .w) (now (a .ones)) (now (a .twos))) (now (a .order)) (a .kw)) (a .kw)
+    (ones-size (a .rows) (a .half) (a .hw) (matrixAt (a .w) (now (a .ones)) (now (a .twos))) (now (a .order)) (a .kw)) (l .i) (now (a .ko)) (l .inv .1) d
+    (e .0 ∙ ones-down (a .rows) (a .half) (a .hw) (matrixAt (a .w) (now (a .ones)) (now (a .twos))) (now (a .order)) (a .kw) (l .i) f (lo ∙ d)) in
+    let y = rows-more (twosRow (a .rows) (a .half) (a .hw) (matrixAt (a .w) (now (a .ones)) (now (a .twos))) (now (a .order)) (a .kw)) (a .kw)
+    (twos-size (a .rows) (a .half) (a .hw) (matrixAt (a .w) (now (a .ones)) (now (a .twos))) (now (a .order)) (a .kw)) (l .i) (now (a .kt)) (l .inv .2) d
+    (e .1 ∙ twos-down (a .rows) (a .half) (a .hw) (matrixAt (a .w) (now (a .ones)) (now (a .twos))) (now (a .order)) (a .kw) (l .i) f (lo ∙ d)) in
     ((omega arith, search needs, search needs), x, y)
 
 same-length : tie.Need-same-length Inv-loop μ-loop
 same-length c =
-    omega (arith, c .before .loop .inv .0 .1, c .before .before .before .before .before .before .before .pre .1 .1 .1 .2)
+    omega (arith, c .before .loop .inv .0 .1, start-from-after-loop c .pre .1 .1 .1 .2)
 
 same-length-2 : tie.Need-same-length-2 Inv-loop μ-loop
 same-length-2 c =
-    omega (arith, c .before .loop .inv .0 .2, c .before .before .before .before .before .before .before .pre .1 .1 .1 .3)
+    omega (arith, c .before .loop .inv .0 .2, start-from-after-loop c .pre .1 .1 .1 .3)
 
 returns : tie.Need-returns Inv-loop μ-loop
 returns c =
-    let s = c .before .before .before .before .before .before .before in
+    let s = start-from-after-loop c in
     let a = s .args in
-    let l = c .before .loop in
-    (key-ones (a .rows) (a .half) (a .hw) (matrixAt (a .w) (now (a .ones)) (now (a .twos))) (now (a .order)) (a .kw) (l .i) (a .k) (now (a .ko)) (l .inv .1) (omega arith) (s .pre .1 .1 .1 .2), key-twos (a .rows) (a .half) (a .hw) (matrixAt (a .w) (now (a .ones)) (now (a .twos))) (now (a .order)) (a .kw) (l .i) (a .k) (now (a .kt)) (l .inv .2) (omega arith) (s .pre .1 .1 .1 .3))
+    let l = c .before .loop in (
+      key-ones (a .rows) (a .half) (a .hw) (matrixAt (a .w) (now (a .ones)) (now (a .twos))) (now (a .order)) (a .kw) (l .i) (a .k) (now (a .ko)) (l .inv .1)
+          (omega arith) (s .pre .1 .1 .1 .2),
+      key-twos (a .rows) (a .half) (a .hw) (matrixAt (a .w) (now (a .ones)) (now (a .twos))) (now (a .order)) (a .kw) (l .i) (a .k) (now (a .kt)) (l .inv .2)
+          (omega arith) (s .pre .1 .1 .1 .3),
+    )
 
 pub write-key-spec : {M : Type 1} → statement M
 write-key-spec =

@@ -13,6 +13,16 @@ use Rattle.matrix.specs.Linear.{column}
 use Rattle.build_key.proofs.key.write_row.Statement.{statement}
 use Rattle.build_key.proofs.key.write_row.Tie as tie
 
+-- The places that the answers look back to, each from a later one.
+abbrev start-from-zero-words : tie.After-zero-words → tie.Start
+start-from-zero-words c = c .before .before .before .before .before .before
+
+abbrev zero-words2-from-put-column : tie.After-put-column → tie.After-zero-words2
+zero-words2-from-put-column c = c .before .before .before .before .before
+
+abbrev zero-words-from-put-column : tie.After-put-column → tie.After-zero-words
+zero-words-from-put-column c = zero-words2-from-put-column c .before .before .before .before
+
 zero-words-requires : tie.Need-zero-words-requires
 zero-words-requires c κs = search needs
 
@@ -21,11 +31,18 @@ zero-words-requires-2 c κs = search needs
 
 put-column-requires : tie.Need-put-column-requires
 put-column-requires c κs =
-    let s = c .before .before .before .before .before .before .before .before .before .before .before .before .before .before in
+    let after-zero-words2 = c .before .before .before .before in
+    let after-zero-words = after-zero-words2 .before .before .before .before in
+    let s = start-from-zero-words after-zero-words in
     let a = s .args in
-    let e = c .before .before .before .before .before .before .before .before .zero-words .ensures in
-    let n = ap length e ∙ length-zeros (length (now (a .ko))) in
-    (s .pre .0, (zeros-hold (column (matrixAt (a .w) (now (a .ones)) (now (a .twos))) (a .c)) e (c .before .before .before .before .zero-words2 .ensures) (s .pre .1 .3), (s .pre .1 .0, s .pre .1 .1, omega (arith, n, s .pre .1 .2))))
+    let e = after-zero-words .zero-words .ensures in
+    let n = ap length e ∙ length-zeros (length (now (a .ko))) in (
+      s .pre .0,
+      (
+        zeros-hold (column (matrixAt (a .w) (now (a .ones)) (now (a .twos))) (a .c)) e (after-zero-words2 .zero-words2 .ensures) (s .pre .1 .3),
+        (s .pre .1 .0, s .pre .1 .1, omega (arith, n, s .pre .1 .2)),
+      ),
+    )
 
 same-length : tie.Need-same-length
 same-length c = search needs
@@ -35,9 +52,12 @@ same-length-2 c = search needs
 
 returns : tie.Need-returns
 returns c =
-    let a = c .before .before .before .before .before .before .before .before .before .before .before .before .before .before .before .before .before .before .before .args in
-    let n = ap length (c .before .before .before .before .before .before .before .before .before .before .before .before .before .zero-words .ensures) ∙ length-zeros (length (now (a .ko))) in
-    let w = reads-words (c .before .before .before .before .put-column .ensures) n (λ j. c .before .before .slice-known5 .given j .fits) (λ j. c .slice-known6 .given j .fits) in
+    let after-put-column = c .before .before .before .before in
+    let after-zero-words = zero-words-from-put-column after-put-column in
+    let start = start-from-zero-words after-zero-words in
+    let a = start .args in
+    let n = ap length (after-zero-words .zero-words .ensures) ∙ length-zeros (length (now (a .ko))) in
+    let w = reads-words (after-put-column .put-column .ensures) n (λ j. c .before .before .slice-known5 .given j .fits) (λ j. c .slice-known6 .given j .fits) in
     (w .ones-are, w .twos-are)
 
 pub write-row-spec : {M : Type 1} → statement M

@@ -12,21 +12,34 @@ use Rattle.build_matrix.proofs.HalfRows.{negative-past}
 use Rattle.build_matrix.proofs.halves.put_negative.Statement.{statement}
 use Rattle.build_matrix.proofs.halves.put_negative.Tie as tie
 
+-- The places that the answers look back to, each from a later one.
+abbrev start-from-shared-slice-known4 : tie.After-shared-slice-known4 → tie.Start
+start-from-shared-slice-known4 c = c .before .before .before .before .before .before
+
+abbrev start-from-negative-arg : tie.After-negative-arg → tie.Start
+start-from-negative-arg c = c .before .before .before .before .before .before .before
+
+abbrev start-from-negative-arg2 : tie.After-negative-arg2 → tie.Start
+start-from-negative-arg2 c = c .before .before .before .before .before .before .before .before
+
+abbrev start-from-negative : tie.After-negative → tie.Start
+start-from-negative c = c .before .before .before .before .before .before .before .before .before
+
 mul-a : tie.Need-mul-a
 mul-a c =
-    let s = c .before .before .before .before .before .before in
+    let s = start-from-shared-slice-known4 c in
     let a = s .args in
     omega (arith, row-le (a .w) {i = a .j} {m = a .rows} (s .pre .1 .1 .0), s .pre .0 .size, s .pre .0 .row .same)
 
 add-e : tie.Need-add-e
 add-e c =
-    let s = c .before .before .before .before .before .before in
+    let s = start-from-shared-slice-known4 c in
     let a = s .args in
     omega (arith, row-le (a .w) {i = a .j} {m = a .rows} (s .pre .1 .1 .0), s .pre .0 .size, s .pre .0 .row .same)
 
 mul-negative : tie.Need-mul-negative
 mul-negative c =
-    let s = c .before .before .before .before .before .before in
+    let s = start-from-shared-slice-known4 c in
     let a = s .args in
     omega (arith, row-le (a .w) {i = a .j} {m = a .rows} (s .pre .1 .1 .0), s .pre .0 .size, s .pre .0 .row .same)
 
@@ -38,13 +51,13 @@ part-negative-start c = search needs
 
 part-negative-end : tie.Need-part-negative-end
 part-negative-end c =
-    let s = c .before .before .before .before .before .before in
+    let s = start-from-shared-slice-known4 c in
     let a = s .args in
     omega (arith, row-le (a .w) {i = a .j} {m = a .rows} (s .pre .1 .1 .0), s .pre .0 .size, s .pre .0 .row .same)
 
 mul-negative-2 : tie.Need-mul-negative-2
 mul-negative-2 c =
-    let s = c .before .before .before .before .before .before .before in
+    let s = start-from-negative-arg c in
     let a = s .args in
     omega (arith, row-le (a .w) {i = a .j} {m = a .rows} (s .pre .1 .1 .0), s .pre .0 .size, s .pre .0 .row .same)
 
@@ -56,13 +69,13 @@ part-negative-start-2 c = search needs
 
 part-negative-end-2 : tie.Need-part-negative-end-2
 part-negative-end-2 c =
-    let s = c .before .before .before .before .before .before .before in
+    let s = start-from-negative-arg c in
     let a = s .args in
     omega (arith, row-le (a .w) {i = a .j} {m = a .rows} (s .pre .1 .1 .0), s .pre .0 .size, s .pre .0 .row .same)
 
 negative-requires : tie.Need-negative-requires
 negative-requires c κs =
-    let s = c .before .before .before .before .before .before .before .before in
+    let s = start-from-negative-arg2 c in
     let a = s .args in
     let k = a .j * a .w + a .w - a .j * a .w in
     let h = row-le (a .w) {i = a .j} {m = a .rows} (s .pre .1 .1 .0) in
@@ -78,13 +91,16 @@ same-length-2 c = search needs
 
 returns : tie.Need-returns
 returns c =
-    let s = c .before .before .before .before .before .before .before .before .before .before .before .before .before in
+    let after-negative = c .before .before .before .before in
+    let s = start-from-negative after-negative in
     let a = s .args in
     let k = a .j * a .w + a .w - a .j * a .w in
     let h = row-le (a .w) {i = a .j} {m = a .rows} (s .pre .1 .1 .0) in
     let lo = length-mid (a .j * a .w) k (now (a .ones)) (omega (arith, h, s .pre .0 .size)) in
     let lt = length-mid (a .j * a .w) k (now (a .twos)) (omega (arith, h, s .pre .0 .size, s .pre .0 .row .same)) in
-    put-grid (a .w) (a .j) (s .pre .0) (s .pre .1 .1 .0) k (omega arith) lo (c .before .before .before .before .negative .ensures) (λ q l. negative-past (tritAt (now (a .vo)) (now (a .vt))) (tritAt (now (a .ho)) (now (a .ht))) q (past-words (a .w) (s .pre .1 .0 .0) (s .pre .1 .1 .1) q l))
+    put-grid (a .w) (a .j) (s .pre .0) (s .pre .1 .1 .0) k (omega arith) lo (after-negative .negative .ensures)
+    (λ q l. negative-past (tritAt (now (a .vo)) (now (a .vt))) (tritAt (now (a .ho)) (now (a .ht))) q
+    (past-words (a .w) (s .pre .1 .0 .0) (s .pre .1 .1 .1) q l))
 
 pub put-negative-spec : {M : Type 1} → statement M
 put-negative-spec =

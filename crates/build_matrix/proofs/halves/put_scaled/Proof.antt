@@ -12,21 +12,34 @@ use Rattle.build_matrix.proofs.HalfRows.{scaled-past}
 use Rattle.build_matrix.proofs.halves.put_scaled.Statement.{statement}
 use Rattle.build_matrix.proofs.halves.put_scaled.Tie as tie
 
+-- The places that the answers look back to, each from a later one.
+abbrev start-from-shared-slice-known6 : tie.After-shared-slice-known6 → tie.Start
+start-from-shared-slice-known6 c = c .before .before .before .before .before .before .before .before
+
+abbrev start-from-scaled-arg : tie.After-scaled-arg → tie.Start
+start-from-scaled-arg c = c .before .before .before .before .before .before .before .before .before
+
+abbrev start-from-scaled-arg2 : tie.After-scaled-arg2 → tie.Start
+start-from-scaled-arg2 c = c .before .before .before .before .before .before .before .before .before .before
+
+abbrev start-from-scaled : tie.After-scaled → tie.Start
+start-from-scaled c = c .before .before .before .before .before .before .before .before .before .before .before
+
 mul-a : tie.Need-mul-a
 mul-a c =
-    let s = c .before .before .before .before .before .before .before .before in
+    let s = start-from-shared-slice-known6 c in
     let a = s .args in
     omega (arith, row-le (a .w) {i = a .j} {m = a .rows} (s .pre .1 .1 .0), s .pre .0 .size, s .pre .0 .row .same)
 
 add-e : tie.Need-add-e
 add-e c =
-    let s = c .before .before .before .before .before .before .before .before in
+    let s = start-from-shared-slice-known6 c in
     let a = s .args in
     omega (arith, row-le (a .w) {i = a .j} {m = a .rows} (s .pre .1 .1 .0), s .pre .0 .size, s .pre .0 .row .same)
 
 mul-scaled : tie.Need-mul-scaled
 mul-scaled c =
-    let s = c .before .before .before .before .before .before .before .before in
+    let s = start-from-shared-slice-known6 c in
     let a = s .args in
     omega (arith, row-le (a .w) {i = a .j} {m = a .rows} (s .pre .1 .1 .0), s .pre .0 .size, s .pre .0 .row .same)
 
@@ -38,13 +51,13 @@ part-scaled-start c = search needs
 
 part-scaled-end : tie.Need-part-scaled-end
 part-scaled-end c =
-    let s = c .before .before .before .before .before .before .before .before in
+    let s = start-from-shared-slice-known6 c in
     let a = s .args in
     omega (arith, row-le (a .w) {i = a .j} {m = a .rows} (s .pre .1 .1 .0), s .pre .0 .size, s .pre .0 .row .same)
 
 mul-scaled-2 : tie.Need-mul-scaled-2
 mul-scaled-2 c =
-    let s = c .before .before .before .before .before .before .before .before .before in
+    let s = start-from-scaled-arg c in
     let a = s .args in
     omega (arith, row-le (a .w) {i = a .j} {m = a .rows} (s .pre .1 .1 .0), s .pre .0 .size, s .pre .0 .row .same)
 
@@ -56,19 +69,21 @@ part-scaled-start-2 c = search needs
 
 part-scaled-end-2 : tie.Need-part-scaled-end-2
 part-scaled-end-2 c =
-    let s = c .before .before .before .before .before .before .before .before .before in
+    let s = start-from-scaled-arg c in
     let a = s .args in
     omega (arith, row-le (a .w) {i = a .j} {m = a .rows} (s .pre .1 .1 .0), s .pre .0 .size, s .pre .0 .row .same)
 
 scaled-requires : tie.Need-scaled-requires
 scaled-requires c κs =
-    let s = c .before .before .before .before .before .before .before .before .before .before in
+    let s = start-from-scaled-arg2 c in
     let a = s .args in
     let k = a .j * a .w + a .w - a .j * a .w in
     let h = row-le (a .w) {i = a .j} {m = a .rows} (s .pre .1 .1 .0) in
     let lo = length-mid (a .j * a .w) k (now (a .ones)) (omega (arith, h, s .pre .0 .size)) in
-    let lt = length-mid (a .j * a .w) k (now (a .twos)) (omega (arith, h, s .pre .0 .size, s .pre .0 .row .same)) in
-    ((s .pre .1 .0 .0, s .pre .1 .0 .1, s .pre .1 .0 .2), (omega (arith, lo, s .pre .1 .1 .1), omega (arith, lo, lt), omega (arith, lo, s .pre .1 .1 .2), omega (arith, lo, s .pre .1 .1 .3)))
+    let lt = length-mid (a .j * a .w) k (now (a .twos)) (omega (arith, h, s .pre .0 .size, s .pre .0 .row .same)) in (
+      (s .pre .1 .0 .0, s .pre .1 .0 .1, s .pre .1 .0 .2),
+      (omega (arith, lo, s .pre .1 .1 .1), omega (arith, lo, lt), omega (arith, lo, s .pre .1 .1 .2), omega (arith, lo, s .pre .1 .1 .3)),
+    )
 
 same-length : tie.Need-same-length
 same-length c = search needs
@@ -78,13 +93,16 @@ same-length-2 c = search needs
 
 returns : tie.Need-returns
 returns c =
-    let s = c .before .before .before .before .before .before .before .before .before .before .before .before .before .before .before in
+    let after-scaled = c .before .before .before .before in
+    let s = start-from-scaled after-scaled in
     let a = s .args in
     let k = a .j * a .w + a .w - a .j * a .w in
     let h = row-le (a .w) {i = a .j} {m = a .rows} (s .pre .1 .1 .0) in
     let lo = length-mid (a .j * a .w) k (now (a .ones)) (omega (arith, h, s .pre .0 .size)) in
     let lt = length-mid (a .j * a .w) k (now (a .twos)) (omega (arith, h, s .pre .0 .size, s .pre .0 .row .same)) in
-    put-grid (a .w) (a .j) (s .pre .0) (s .pre .1 .1 .0) k (omega arith) lo (c .before .before .before .before .scaled .ensures) (λ q l. scaled-past (tritAt (now (a .bo)) (now (a .bt))) (tritAt (now (a .co)) (now (a .ct))) (tritAt (now (a .ho)) (now (a .ht))) q (past-words (a .w) (s .pre .1 .0 .0) (s .pre .1 .1 .1) q l))
+    put-grid (a .w) (a .j) (s .pre .0) (s .pre .1 .1 .0) k (omega arith) lo (after-scaled .scaled .ensures)
+    (λ q l. scaled-past (tritAt (now (a .bo)) (now (a .bt))) (tritAt (now (a .co)) (now (a .ct))) (tritAt (now (a .ho)) (now (a .ht))) q
+    (past-words (a .w) (s .pre .1 .0 .0) (s .pre .1 .1 .1) q l))
 
 pub put-scaled-spec : {M : Type 1} → statement M
 put-scaled-spec =

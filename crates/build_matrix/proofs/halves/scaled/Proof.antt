@@ -10,34 +10,66 @@ use Rattle.build_matrix.proofs.HalfRows.{scaled-done}
 use Rattle.build_matrix.proofs.halves.scaled.Statement.{statement}
 use Rattle.build_matrix.proofs.halves.scaled.Tie as tie
 
+-- The places that the answers look back to, each from a later one.
+abbrev start-from-copy-words-arg : tie.After-copy-words-arg → tie.Start
+start-from-copy-words-arg c = c .before .before .before .before .before .before .before .before .before
+
+abbrev start-from-copy-words : tie.After-copy-words → tie.Start
+start-from-copy-words c = c .before .before .before .before .before .before .before .before .before .before
+
+abbrev mul-row-from-mul-row-arg4 : tie.After-mul-row-arg4 → tie.After-mul-row
+mul-row-from-mul-row-arg4 c = c .before .before .before .before .before .before
+
+abbrev copy-words2-from-mul-row : tie.After-mul-row → tie.After-copy-words2
+copy-words2-from-mul-row c = c .before .before .before .before .before
+
+abbrev copy-words-from-mul-row : tie.After-mul-row → tie.After-copy-words
+copy-words-from-mul-row c = copy-words2-from-mul-row c .before .before .before .before
+
+abbrev mul-row2-from-add-row-arg2 : tie.After-add-row-arg2 → tie.After-mul-row2
+mul-row2-from-add-row-arg2 c = c .before .before .before .before .before .before
+
+abbrev mul-row-from-mul-row2 : tie.After-mul-row2 → tie.After-mul-row
+mul-row-from-mul-row2 c = c .before .before .before .before .before .before .before
+
+abbrev mul-row2-from-add-row : tie.After-add-row → tie.After-mul-row2
+mul-row2-from-add-row c = c .before .before .before .before .before .before .before
+
 copy-words-requires : tie.Need-copy-words-requires
 copy-words-requires c κs =
-    c .before .before .before .before .before .before .before .before .before .pre .1 .0
+    start-from-copy-words-arg c .pre .1 .0
 
 copy-words-requires-2 : tie.Need-copy-words-requires-2
 copy-words-requires-2 c κs =
-    let s = c .before .before .before .before .before .before .before .before .before .before .before .before .before in
+    let s = start-from-copy-words (c .before .before .before) in
     s .pre .0 .0 .same ∙ s .pre .1 .0 ∙ s .pre .1 .1
 
 mul-row-requires : tie.Need-mul-row-requires
 mul-row-requires c κs =
-    let s = c .before .before .before .before .before .before .before .before .before .before .before .before .before .before .before .before .before .before in
-    let e = c .before .before .before .before .before .before .before .before .copy-words .ensures in
-    (copied-row e (c .before .before .before .before .copy-words2 .ensures) (s .pre .0 .0), (s .pre .0 .1, s .pre .1 .2 ∙ sym (s .pre .1 .0) ∙ sym (ap length e)))
+    let after-copy-words2 = c .before .before .before .before in
+    let after-copy-words = after-copy-words2 .before .before .before .before in
+    let s = start-from-copy-words after-copy-words in
+    let e = after-copy-words .copy-words .ensures in
+    (copied-row e (after-copy-words2 .copy-words2 .ensures) (s .pre .0 .0), (s .pre .0 .1, s .pre .1 .2 ∙ sym (s .pre .1 .0) ∙ sym (ap length e)))
 
 mul-row-requires-2 : tie.Need-mul-row-requires-2
 mul-row-requires-2 c κs =
-    let s = c .before .before .before .before .before .before .before .before .before .before .before .before .before .before .before .before .before .before .before .before .before .before .before .before .before in
-    let e = c .before .before .before .before .before .before .before .before .before .before .before .before .before .before .before .copy-words .ensures in
-    let m = c .before .before .before .before .before .before .mul-row .ensures in
+    let after-mul-row = mul-row-from-mul-row-arg4 c in
+    let after-copy-words = copy-words-from-mul-row after-mul-row in
+    let s = start-from-copy-words after-copy-words in
+    let e = after-copy-words .copy-words .ensures in
+    let m = after-mul-row .mul-row .ensures in
     (m .row, (s .pre .0 .2, s .pre .1 .3 ∙ sym (s .pre .1 .0) ∙ sym (m .size ∙ ap length e)))
 
 add-row-requires : tie.Need-add-row-requires
 add-row-requires c κs =
-    let s = c .before .before .before .before .before .before .before .before .before .before .before .before .before .before .before .before .before .before .before .before .before .before .before .before .before .before .before .before .before .before .before .before in
-    let e = c .before .before .before .before .before .before .before .before .before .before .before .before .before .before .before .before .before .before .before .before .before .before .copy-words .ensures in
-    let m = c .before .before .before .before .before .before .before .before .before .before .before .before .before .mul-row .ensures in
-    let n = c .before .before .before .before .before .before .mul-row2 .ensures in
+    let after-mul-row2 = mul-row2-from-add-row-arg2 c in
+    let after-mul-row = mul-row-from-mul-row2 after-mul-row2 in
+    let after-copy-words = copy-words-from-mul-row after-mul-row in
+    let s = start-from-copy-words after-copy-words in
+    let e = after-copy-words .copy-words .ensures in
+    let m = after-mul-row .mul-row .ensures in
+    let n = after-mul-row2 .mul-row2 .ensures in
     (n .row, (s .pre .0 .0, sym (n .size ∙ m .size ∙ ap length e)))
 
 same-length : tie.Need-same-length
@@ -48,9 +80,16 @@ same-length-2 c = search needs
 
 returns : tie.Need-returns
 returns c =
-    let s = c .before .before .before .before .before .before .before .before .before .before .before .before .before .before .before .before .before .before .before .before .before .before .before .before .before .before .before .before .before .before .before .before .before .before .before .before .before in
-    scaled-done (tritAt (now (s .args .bo)) (now (s .args .bt))) (c .before .before .before .before .before .before .before .before .before .before .before .before .before .before .before .before .before .before .before .before .before .before .before .before .before .before .before .copy-words .ensures) (c .before .before .before .before .before .before .before .before .before .before .before .before .before .before .before .before .before .before .before .before .before .before .before .copy-words2 .ensures) (s .pre .1 .0) (c .before .before .before .before .before .before .before .before .before .before .before .before .before .before .before .before .before .before .mul-row .ensures)
-    (tritAt (now (s .args .co)) (now (s .args .ct))) (c .before .before .before .before .before .before .before .before .before .before .before .mul-row2 .ensures) (c .before .before .before .before .add-row .ensures)
+    let after-add-row = c .before .before .before .before in
+    let after-mul-row2 = mul-row2-from-add-row after-add-row in
+    let after-mul-row = mul-row-from-mul-row2 after-mul-row2 in
+    let after-copy-words2 = copy-words2-from-mul-row after-mul-row in
+    let after-copy-words = after-copy-words2 .before .before .before .before in
+    let s = start-from-copy-words after-copy-words in
+    let a = s .args in
+    scaled-done (tritAt (now (a .bo)) (now (a .bt))) (after-copy-words .copy-words .ensures) (after-copy-words2 .copy-words2 .ensures) (s .pre .1 .0)
+    (after-mul-row .mul-row .ensures)
+    (tritAt (now (a .co)) (now (a .ct))) (after-mul-row2 .mul-row2 .ensures) (after-add-row .add-row .ensures)
 
 pub scaled-spec : {M : Type 1} → statement M
 scaled-spec =

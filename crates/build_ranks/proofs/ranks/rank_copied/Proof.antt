@@ -12,19 +12,31 @@ use Rattle.build_ranks.proofs.Copies.{copied-rows}
 use Rattle.build_ranks.proofs.ranks.rank_copied.Statement.{statement}
 use Rattle.build_ranks.proofs.ranks.rank_copied.Tie as tie
 
+-- The places that the answers look back to, each from a later one.
+abbrev start-from-copy-words-arg : tie.After-copy-words-arg → tie.Start
+start-from-copy-words-arg c = c .before .before .before .before .before
+
+abbrev start-from-copy-words : tie.After-copy-words → tie.Start
+start-from-copy-words c = c .before .before .before .before .before .before
+
+abbrev copy-words2-from-eliminate : tie.After-eliminate → tie.After-copy-words2
+copy-words2-from-eliminate c = c .before .before .before .before .before
+
 copy-words-requires : tie.Need-copy-words-requires
 copy-words-requires c κs =
-    c .before .before .before .before .before .pre .1 .1 .0
+    start-from-copy-words-arg c .pre .1 .1 .0
 
 copy-words-requires-2 : tie.Need-copy-words-requires-2
 copy-words-requires-2 c κs =
-    c .before .before .before .before .before .before .before .before .before .pre .1 .1 .1
+    start-from-copy-words (c .before .before .before) .pre .1 .1 .1
 
 eliminate-requires : tie.Need-eliminate-requires
 eliminate-requires c κs =
-    let s = c .before .before .before .before .before .before .before .before .before .before .before .before .before .before in
-    let e = c .before .before .before .before .before .before .before .before .copy-words .ensures in
-    (copied-rows e (c .before .before .before .before .copy-words2 .ensures) (s .pre .0), (omega (arith, ap length e, s .pre .1 .0 .0), s .pre .1 .0 .1))
+    let after-copy-words2 = c .before .before .before .before in
+    let after-copy-words = after-copy-words2 .before .before .before .before in
+    let s = start-from-copy-words after-copy-words in
+    let e = after-copy-words .copy-words .ensures in
+    (copied-rows e (after-copy-words2 .copy-words2 .ensures) (s .pre .0), (omega (arith, ap length e, s .pre .1 .0 .0), s .pre .1 .0 .1))
 
 same-length : tie.Need-same-length
 same-length c = search needs
@@ -34,8 +46,13 @@ same-length-2 c = search needs
 
 returns : tie.Need-returns
 returns c =
-    let a = c .before .before .before .before .before .before .before .before .before .before .before .before .before .before .before .before .before .before .before .args in
-    c .before .before .before .before .eliminate .ensures .0 ∙ ap₂ (λ (o t : List ℕ). rank (a .rows) (a .n) (matrixAt (a .w) o t) (range (a .n))) (c .before .before .before .before .before .before .before .before .before .before .before .before .before .copy-words .ensures) (c .before .before .before .before .before .before .before .before .before .copy-words2 .ensures)
+    let after-eliminate = c .before .before .before .before in
+    let after-copy-words2 = copy-words2-from-eliminate after-eliminate in
+    let after-copy-words = after-copy-words2 .before .before .before .before in
+    let start = start-from-copy-words after-copy-words in
+    let a = start .args in
+    after-eliminate .eliminate .ensures .0 ∙ ap₂ (λ (o t : List ℕ). rank (a .rows) (a .n) (matrixAt (a .w) o t) (range (a .n)))
+    (after-copy-words .copy-words .ensures) (after-copy-words2 .copy-words2 .ensures)
 
 pub rank-copied-spec : {M : Type 1} → statement M
 rank-copied-spec =

@@ -9,6 +9,10 @@ use Rattle.trits.proofs.Parts.{length-mid}
 use Rattle.build_ranks.proofs.ranks.rank_of.Statement.{statement}
 use Rattle.build_ranks.proofs.ranks.rank_of.Tie as tie
 
+-- The places that the answers look back to, each from a later one.
+abbrev start-from-rank-copied-arg2 : tie.After-rank-copied-arg2 → tie.Start
+start-from-rank-copied-arg2 c = c .before .before .before .before .before .before
+
 sub-rank-copied : tie.Need-sub-rank-copied
 sub-rank-copied c = search needs
 
@@ -29,7 +33,7 @@ part-rank-copied-end-2 c = search needs
 
 rank-copied-requires : tie.Need-rank-copied-requires
 rank-copied-requires c κs =
-    let s = c .before .before .before .before .before .before in
+    let s = start-from-rank-copied-arg2 c in
     let a = s .args in
     let n = length (now (a .ones)) in
     let lo = length-mid 0 (n - 0) (now (a .work-ones)) (omega (arith, s .pre .1 .1 .0)) in

@@ -7,17 +7,52 @@ use borrow.Author.Needs.{needs}
 use Rattle.build_ranks.proofs.ranks.test_ranks.Statement.{statement}
 use Rattle.build_ranks.proofs.ranks.test_ranks.Tie as tie
 
+-- The places that the answers look back to, each from a later one.
+abbrev start-from-slice-known2 : tie.After-slice-known2 → tie.Start
+start-from-slice-known2 c = c .before .before .before .before .before .before
+
+abbrev start-from-rank-of-arg2 : tie.After-rank-of-arg2 → tie.Start
+start-from-rank-of-arg2 c = c .before .before .before .before .before .before .before .before
+
+abbrev rank-of-from-then1 : tie.Then1 → tie.After-rank-of
+rank-of-from-then1 c = c .before .before .before .before .before
+
+abbrev rank-of-from-else1 : tie.Else1 → tie.After-rank-of
+rank-of-from-else1 c = c .before .before .before .before .before
+
+abbrev start-from-rank-of : tie.After-rank-of → tie.Start
+start-from-rank-of c = c .before .before .before .before .before .before .before .before .before
+
+abbrev start-from-else1 : tie.Else1 → tie.Start
+start-from-else1 c = start-from-rank-of (rank-of-from-else1 c)
+
+abbrev rank-of2-from-then2 : tie.Then2 → tie.After-rank-of2
+rank-of2-from-then2 c = c .before .before .before .before .before
+
+abbrev rank-of2-from-else2 : tie.Else2 → tie.After-rank-of2
+rank-of2-from-else2 c = c .before .before .before .before .before
+
 add-hw : tie.Need-add-hw
 add-hw c =
-    let s = c .before .before .before .before .before .before in let b = bounds (s .args .z) (s .pre .0) in omega (arith, b .high)
+    let s = start-from-slice-known2 c in
+    let b = bounds (s .args .z) (s .pre .0) in omega (arith, b .high)
 
 sub-ru : tie.Need-sub-ru
 sub-ru c =
-    let s = c .before .before .before .before .before .before in let b = bounds (s .args .z) (s .pre .0) in omega (arith, b .ku)
+    let s = start-from-slice-known2 c in
+    let b = bounds (s .args .z) (s .pre .0) in omega (arith, b .ku)
 
 rank-of-requires : tie.Need-rank-of-requires
 rank-of-requires c κs =
-    let s = c .before .before .before .before .before .before .before .before in let p = products (s .args .z) (bounds (s .args .z) (s .pre .0)) in let g = s .pre .1 .0 in (g, ((omega (arith, g .size, p .u), omega arith), (omega (arith, g .size, p .u-room, s .pre .1 .1 .1 .0), omega (arith, g .size, p .u-room, s .pre .1 .1 .1 .1))))
+    let s = start-from-rank-of-arg2 c in
+    let p = products (s .args .z) (bounds (s .args .z) (s .pre .0)) in
+    let g = s .pre .1 .0 in (
+      g,
+      (
+        (omega (arith, g .size, p .u), omega arith),
+        (omega (arith, g .size, p .u-room, s .pre .1 .1 .1 .0), omega (arith, g .size, p .u-room, s .pre .1 .1 .1 .1)),
+      ),
+    )
 
 same-length : tie.Need-same-length
 same-length c = search needs
@@ -27,15 +62,16 @@ same-length-2 c = search needs
 
 returns : tie.Need-returns
 returns c =
-    lacks-u _ _ (c .before .before .before .before .before .rank-of .ensures) (c .if1 .taken)
+    lacks-u _ _ (rank-of-from-then1 c .rank-of .ensures) (c .if1 .taken)
 
 sub-rv : tie.Need-sub-rv
 sub-rv c =
-    let s = c .before .before .before .before .before .before .before .before .before .before .before .before .before .before in let b = bounds (s .args .z) (s .pre .0) in omega (arith, b .kv)
+    let s = start-from-else1 c in
+    let b = bounds (s .args .z) (s .pre .0) in omega (arith, b .kv)
 
 rank-of-requires-2 : tie.Need-rank-of-requires-2
 rank-of-requires-2 c κs =
-    let s = c .before .before .before .before .before .before .before .before .before .before .before .before .before .before .before .before in
+    let s = start-from-else1 (c .before .before) in
     let p = products (s .args .z) (bounds (s .args .z) (s .pre .0)) in
     let u = s .pre .1 .0 in
     let v = s .pre .1 .1 .0 in
@@ -55,7 +91,10 @@ same-length-4 c = search needs
 
 returns-2 : tie.Need-returns-2
 returns-2 c =
-    lacks-v _ _ (c .before .before .before .before .before .before .before .before .before .before .before .before .before .rank-of .ensures) (c .before .before .before .before .before .before .before .before .if1 .left) (c .before .before .before .before .before .rank-of2 .ensures) (c .if2 .taken)
+    let after-rank-of2 = rank-of2-from-then2 c in
+    let else1 = after-rank-of2 .before .before .before in
+    let after-rank-of = rank-of-from-else1 else1 in
+    lacks-v _ _ (after-rank-of .rank-of .ensures) (else1 .if1 .left) (after-rank-of2 .rank-of2 .ensures) (c .if2 .taken)
 
 same-length-5 : tie.Need-same-length-5
 same-length-5 c = search needs
@@ -65,7 +104,10 @@ same-length-6 c = search needs
 
 returns-3 : tie.Need-returns-3
 returns-3 c =
-    lacks-none _ _ (c .before .before .before .before .before .before .before .before .before .before .before .before .before .rank-of .ensures) (c .before .before .before .before .before .before .before .before .if1 .left) (c .before .before .before .before .before .rank-of2 .ensures) (c .if2 .left)
+    let after-rank-of2 = rank-of2-from-else2 c in
+    let else1 = after-rank-of2 .before .before .before in
+    let after-rank-of = rank-of-from-else1 else1 in
+    lacks-none _ _ (after-rank-of .rank-of .ensures) (else1 .if1 .left) (after-rank-of2 .rank-of2 .ensures) (c .if2 .left)
 
 pub test-ranks-spec : {M : Type 1} → statement M
 test-ranks-spec =

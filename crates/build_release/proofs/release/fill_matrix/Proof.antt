@@ -9,20 +9,30 @@ use borrow.Author.Needs.{needs}
 use Rattle.build_release.proofs.release.fill_matrix.Statement.{statement}
 use Rattle.build_release.proofs.release.fill_matrix.Tie as tie
 
+-- The places that the answers look back to, each from a later one.
+abbrev start-from-shape-of : tie.After-shape-of → tie.Start
+start-from-shape-of c = c .before .before .before .before .before .before .before .before .before .before .before
+
+abbrev fill-u-from-fill-v-arg2 : tie.After-fill-v-arg2 → tie.After-fill-u
+fill-u-from-fill-v-arg2 c = c .before .before .before .before .before .before
+
 shape-of-requires : tie.Need-shape-of-requires
 shape-of-requires c κs = search needs
 
 add-rows : tie.Need-add-rows
 add-rows c =
-    let s = c .before .before .before .before .before .before .before .before .before .before .before .before in rw (c .before .shape-of .ensures) (omega (arith, bounds (s .args .z) (s .pre .0) .high))
+    let s = start-from-shape-of (c .before) in
+    rw (c .before .shape-of .ensures) (omega (arith, bounds (s .args .z) (s .pre .0) .high))
 
 add-rows-2 : tie.Need-add-rows-2
 add-rows-2 c =
-    let s = c .before .before .before .before .before .before .before .before .before .before .before .before .before in rw (c .before .before .shape-of .ensures) (omega (arith, bounds (s .args .z) (s .pre .0) .high))
+    let s = start-from-shape-of (c .before .before) in
+    rw (c .before .before .shape-of .ensures) (omega (arith, bounds (s .args .z) (s .pre .0) .high))
 
 add-rows-3 : tie.Need-add-rows-3
 add-rows-3 c =
-    let s = c .before .before .before .before .before .before .before .before .before .before .before .before .before in rw (c .before .before .shape-of .ensures) (omega (arith, bounds (s .args .z) (s .pre .0) .high))
+    let s = start-from-shape-of (c .before .before) in
+    rw (c .before .before .shape-of .ensures) (omega (arith, bounds (s .args .z) (s .pre .0) .high))
 
 zero-words-requires : tie.Need-zero-words-requires
 zero-words-requires c κs = search needs
@@ -32,22 +42,32 @@ zero-words-requires-2 c κs = search needs
 
 fill-u-requires : tie.Need-fill-u-requires
 fill-u-requires c κs =
-    let s = c .before .before .before .before .before .before .before .before .before .before .before .before .before .before .before .before .before .before .before .before .before .before .before in
+    let after-zero-words2 = c .before .before .before .before in
+    let after-zero-words = after-zero-words2 .before .before .before .before in
+    let after-shape-of = after-zero-words .before .before .before .before in
+    let s = start-from-shape-of after-shape-of in
     let b = bounds (s .args .z) (s .pre .0) in
     let r = s .pre .1 .0 in
     let y = s .pre .1 .1 in
-    rw (c .before .before .before .before .before .before .before .before .before .before .before .before .shape-of .ensures) (
-      zero-rows (s .args .z) _ _ (c .before .before .before .before .before .before .before .before .zero-words .ensures) (c .before .before .before .before .zero-words2 .ensures) (y .0) (y .1),
+    rw (after-shape-of .shape-of .ensures) (
+      zero-rows (s .args .z) _ _ (after-zero-words .zero-words .ensures) (after-zero-words2 .zero-words2 .ensures) (y .0) (y .1),
       (r .hu, ((r .b, r .c), (omega arith, omega (arith, b .high), r .bSize, r .cSize, omega (arith, b .high), omega (arith, b .high)))),
     )
 
 fill-v-requires : tie.Need-fill-v-requires
 fill-v-requires c κs =
-    let s = c .before .before .before .before .before .before .before .before .before .before .before .before .before .before .before .before .before .before .before .before .before .before .before .before .before .before .before .before .before .before in
+    let after-fill-u = c .before .before .before .before .before .before in
+    let after-zero-words-arg2 = after-fill-u .before .before .before .before .before .before in
+    let after-struct-known = after-zero-words-arg2 .before .before .before .before .before .before in
+    let after-shape-of = after-struct-known .before in
+    let s = start-from-shape-of after-shape-of in
     let b = bounds (s .args .z) (s .pre .0) in
     let r = s .pre .1 .0 in
-    let e = c .before .before .before .before .before .before .before .before .before .before .before .before .before .before .before .before .before .before .before .shape-of .ensures in
-    rw e ((rw e at (c .before .before .before .before .before .before .fill-u .ensures)) .rows, (r .hv, (r .c, (omega arith, omega (arith, b .high), r .cSize, omega (arith, b .high), omega (arith, b .high)))))
+    let e = after-shape-of .shape-of .ensures in
+    rw e (
+      (rw e at (after-fill-u .fill-u .ensures)) .rows,
+      (r .hv, (r .c, (omega arith, omega (arith, b .high), r .cSize, omega (arith, b .high), omega (arith, b .high)))),
+    )
 
 same-length : tie.Need-same-length
 same-length c = search needs
@@ -57,11 +77,18 @@ same-length-2 c = search needs
 
 returns : tie.Need-returns
 returns c =
-    let s = c .before .before .before .before .before .before .before .before .before .before .before .before .before .before .before .before .before .before .before .before .before .before .before .before .before .before .before .before .before .before .before .before .before .before .before in
+    let after-fill-v = c .before .before .before .before in
+    let after-work-ones2 = after-fill-v .before .before .before .before .before .before in
+    let after-fill-u = after-work-ones2 .before in
+    let after-zero-words-arg2 = after-fill-u .before .before .before .before .before .before in
+    let after-struct-known = after-zero-words-arg2 .before .before .before .before .before .before in
+    let after-shape-of = after-struct-known .before in
+    let s = start-from-shape-of after-shape-of in
     let a = s .args in
-    let e = c .before .before .before .before .before .before .before .before .before .before .before .before .before .before .before .before .before .before .before .before .before .before .before .before .shape-of .ensures in
-    filled-done (a .z) (planes (now (a .hu-ones)) (now (a .hu-twos)) (now (a .hv-ones)) (now (a .hv-twos)) (now (a .b-ones)) (now (a .b-twos)) (now (a .c-ones)) (now (a .c-twos))) _
-    (s .pre .1 .0) (rw e at (c .before .before .before .before .before .before .before .before .before .before .before .fill-u .ensures)) (rw e at (c .before .before .before .before .fill-v .ensures))
+    let e = after-shape-of .shape-of .ensures in
+    filled-done (a .z) (planes (now (a .hu-ones)) (now (a .hu-twos)) (now (a .hv-ones)) (now (a .hv-twos)) (now (a .b-ones)) (now (a .b-twos)) (now (a .c-ones))
+    (now (a .c-twos))) _
+    (s .pre .1 .0) (rw e at (after-fill-u .fill-u .ensures)) (rw e at (after-fill-v .fill-v .ensures))
 
 pub fill-matrix-spec : {M : Type 1} → statement M
 fill-matrix-spec =

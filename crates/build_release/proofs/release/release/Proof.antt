@@ -16,48 +16,120 @@ use Rattle.build_release.proofs.release.release.Tie as tie
 abbrev secret : tie.Start → Secret
 secret s =
     let a = s .args in
-    secretOf (a .z) (planes (now (a .hu-ones)) (now (a .hu-twos)) (now (a .hv-ones)) (now (a .hv-twos)) (now (a .b-ones)) (now (a .b-twos)) (now (a .c-ones)) (now (a .c-twos)))
+    secretOf (a .z) (planes (now (a .hu-ones)) (now (a .hu-twos)) (now (a .hv-ones)) (now (a .hv-twos)) (now (a .b-ones)) (now (a .b-twos)) (now (a .c-ones))
+    (now (a .c-twos)))
+
+-- The places that the answers look back to, each from a later one.
+abbrev start-from-shape-of : tie.After-shape-of → tie.Start
+start-from-shape-of c = c .before .before .before .before .before .before .before .before .before .before .before .before .before .before .before
+
+abbrev fill-matrix-from-copy-order-arg : tie.After-copy-order-arg → tie.After-fill-matrix
+fill-matrix-from-copy-order-arg c = c .before .before .before .before .before
+
+abbrev start-from-fill-matrix : tie.After-fill-matrix → tie.Start
+start-from-fill-matrix c = start-from-shape-of (c .before .before .before .before)
+
+abbrev start-from-copy-order-arg : tie.After-copy-order-arg → tie.Start
+start-from-copy-order-arg c = start-from-fill-matrix (fill-matrix-from-copy-order-arg c)
+
+abbrev copy-order-from-struct-known2 : tie.After-struct-known2 → tie.After-copy-order
+copy-order-from-struct-known2 c = c .before .before .before .before .before
+
+abbrev fill-matrix-from-copy-order : tie.After-copy-order → tie.After-fill-matrix
+fill-matrix-from-copy-order c = c .before .before .before .before .before .before
+
+abbrev shape-of-from-copy-order : tie.After-copy-order → tie.After-shape-of
+shape-of-from-copy-order c = fill-matrix-from-copy-order c .before .before .before .before
+
+abbrev shape-of-from-struct-known2 : tie.After-struct-known2 → tie.After-shape-of
+shape-of-from-struct-known2 c = shape-of-from-copy-order (copy-order-from-struct-known2 c)
+
+abbrev copy-order-from-arrange-arg3 : tie.After-arrange-arg3 → tie.After-copy-order
+copy-order-from-arrange-arg3 c = c .before .before .before .before .before .before
+
+abbrev arrange-from-struct-known3 : tie.After-struct-known3 → tie.After-arrange
+arrange-from-struct-known3 c = c .before .before .before .before .before .before .before .before .before
+
+abbrev copy-order-from-arrange : tie.After-arrange → tie.After-copy-order
+copy-order-from-arrange c = c .before .before .before .before .before .before .before
+
+abbrev shape-of-from-arrange : tie.After-arrange → tie.After-shape-of
+shape-of-from-arrange c = shape-of-from-copy-order (copy-order-from-arrange c)
+
+abbrev shape-of-from-struct-known3 : tie.After-struct-known3 → tie.After-shape-of
+shape-of-from-struct-known3 c = shape-of-from-arrange (arrange-from-struct-known3 c)
+
+abbrev arrange-from-write-key-arg5 : tie.After-write-key-arg5 → tie.After-arrange
+arrange-from-write-key-arg5 c = c .before .before .before .before .before .before .before .before .before .before .before .before
+
+abbrev work-ones2-from-write-key : tie.After-write-key → tie.After-work-ones2
+work-ones2-from-write-key c = c .before .before .before .before .before .before .before .before .before .before .before .before
+
+abbrev work-ones-from-copy-order : tie.After-copy-order → tie.After-work-ones
+work-ones-from-copy-order c = c .before .before .before .before .before
+
+abbrev work-ones-from-arrange : tie.After-arrange → tie.After-work-ones
+work-ones-from-arrange c = work-ones-from-copy-order (copy-order-from-arrange c)
+
+abbrev work-twos2-from-write-key : tie.After-write-key → tie.After-work-twos2
+work-twos2-from-write-key c = c .before .before .before .before .before .before .before .before .before .before
+
+abbrev work-twos-from-arrange : tie.After-arrange → tie.After-work-twos
+work-twos-from-arrange c = copy-order-from-arrange c .before .before .before
+
+abbrev arrange-from-write-key : tie.After-write-key → tie.After-arrange
+arrange-from-write-key c = c .before .before .before .before .before .before .before .before .before .before .before .before .before
 
 shape-of-requires : tie.Need-shape-of-requires
 shape-of-requires c κs = search needs
 
 add-k : tie.Need-add-k
 add-k c =
-    let s = c .before .before .before .before .before .before .before .before .before .before .before .before .before .before .before in let b = bounds (s .args .z) (s .pre .0) in omega (arith, b .high, b .ku, b .kv)
+    let s = start-from-shape-of c in
+    let b = bounds (s .args .z) (s .pre .0) in omega (arith, b .high, b .ku, b .kv)
 
 add-rows : tie.Need-add-rows
 add-rows c =
-    let s = c .before .before .before .before .before .before .before .before .before .before .before .before .before .before .before .before in rw (c .before .shape-of .ensures) (omega (arith, bounds (s .args .z) (s .pre .0) .high))
+    let s = start-from-shape-of (c .before) in
+    rw (c .before .shape-of .ensures) (omega (arith, bounds (s .args .z) (s .pre .0) .high))
 
 add-kw : tie.Need-add-kw
 add-kw c =
-    let s = c .before .before .before .before .before .before .before .before .before .before .before .before .before .before .before .before in rw (c .before .shape-of .ensures) (omega (arith, bounds (s .args .z) (s .pre .0) .high))
+    let s = start-from-shape-of (c .before) in
+    rw (c .before .shape-of .ensures) (omega (arith, bounds (s .args .z) (s .pre .0) .high))
 
 fill-matrix-requires : tie.Need-fill-matrix-requires
 fill-matrix-requires c κs =
-    let s = c .before .before .before .before .before .before .before .before .before .before .before .before .before .before .before .before .before .before in let l = s .pre .1 .1 .1 .1 in (s .pre .0, (s .pre .1 .0, (l .3, l .4)))
+    let s = start-from-shape-of (c .before .before .before) in
+    let l = s .pre .1 .1 .1 .1 in (s .pre .0, (s .pre .1 .0, (l .3, l .4)))
 
 copy-order-requires : tie.Need-copy-order-requires
 copy-order-requires c κs =
-    let s = c .before .before .before .before .before .before .before .before .before .before .before .before .before .before .before .before .before .before .before .before .before .before .before .before in s .pre .1 .1 .0 .size ∙ sym (s .pre .1 .1 .1 .1 .0)
+    let s = start-from-copy-order-arg c in
+    s .pre .1 .1 .0 .size ∙ sym (s .pre .1 .1 .1 .1 .0)
 
 add-arrange : tie.Need-add-arrange
 add-arrange c =
-    let s = c .before .before .before .before .before .before .before .before .before .before .before .before .before .before .before .before .before .before .before .before .before .before .before .before .before .before .before .before .before .before in rw (c .before .before .before .before .before .before .before .before .before .before .before .before .before .before .before .shape-of .ensures) (omega (arith, bounds (s .args .z) (s .pre .0) .high))
+    let after-shape-of = shape-of-from-struct-known2 c in
+    let s = start-from-shape-of after-shape-of in
+    rw (after-shape-of .shape-of .ensures) (omega (arith, bounds (s .args .z) (s .pre .0) .high))
 
 arrange-requires : tie.Need-arrange-requires
 arrange-requires c κs =
-    let s = c .before .before .before .before .before .before .before .before .before .before .before .before .before .before .before .before .before .before .before .before .before .before .before .before .before .before .before .before .before .before .before in
+    let after-copy-order = copy-order-from-arrange-arg3 c in
+    let after-fill-matrix = fill-matrix-from-copy-order after-copy-order in
+    let after-shape-of = after-fill-matrix .before .before .before .before in
+    let s = start-from-shape-of after-shape-of in
     let z = s .args .z in
     let o = now (s .args .start) in
     let r = s .pre .1 .1 .0 in
     let m = s .pre .1 .1 .1 .0 in
     let b = bounds z (s .pre .0) in
     let p = products z b in
-    let f = c .before .before .before .before .before .before .before .before .before .before .before .before .fill-matrix .ensures in
-    let e = c .before .before .before .before .before .before .copy-order .ensures in
+    let f = after-fill-matrix .fill-matrix .ensures in
+    let e = after-copy-order .copy-order .ensures in
     let n = ready-size z (secret s) o f e (r .size) r m in
-    rw (c .before .before .before .before .before .before .before .before .before .before .before .before .before .before .before .before .shape-of .ensures) (
+    rw (after-shape-of .shape-of .ensures) (
       f .rows,
       (
         (omega (arith, f .rows .size, p .work), omega arith, omega arith, omega (arith, n), omega (arith, b .high)),
@@ -67,11 +139,19 @@ arrange-requires c κs =
 
 add-write-key : tie.Need-add-write-key
 add-write-key c =
-    let s = c .before .before .before .before .before .before .before .before .before .before .before .before .before .before .before .before .before .before .before .before .before .before .before .before .before .before .before .before .before .before .before .before .before .before .before .before .before .before .before .before .before in rw (c .before .before .before .before .before .before .before .before .before .before .before .before .before .before .before .before .before .before .before .before .before .before .before .before .before .before .shape-of .ensures) (omega (arith, bounds (s .args .z) (s .pre .0) .high))
+    let after-shape-of = shape-of-from-struct-known3 c in
+    let s = start-from-shape-of after-shape-of in
+    rw (after-shape-of .shape-of .ensures) (omega (arith, bounds (s .args .z) (s .pre .0) .high))
 
 write-key-requires : tie.Need-write-key-requires
 write-key-requires c κs =
-    let s = c .before .before .before .before .before .before .before .before .before .before .before .before .before .before .before .before .before .before .before .before .before .before .before .before .before .before .before .before .before .before .before .before .before .before .before .before .before .before .before .before .before .before .before .before in
+    let after-slice-known11 = c .before .before .before .before .before .before in
+    let after-arrange = after-slice-known11 .before .before .before .before .before .before in
+    let after-p = after-arrange .before .before .before .before .before .before in
+    let after-copy-order = after-p .before in
+    let after-fill-matrix = after-copy-order .before .before .before .before .before .before in
+    let after-shape-of = after-fill-matrix .before .before .before .before in
+    let s = start-from-shape-of after-shape-of in
     let z = s .args .z in
     let o = now (s .args .start) in
     let r = s .pre .1 .1 .0 in
@@ -79,11 +159,11 @@ write-key-requires c κs =
     let l = s .pre .1 .1 .1 .1 in
     let b = bounds z (s .pre .0) in
     let p = products z b in
-    let f = c .before .before .before .before .before .before .before .before .before .before .before .before .before .before .before .before .before .before .before .before .before .before .before .before .before .fill-matrix .ensures in
-    let e = c .before .before .before .before .before .before .before .before .before .before .before .before .before .before .before .before .before .before .before .copy-order .ensures in
-    let g = rw (c .before .before .before .before .before .before .before .before .before .before .before .before .before .before .before .before .before .before .before .before .before .before .before .before .before .before .before .before .before .shape-of .ensures) at (c .before .before .before .before .before .before .before .before .before .before .before .before .arrange .ensures) in
+    let f = after-fill-matrix .fill-matrix .ensures in
+    let e = after-copy-order .copy-order .ensures in
+    let g = rw (after-shape-of .shape-of .ensures) at (after-arrange .arrange .ensures) in
     let n = final-good z (secret s) o f e (r .size) r m (g .0) .size in
-    rw (c .before .before .before .before .before .before .before .before .before .before .before .before .before .before .before .before .before .before .before .before .before .before .before .before .before .before .before .before .before .shape-of .ensures) (
+    rw (after-shape-of .shape-of .ensures) (
       g .1 .1,
       (
         (omega (arith, g .1 .1 .size, p .work), omega arith, omega arith, omega (arith, n), omega (arith, b .high)),
@@ -101,23 +181,37 @@ same-length-3 : tie.Need-same-length-3
 same-length-3 c = search needs
 
 same-length-4 : tie.Need-same-length-4
-same-length-4 c = omega (arith, c .before .before .before .before .before .before .before .before .before .before .before .before .before .before .before .before .work-ones2 .given, c .before .before .before .before .before .before .before .before .before .before .before .before .before .before .before .before .before .before .before .before .before .before .before .before .before .before .before .before .before .work-ones .given)
+same-length-4 c =
+    let after-work-ones2 = work-ones2-from-write-key (c .before .before .before .before) in
+    let after-work-ones = work-ones-from-arrange (after-work-ones2 .before) in
+    omega (arith, after-work-ones2 .work-ones2 .given, after-work-ones .work-ones .given)
 
 same-length-5 : tie.Need-same-length-5
-same-length-5 c = omega (arith, c .before .before .before .before .before .before .before .before .before .before .before .before .before .before .work-twos2 .given, c .before .before .before .before .before .before .before .before .before .before .before .before .before .before .before .before .before .before .before .before .before .before .before .before .before .before .before .work-twos .given)
+same-length-5 c =
+    let after-work-twos2 = work-twos2-from-write-key (c .before .before .before .before) in
+    let after-work-twos = work-twos-from-arrange (after-work-twos2 .before .before .before) in
+    omega (arith, after-work-twos2 .work-twos2 .given, after-work-twos .work-twos .given)
 
 returns : tie.Need-returns
 returns c =
-    let s = c .before .before .before .before .before .before .before .before .before .before .before .before .before .before .before .before .before .before .before .before .before .before .before .before .before .before .before .before .before .before .before .before .before .before .before .before .before .before .before .before .before .before .before .before .before .before .before .before .before in
+    let after-write-key = c .before .before .before .before in
+    let after-write-key-arg = after-write-key .before .before .before .before .before .before in
+    let after-work-ones2 = after-write-key-arg .before .before .before .before .before .before in
+    let after-arrange = after-work-ones2 .before in
+    let after-p = after-arrange .before .before .before .before .before .before in
+    let after-copy-order = after-p .before in
+    let after-fill-matrix = after-copy-order .before .before .before .before .before .before in
+    let after-shape-of = after-fill-matrix .before .before .before .before in
+    let s = start-from-shape-of after-shape-of in
     let z = s .args .z in
     let o = now (s .args .start) in
     let r = s .pre .1 .1 .0 in
     let m = s .pre .1 .1 .1 .0 in
     let b = bounds z (s .pre .0) in
-    let f = c .before .before .before .before .before .before .before .before .before .before .before .before .before .before .before .before .before .before .before .before .before .before .before .before .before .before .before .before .before .before .fill-matrix .ensures in
-    let e = c .before .before .before .before .before .before .before .before .before .before .before .before .before .before .before .before .before .before .before .before .before .before .before .before .copy-order .ensures in
-    let g = rw (c .before .before .before .before .before .before .before .before .before .before .before .before .before .before .before .before .before .before .before .before .before .before .before .before .before .before .before .before .before .before .before .before .before .before .shape-of .ensures) at (c .before .before .before .before .before .before .before .before .before .before .before .before .before .before .before .before .before .arrange .ensures) in
-    let w = rw (c .before .before .before .before .before .before .before .before .before .before .before .before .before .before .before .before .before .before .before .before .before .before .before .before .before .before .before .before .before .before .before .before .before .before .shape-of .ensures) at (c .before .before .before .before .write-key .ensures) in (
+    let f = after-fill-matrix .fill-matrix .ensures in
+    let e = after-copy-order .copy-order .ensures in
+    let g = rw (after-shape-of .shape-of .ensures) at (after-arrange .arrange .ensures) in
+    let w = rw (after-shape-of .shape-of .ensures) at (after-write-key .write-key .ensures) in (
       final-order z (secret s) o f e (r .size) r m (g .0),
       w .0 ∙ final-ones z (secret s) o f e (r .size) r m (g .0) _ _ (g .1 .0) b,
       w .1 ∙ final-twos z (secret s) o f e (r .size) r m (g .0) _ _ (g .1 .0) b,

@@ -37,7 +37,10 @@ loop-less c = omega arith
 
 loop-again : tie.Need-loop-again Inv-loop μ-loop
 loop-again c =
-    (omega arith, clear-passed (now (c .before .before .before .before .args .flags)) (c .before .before .before .before .args .n) (c .before .before .before .loop .i) (c .before .before .before .loop .inv .1) (c .if1 .left))
+    let start = c .before .before .before .before in (
+      omega arith,
+      clear-passed (now (start .args .flags)) (start .args .n) (c .before .before .before .loop .i) (c .before .before .before .loop .inv .1) (c .if1 .left),
+    )
 
 returns-2 : tie.Need-returns-2 Inv-loop μ-loop
 returns-2 c =

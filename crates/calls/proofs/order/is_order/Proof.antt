@@ -9,6 +9,10 @@ use Rattle.calls.proofs.Marks.{marked-none, marked-order}
 use Rattle.calls.proofs.order.is_order.Statement.{statement}
 use Rattle.calls.proofs.order.is_order.Tie as tie
 
+-- The places that the answers look back to, each from a later one.
+abbrev start-from-all-marked : tie.After-all-marked → tie.Start
+start-from-all-marked c = c .before .before .before .before .before .before
+
 slice-aggregate-mark-places : tie.Need-slice-aggregate-mark-places
 slice-aggregate-mark-places c = search needs
 
@@ -25,7 +29,7 @@ all-marked-requires c κs = search needs
 
 returns : tie.Need-returns
 returns c =
-    let o = now (c .before .before .before .before .before .before .args .order) in
+    let o = now (start-from-all-marked c .args .order) in
     c .all-marked .ensures ∙ marked-order (length o) o _ refl (c .before .before .before .mark-places .ensures)
 
 pub is-order-spec : {M : Type 1} → statement M

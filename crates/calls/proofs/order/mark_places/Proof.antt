@@ -44,11 +44,14 @@ loop-less c = omega arith
 
 loop-again : tie.Need-loop-again Inv-loop μ-loop
 loop-again c =
-    let l = c .before .before .before .before .before .before .loop in
-    let s = c .before .before .before .before .before .before .before .before .before in
+    let at-loop = c .before .before .before .before .before .before in
+    let s = at-loop .before .before .before in
+    let l = at-loop .loop in
     let o = now (s .args .order) in
-    let e = c .before .before .mark-place .ensures in
-    ((omega arith, ap length e ∙ mark-length (getD o (l .i) 0) (s .args .n) (l .flags) ∙ l .inv .0 .1), marked-turn o (l .i) (l .inv .1) (omega arith) (omega (arith, l .inv .0 .1, s .pre .0)) e)
+    let e = c .before .before .mark-place .ensures in (
+      (omega arith, ap length e ∙ mark-length (getD o (l .i) 0) (s .args .n) (l .flags) ∙ l .inv .0 .1),
+      marked-turn o (l .i) (l .inv .1) (omega arith) (omega (arith, l .inv .0 .1, s .pre .0)) e,
+    )
 
 same-length : tie.Need-same-length Inv-loop μ-loop
 same-length c =

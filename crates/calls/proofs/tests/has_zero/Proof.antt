@@ -18,6 +18,13 @@ Inv-loop ones twos from m i₀ i =
 abbrev μ-loop : tie.MeasureT-loop
 μ-loop ones twos from m i₀ i = m - i
 
+-- The places that the answers look back to, each from a later one.
+abbrev start-from-then1 : tie.Then1 Inv-loop μ-loop → tie.Start Inv-loop μ-loop
+start-from-then1 c = c .before .before .before .before .before .before
+
+abbrev start-from-else1 : tie.Else1 Inv-loop μ-loop → tie.Start Inv-loop μ-loop
+start-from-else1 c = c .before .before .before .before .before .before
+
 loop-holds : tie.Need-loop-holds Inv-loop μ-loop
 unfolding anyTo
 loop-holds c =
@@ -34,7 +41,10 @@ add-trit-at c =
 
 returns : tie.Need-returns Inv-loop μ-loop
 returns c =
-    zero-found (λ j. tritAt (now (c .before .before .before .before .before .before .args .ones)) (now (c .before .before .before .before .before .before .args .twos)) (c .before .before .before .before .before .before .args .from + j)) (c .before .before .before .before .before .before .args .m) (c .before .before .before .loop .i) (c .before .trit-at .ensures) (omega arith) (c .if1 .taken)
+    let start = start-from-then1 c in
+    let a = start .args in
+    zero-found (λ j. tritAt (now (a .ones)) (now (a .twos)) (a .from + j)) (a .m) (c .before .before .before .loop .i) (c .before .trit-at .ensures)
+    (omega arith) (c .if1 .taken)
 
 add-i : tie.Need-add-i Inv-loop μ-loop
 add-i c = omega arith
@@ -44,11 +54,18 @@ loop-less c = omega arith
 
 loop-again : tie.Need-loop-again Inv-loop μ-loop
 loop-again c =
-    (omega arith, zero-passed (λ j. tritAt (now (c .before .before .before .before .before .before .args .ones)) (now (c .before .before .before .before .before .before .args .twos)) (c .before .before .before .before .before .before .args .from + j)) (c .before .before .before .before .before .before .args .m) (c .before .before .before .loop .i) (c .before .trit-at .ensures) (c .before .before .before .loop .inv .1) (c .if1 .left))
+    let start = start-from-else1 c in
+    let a = start .args in (
+      omega arith,
+      zero-passed (λ j. tritAt (now (a .ones)) (now (a .twos)) (a .from + j)) (a .m) (c .before .before .before .loop .i) (c .before .trit-at .ensures)
+          (c .before .before .before .loop .inv .1) (c .if1 .left),
+    )
 
 returns-2 : tie.Need-returns-2 Inv-loop μ-loop
 returns-2 c =
-    zero-none (λ j. tritAt (now (c .before .before .before .before .args .ones)) (now (c .before .before .before .before .args .twos)) (c .before .before .before .before .args .from + j)) (c .before .before .before .before .args .m) (c .before .loop .i) (omega arith) (c .before .loop .inv .1)
+    let start = c .before .before .before .before in
+    let a = start .args in
+    zero-none (λ j. tritAt (now (a .ones)) (now (a .twos)) (a .from + j)) (a .m) (c .before .loop .i) (omega arith) (c .before .loop .inv .1)
 
 pub has-zero-spec : {M : Type 1} → statement M
 has-zero-spec =

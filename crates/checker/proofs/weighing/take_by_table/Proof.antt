@@ -29,35 +29,86 @@ Inv-loop held ones twos s work-ones₀ work-twos₀ table k taken₀ i₀ work-o
 abbrev μ-loop : tie.MeasureT-loop
 μ-loop held ones twos s work-ones₀ work-twos₀ table k taken₀ i₀ work-ones work-twos taken i = held .k - i
 
+-- The places that the answers look back to, each from a later one.
+abbrev start-from-slice-known2 : tie.After-slice-known2 Inv-loop μ-loop → tie.Start Inv-loop μ-loop
+start-from-slice-known2 c = c .before .before .before .before .before
+
+abbrev start-from-at-loop : tie.At-loop Inv-loop μ-loop → tie.Start Inv-loop μ-loop
+start-from-at-loop c = c .before .before .before .before .before .before
+
+abbrev start-from-in-loop : tie.In-loop Inv-loop μ-loop → tie.Start Inv-loop μ-loop
+start-from-in-loop c = start-from-at-loop (c .before)
+
+abbrev start-from-trit : tie.After-trit Inv-loop μ-loop → tie.Start Inv-loop μ-loop
+start-from-trit c = start-from-in-loop (c .before .before)
+
+abbrev start-from-take-row : tie.After-take-row Inv-loop μ-loop → tie.Start Inv-loop μ-loop
+start-from-take-row c = start-from-trit (c .before .before .before)
+
+abbrev start-from-after-loop : tie.After-loop Inv-loop μ-loop → tie.Start Inv-loop μ-loop
+start-from-after-loop c = start-from-at-loop (c .before)
+
 loop-holds : tie.Need-loop-holds Inv-loop μ-loop
 unfolding sumTo
 loop-holds c =
-    (omega arith, refl, record { row = c .before .before .before .before .before .pre .1 .1 .0 .row; size = refl; trits = taken-none (tritAt (now (c .before .before .before .before .before .args .work-ones)) (now (c .before .before .before .before .before .args .work-twos))) (heldKey (c .before .before .before .before .before .args .held) (now (c .before .before .before .before .before .args .ones)) (now (c .before .before .before .before .before .args .twos))) (packedRow (c .before .before .before .before .before .args .held .k) (now (c .before .before .before .before .before .args .s))) })
+    let start = start-from-slice-known2 c in
+    let a = start .args in (
+      omega arith,
+      refl,
+      record {
+        row = start .pre .1 .1 .0 .row;
+        size = refl;
+        trits = taken-none (tritAt (now (a .work-ones)) (now (a .work-twos))) (heldKey (a .held) (now (a .ones)) (now (a .twos)))
+            (packedRow (a .held .k) (now (a .s)));
+      },
+    )
 
 shared-slice-read-trit : tie.Need-shared-slice-read-trit Inv-loop μ-loop
 shared-slice-read-trit c =
-    let l = c .before .before .before .before .before .before .before .before .pre .1 .1 .1 .0 in
+    let l = start-from-in-loop (c .before) .pre .1 .1 .1 .0 in
     omega arith
 
 trit-requires : tie.Need-trit-requires Inv-loop μ-loop
 trit-requires c κs =
-    let l = c .before .before .before .before .before .before .before .before .pre .1 .1 .1 .0 in
-    let b = bytes-small (now (c .before .before .before .before .before .before .before .before .args .s)) (bytes-passed (now (c .before .before .before .before .before .before .before .before .args .s)) (c .before .before .before .before .before .before .before .before .pre .1 .1 .1 .1)) (c .before .before .loop .i / 5) (omega arith) in
-    (c .before .before .before .before .before .before .before .before .pre .1 .1 .1 .2, omega (arith, b))
+    let start = start-from-in-loop (c .before) in
+    let l = start .pre .1 .1 .1 .0 in
+    let b = bytes-small (now (start .args .s)) (bytes-passed (now (start .args .s)) (start .pre .1 .1 .1 .1)) (c .before .before .loop .i / 5) (omega arith) in
+    (start .pre .1 .1 .1 .2, omega (arith, b))
 
 take-row-requires : tie.Need-take-row-requires Inv-loop μ-loop
 take-row-requires c κs =
-    let v = c .before .before .before .before .before .loop .inv .2 in
-    (c .before .before .before .before .before .before .before .before .before .before .before .pre .0, (c .before .before .before .before .before .before .before .before .before .before .before .pre .1 .0, (record { row = v .row; size = v .size ∙ c .before .before .before .before .before .before .before .before .before .before .before .pre .1 .1 .0 .size }, (omega arith, omega (arith, c .before .before .trit .ensures, digit-lt (getD (now (c .before .before .before .before .before .before .before .before .before .before .before .args .s)) (c .before .before .before .before .before .loop .i / 5) 0) (c .before .before .before .before .before .loop .i % 5))))))
+    let at-loop = c .before .before .before .before .before in
+    let start = start-from-at-loop at-loop in
+    let v = at-loop .loop .inv .2 in (
+      start .pre .0,
+      (
+        start .pre .1 .0,
+        (
+          record { row = v .row; size = v .size ∙ start .pre .1 .1 .0 .size },
+          (
+            omega arith,
+            omega (arith, c .before .before .trit .ensures, digit-lt (getD (now (start .args .s)) (at-loop .loop .i / 5) 0) (at-loop .loop .i % 5)),
+          ),
+        ),
+      ),
+    )
 
 add-taken : tie.Need-add-taken Inv-loop μ-loop
 add-taken c =
-    let t = turn-weight (packedRow (c .before .before .before .before .before .before .before .before .before .before .before .before .before .before .before .before .args .held .k) (now (c .before .before .before .before .before .before .before .before .before .before .before .before .before .before .before .before .args .s))) (c .before .before .before .before .before .before .before .before .before .before .loop .i) (tritOf (c .before .before .before .before .before .before .before .trit .result)) (packed-trit (now (c .before .before .before .before .before .before .before .before .before .before .before .before .before .before .before .before .args .s)) (c .before .before .before .before .before .before .before .before .before .before .before .before .before .before .before .before .args .held .k) (c .before .before .before .before .before .before .before .before .before .before .loop .i) (c .before .before .before .before .before .before .before .trit .result) (omega arith) (c .before .before .before .before .before .before .before .trit .ensures)) (c .before .before .before .before .before .before .before .before .before .before .loop .inv .1) (c .before .before .before .before .take-row .ensures .0) in
-    omega (arith, t, weight-le (packedRow (c .before .before .before .before .before .before .before .before .before .before .before .before .before .before .before .before .args .held .k) (now (c .before .before .before .before .before .before .before .before .before .before .before .before .before .before .before .before .args .s))) (c .before .before .before .before .before .before .before .before .before .before .loop .i + 1), sizes (c .before .before .before .before .before .before .before .before .before .before .before .before .before .before .before .before .args .held) (c .before .before .before .before .before .before .before .before .before .before .before .before .before .before .before .before .pre .0 .is-sound))
+    let after-take-row = c .before .before .before .before in
+    let after-trit = after-take-row .before .before .before in
+    let at-loop = after-trit .before .before .before in
+    let start = start-from-at-loop at-loop in
+    let a = start .args in
+    let t = turn-weight (packedRow (a .held .k) (now (a .s))) (at-loop .loop .i) (tritOf (after-trit .trit .result))
+    (packed-trit (now (a .s)) (a .held .k) (at-loop .loop .i) (after-trit .trit .result) (omega arith) (after-trit .trit .ensures)) (at-loop .loop .inv .1)
+    (after-take-row .take-row .ensures .0) in
+    omega (arith, t, weight-le (packedRow (a .held .k) (now (a .s))) (at-loop .loop .i + 1), sizes (a .held) (start .pre .0 .is-sound))
 
 add-i : tie.Need-add-i Inv-loop μ-loop
 add-i c =
-    omega (arith, sizes (c .before .before .before .before .before .before .before .before .before .before .before .before .before .before .before .before .args .held) (c .before .before .before .before .before .before .before .before .before .before .before .before .before .before .before .before .pre .0 .is-sound))
+    let start = start-from-take-row (c .before .before .before .before) in
+    omega (arith, sizes (start .args .held) (start .pre .0 .is-sound))
 
 loop-less : tie.Need-loop-less Inv-loop μ-loop
 loop-less c =
@@ -65,10 +116,17 @@ loop-less c =
 
 loop-again : tie.Need-loop-again Inv-loop μ-loop
 loop-again c =
-    let x = (packed-trit (now (c .before .before .before .before .before .before .before .before .before .before .before .before .before .before .before .before .args .s)) (c .before .before .before .before .before .before .before .before .before .before .before .before .before .before .before .before .args .held .k) (c .before .before .before .before .before .before .before .before .before .before .loop .i) (c .before .before .before .before .before .before .before .trit .result) (omega arith) (c .before .before .before .before .before .before .before .trit .ensures)) in (
+    let after-take-row = c .before .before .before .before in
+    let after-trit = after-take-row .before .before .before in
+    let at-loop = after-trit .before .before .before in
+    let start = start-from-at-loop at-loop in
+    let a = start .args in
+    let x = (packed-trit (now (a .s)) (a .held .k) (at-loop .loop .i) (after-trit .trit .result) (omega arith) (after-trit .trit .ensures)) in (
       omega arith,
-      turn-weight (packedRow (c .before .before .before .before .before .before .before .before .before .before .before .before .before .before .before .before .args .held .k) (now (c .before .before .before .before .before .before .before .before .before .before .before .before .before .before .before .before .args .s))) (c .before .before .before .before .before .before .before .before .before .before .loop .i) (tritOf (c .before .before .before .before .before .before .before .trit .result)) x (c .before .before .before .before .before .before .before .before .before .before .loop .inv .1) (c .before .before .before .before .take-row .ensures .0),
-      turn-reads (tritAt (now (c .before .before .before .before .before .before .before .before .before .before .before .before .before .before .before .before .args .work-ones)) (now (c .before .before .before .before .before .before .before .before .before .before .before .before .before .before .before .before .args .work-twos))) (heldKey (c .before .before .before .before .before .before .before .before .before .before .before .before .before .before .before .before .args .held) (now (c .before .before .before .before .before .before .before .before .before .before .before .before .before .before .before .before .args .ones)) (now (c .before .before .before .before .before .before .before .before .before .before .before .before .before .before .before .before .args .twos))) (packedRow (c .before .before .before .before .before .before .before .before .before .before .before .before .before .before .before .before .args .held .k) (now (c .before .before .before .before .before .before .before .before .before .before .before .before .before .before .before .before .args .s))) (c .before .before .before .before .before .before .before .before .before .before .loop .i) (tritOf (c .before .before .before .before .before .before .before .trit .result)) x (c .before .before .before .before .before .before .before .before .before .before .loop .inv .2 .size) (c .before .before .before .before .before .before .before .before .before .before .loop .inv .2) (c .before .before .before .before .take-row .ensures .1),
+      turn-weight (packedRow (a .held .k) (now (a .s))) (at-loop .loop .i) (tritOf (after-trit .trit .result)) x (at-loop .loop .inv .1)
+          (after-take-row .take-row .ensures .0),
+      turn-reads (tritAt (now (a .work-ones)) (now (a .work-twos))) (heldKey (a .held) (now (a .ones)) (now (a .twos))) (packedRow (a .held .k) (now (a .s)))
+          (at-loop .loop .i) (tritOf (after-trit .trit .result)) x (at-loop .loop .inv .2 .size) (at-loop .loop .inv .2) (after-take-row .take-row .ensures .1),
     )
 
 same-length : tie.Need-same-length Inv-loop μ-loop
@@ -81,8 +139,13 @@ same-length-2 c =
 
 returns : tie.Need-returns Inv-loop μ-loop
 returns c =
-    let e : c .before .loop .i ≡ c .before .before .before .before .before .before .before .args .held .k = omega arith in
-    (c .before .loop .inv .1 ∙ ap (weightV (packedRow (c .before .before .before .before .before .before .before .args .held .k) (now (c .before .before .before .before .before .before .before .args .s)))) e, reads-to (c .before .loop .inv .2) (ap (λ (x : ℕ). zipV subT (tritAt (now (c .before .before .before .before .before .before .before .args .work-ones)) (now (c .before .before .before .before .before .before .before .args .work-twos))) (timesKey x (heldKey (c .before .before .before .before .before .before .before .args .held) (now (c .before .before .before .before .before .before .before .args .ones)) (now (c .before .before .before .before .before .before .before .args .twos))) (packedRow (c .before .before .before .before .before .before .before .args .held .k) (now (c .before .before .before .before .before .before .before .args .s))))) e))
+    let start = start-from-after-loop c in
+    let a = start .args in
+    let e : c .before .loop .i ≡ a .held .k = omega arith in (
+      c .before .loop .inv .1 ∙ ap (weightV (packedRow (a .held .k) (now (a .s)))) e,
+      reads-to (c .before .loop .inv .2) (ap (λ (x : ℕ). zipV subT (tritAt (now (a .work-ones)) (now (a .work-twos)))
+          (timesKey x (heldKey (a .held) (now (a .ones)) (now (a .twos))) (packedRow (a .held .k) (now (a .s))))) e),
+    )
 
 pub take-by-table-spec : {M : Type 1} → statement M
 take-by-table-spec =

@@ -4,12 +4,16 @@ use borrow.Author.Needs.{needs}
 use Rattle.checker.proofs.weighing.take_packed_rows.Statement.{statement}
 use Rattle.checker.proofs.weighing.take_packed_rows.Tie as tie
 
+-- The places that the answers look back to, each from a later one.
+abbrev start-from-byte-table : tie.After-byte-table → tie.Start
+start-from-byte-table c = c .before .before .before .before .before .before
+
 byte-table-requires : tie.Need-byte-table-requires
 byte-table-requires c κs = search needs
 
 take-by-table-requires : tie.Need-take-by-table-requires
 take-by-table-requires c κs =
-    let p = c .before .before .before .before .before .before .before .before .before .pre in
+    let p = start-from-byte-table (c .before .before .before) .pre in
     (p .0, (p .1 .0, (p .1 .1 .0, (p .1 .1 .1 .0, p .1 .1 .1 .1, c .before .before .before .byte-table .ensures))))
 
 same-length : tie.Need-same-length

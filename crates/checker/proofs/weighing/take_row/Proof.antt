@@ -16,10 +16,31 @@ use Rattle.checker.proofs.Product.{take-known, take-two, take-none}
 use Rattle.checker.proofs.weighing.take_row.Statement.{statement}
 use Rattle.checker.proofs.weighing.take_row.Tie as tie
 
+-- The places that the answers look back to, each from a later one.
+abbrev start-from-then1 : tie.Then1 → tie.Start
+start-from-then1 c = c .before .before .before .before .before
+
+abbrev start-from-held-row : tie.After-held-row → tie.Start
+start-from-held-row c = c .before .before .before .before .before .before
+
+abbrev start-from-held-row2 : tie.After-held-row2 → tie.Start
+start-from-held-row2 c = start-from-held-row (c .before)
+
+abbrev start-from-else1 : tie.Else1 → tie.Start
+start-from-else1 c = c .before .before .before .before .before
+
 returns : tie.Need-returns
 returns c =
-    let u = tritAt (now (c .before .before .before .before .before .args .work-ones)) (now (c .before .before .before .before .before .args .work-twos)) in
-    (ap (λ (x : ℕ). nonZero (tritOf x)) (sym (c .if1 .taken)), record { row = c .before .before .before .before .before .pre .1 .1 .0 .row; size = refl; trits = take-none u (heldKey (c .before .before .before .before .before .args .held) (now (c .before .before .before .before .before .args .ones)) (now (c .before .before .before .before .before .args .twos)) (c .before .before .before .before .before .args .i)) (c .before .before .before .before .before .args .t) (c .if1 .taken) })
+    let start = start-from-then1 c in
+    let a = start .args in
+    let u = tritAt (now (a .work-ones)) (now (a .work-twos)) in (
+      ap (λ (x : ℕ). nonZero (tritOf x)) (sym (c .if1 .taken)),
+      record {
+        row = start .pre .1 .1 .0 .row;
+        size = refl;
+        trits = take-none u (heldKey (a .held) (now (a .ones)) (now (a .twos)) (a .i)) (a .t) (c .if1 .taken);
+      },
+    )
 
 held-row-requires : tie.Need-held-row-requires
 held-row-requires c κs = search needs
@@ -29,12 +50,15 @@ held-row-requires-2 c κs = search needs
 
 sub-row-requires : tie.Need-sub-row-requires
 sub-row-requires c κs =
-    let w = c .before .before .before .before .before .before .before .before .before .before .pre .0 in
-    let l : c .before .before .before .before .before .before .before .before .before .before .args .i < c .before .before .before .before .before .before .before .before .before .before .args .held .k = c .before .before .before .before .before .before .before .before .before .before .pre .1 .1 .1 .0 in
-    let k = c .before .before .before .before .before .before .before .before .before .before .pre .1 .1 .0 in
-    let ea = c .before .before .before .before .held-row .ensures in
+    let after-held-row = c .before .before .before .before in
+    let start = start-from-held-row after-held-row in
+    let a = start .args in
+    let w = start .pre .0 in
+    let l : a .i < a .held .k = start .pre .1 .1 .1 .0 in
+    let k = start .pre .1 .1 .0 in
+    let ea = after-held-row .held-row .ensures in
     let eb = c .before .before .before .held-row2 .ensures in
-    (k .row, (subst₂ Row (sym ea) (sym eb) (row-row w (c .before .before .before .before .before .before .before .before .before .before .args .i) l (c .before .before .before .before .before .before .before .before .before .before .pre .1 .0)), ap length ea ∙ ones-length w (c .before .before .before .before .before .before .before .before .before .before .args .i) l ∙ sym (k .size)))
+    (k .row, (subst₂ Row (sym ea) (sym eb) (row-row w (a .i) l (start .pre .1 .0)), ap length ea ∙ ones-length w (a .i) l ∙ sym (k .size)))
 
 same-length : tie.Need-same-length
 same-length c = search needs
@@ -45,23 +69,29 @@ same-length-2 c = search needs
 returns-2 : tie.Need-returns-2
 unfolding heldKey
 returns-2 c =
-    let a = c .before .before .before .before .before .before .before .before .before .before .before .before .before .before .before .args in
+    let after-sub-row = c .before .before .before .before in
+    let then2 = after-sub-row .before .before .before in
+    let d = then2 .before in
+    let start = start-from-held-row2 d in
+    let a = start .args in
     let u = tritAt (now (a .work-ones)) (now (a .work-twos)) in
-    let d = c .before .before .before .before .before .before .before .before in
     let e = ap₂ (λ (x y : List ℕ). zipV subT u (tritAt x y)) (d .before .held-row .ensures) (d .held-row2 .ensures) in
-    let z = c .before .before .before .before .before .before .before .if2 .taken in (
+    let z = then2 .if2 .taken in (
       ap (λ (x : ℕ). nonZero (tritOf x)) (sym z),
-      reads-to (c .before .before .before .before .sub-row .ensures) (e ∙ take-known u (heldKey (a .held) (now (a .ones)) (now (a .twos)) (a .i)) (a .t) z),
+      reads-to (after-sub-row .sub-row .ensures) (e ∙ take-known u (heldKey (a .held) (now (a .ones)) (now (a .twos)) (a .i)) (a .t) z),
     )
 
 add-row-requires : tie.Need-add-row-requires
 add-row-requires c κs =
-    let w = c .before .before .before .before .before .before .before .before .before .before .pre .0 in
-    let l : c .before .before .before .before .before .before .before .before .before .before .args .i < c .before .before .before .before .before .before .before .before .before .before .args .held .k = c .before .before .before .before .before .before .before .before .before .before .pre .1 .1 .1 .0 in
-    let k = c .before .before .before .before .before .before .before .before .before .before .pre .1 .1 .0 in
-    let ea = c .before .before .before .before .held-row .ensures in
+    let after-held-row = c .before .before .before .before in
+    let start = start-from-held-row after-held-row in
+    let a = start .args in
+    let w = start .pre .0 in
+    let l : a .i < a .held .k = start .pre .1 .1 .1 .0 in
+    let k = start .pre .1 .1 .0 in
+    let ea = after-held-row .held-row .ensures in
     let eb = c .before .before .before .held-row2 .ensures in
-    (k .row, (subst₂ Row (sym ea) (sym eb) (row-row w (c .before .before .before .before .before .before .before .before .before .before .args .i) l (c .before .before .before .before .before .before .before .before .before .before .pre .1 .0)), ap length ea ∙ ones-length w (c .before .before .before .before .before .before .before .before .before .before .args .i) l ∙ sym (k .size)))
+    (k .row, (subst₂ Row (sym ea) (sym eb) (row-row w (a .i) l (start .pre .1 .0)), ap length ea ∙ ones-length w (a .i) l ∙ sym (k .size)))
 
 same-length-3 : tie.Need-same-length-3
 same-length-3 c = search needs
@@ -72,11 +102,21 @@ same-length-4 c = search needs
 returns-3 : tie.Need-returns-3
 unfolding heldKey
 returns-3 c =
-    let ea = c .before .before .before .before .before .before .before .before .before .held-row .ensures in
-    let eb = c .before .before .before .before .before .before .before .before .held-row2 .ensures in
-    let u = tritAt (now (c .before .before .before .before .before .before .before .before .before .before .before .before .before .before .before .args .work-ones)) (now (c .before .before .before .before .before .before .before .before .before .before .before .before .before .before .before .args .work-twos)) in
-    let z : c .before .before .before .before .before .before .before .before .before .before .before .before .before .before .before .args .t ≡ 2 = omega (arith, c .before .before .before .before .before .before .before .before .before .before .if1 .left, c .before .before .before .before .before .before .before .if2 .left, c .before .before .before .before .before .before .before .before .before .before .before .before .before .before .before .pre .1 .1 .1 .1) in
-    (ap (λ (x : ℕ). nonZero (tritOf x)) (sym z), reads-to (c .before .before .before .before .add-row .ensures) (ap₂ (λ (x y : List ℕ). zipV addT u (tritAt x y)) ea eb ∙ take-two u (heldKey (c .before .before .before .before .before .before .before .before .before .before .before .before .before .before .before .args .held) (now (c .before .before .before .before .before .before .before .before .before .before .before .before .before .before .before .args .ones)) (now (c .before .before .before .before .before .before .before .before .before .before .before .before .before .before .before .args .twos)) (c .before .before .before .before .before .before .before .before .before .before .before .before .before .before .before .args .i)) (c .before .before .before .before .before .before .before .before .before .before .before .before .before .before .before .args .t) z))
+    let after-add-row = c .before .before .before .before in
+    let else2 = after-add-row .before .before .before in
+    let after-held-row2 = else2 .before in
+    let after-held-row = after-held-row2 .before in
+    let else1 = after-held-row .before in
+    let start = start-from-else1 else1 in
+    let a = start .args in
+    let ea = after-held-row .held-row .ensures in
+    let eb = after-held-row2 .held-row2 .ensures in
+    let u = tritAt (now (a .work-ones)) (now (a .work-twos)) in
+    let z : a .t ≡ 2 = omega (arith, else1 .if1 .left, else2 .if2 .left, start .pre .1 .1 .1 .1) in (
+      ap (λ (x : ℕ). nonZero (tritOf x)) (sym z),
+      reads-to (after-add-row .add-row .ensures) (ap₂ (λ (x y : List ℕ). zipV addT u (tritAt x y)) ea eb ∙
+          take-two u (heldKey (a .held) (now (a .ones)) (now (a .twos)) (a .i)) (a .t) z),
+    )
 
 pub take-row-spec : {M : Type 1} → statement M
 take-row-spec =

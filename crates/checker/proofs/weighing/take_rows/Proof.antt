@@ -25,29 +25,79 @@ Inv-loop held ones twos s-ones s-twos work-ones₀ work-twos₀ k taken₀ i₀ 
 abbrev μ-loop : tie.MeasureT-loop
 μ-loop held ones twos s-ones s-twos work-ones₀ work-twos₀ k taken₀ i₀ work-ones work-twos taken i = held .k - i
 
+-- The places that the answers look back to, each from a later one.
+abbrev start-from-slice-known2 : tie.After-slice-known2 Inv-loop μ-loop → tie.Start Inv-loop μ-loop
+start-from-slice-known2 c = c .before .before .before .before .before .before
+
+abbrev start-from-at-loop : tie.At-loop Inv-loop μ-loop → tie.Start Inv-loop μ-loop
+start-from-at-loop c = c .before .before .before .before .before .before .before
+
+abbrev start-from-in-loop : tie.In-loop Inv-loop μ-loop → tie.Start Inv-loop μ-loop
+start-from-in-loop c = start-from-at-loop (c .before)
+
+abbrev start-from-trit-at : tie.After-trit-at Inv-loop μ-loop → tie.Start Inv-loop μ-loop
+start-from-trit-at c = start-from-in-loop (c .before)
+
+abbrev start-from-take-row : tie.After-take-row Inv-loop μ-loop → tie.Start Inv-loop μ-loop
+start-from-take-row c = start-from-trit-at (c .before .before .before)
+
+abbrev start-from-after-loop : tie.After-loop Inv-loop μ-loop → tie.Start Inv-loop μ-loop
+start-from-after-loop c = start-from-at-loop (c .before)
+
 loop-holds : tie.Need-loop-holds Inv-loop μ-loop
 unfolding sumTo
 loop-holds c =
-    (omega arith, refl, record { row = c .before .before .before .before .before .before .pre .1 .1 .0 .row; size = refl; trits = taken-none (tritAt (now (c .before .before .before .before .before .before .args .work-ones)) (now (c .before .before .before .before .before .before .args .work-twos))) (heldKey (c .before .before .before .before .before .before .args .held) (now (c .before .before .before .before .before .before .args .ones)) (now (c .before .before .before .before .before .before .args .twos))) (tritAt (now (c .before .before .before .before .before .before .args .s-ones)) (now (c .before .before .before .before .before .before .args .s-twos))) })
+    let start = start-from-slice-known2 c in
+    let a = start .args in (
+      omega arith,
+      refl,
+      record {
+        row = start .pre .1 .1 .0 .row;
+        size = refl;
+        trits = taken-none (tritAt (now (a .work-ones)) (now (a .work-twos))) (heldKey (a .held) (now (a .ones)) (now (a .twos)))
+            (tritAt (now (a .s-ones)) (now (a .s-twos)));
+      },
+    )
 
 trit-at-requires : tie.Need-trit-at-requires Inv-loop μ-loop
 trit-at-requires c κs =
-    let p = c .before .before .before .before .before .before .before .before .pre .1 .1 .1 in
+    let p = start-from-in-loop c .pre .1 .1 .1 in
     (p .1, omega (arith, p .0))
 
 take-row-requires : tie.Need-take-row-requires Inv-loop μ-loop
 take-row-requires c κs =
-    let v = c .before .before .before .before .loop .inv .2 in
-    (c .before .before .before .before .before .before .before .before .before .before .before .pre .0, (c .before .before .before .before .before .before .before .before .before .before .before .pre .1 .0, (record { row = v .row; size = v .size ∙ c .before .before .before .before .before .before .before .before .before .before .before .pre .1 .1 .0 .size }, (omega arith, omega (arith, c .before .before .trit-at .ensures, number-lt (tritAt (now (c .before .before .before .before .before .before .before .before .before .before .before .args .s-ones)) (now (c .before .before .before .before .before .before .before .before .before .before .before .args .s-twos)) (c .before .before .before .before .loop .i)))))))
+    let at-loop = c .before .before .before .before in
+    let start = start-from-at-loop at-loop in
+    let v = at-loop .loop .inv .2 in (
+      start .pre .0,
+      (
+        start .pre .1 .0,
+        (
+          record { row = v .row; size = v .size ∙ start .pre .1 .1 .0 .size },
+          (
+            omega arith,
+            omega (arith, c .before .before .trit-at .ensures, number-lt (tritAt (now (start .args .s-ones)) (now (start .args .s-twos)) (at-loop .loop .i))),
+          ),
+        ),
+      ),
+    )
 
 add-taken : tie.Need-add-taken Inv-loop μ-loop
 add-taken c =
-    let t = turn-weight (tritAt (now (c .before .before .before .before .before .before .before .before .before .before .before .before .before .before .before .before .args .s-ones)) (now (c .before .before .before .before .before .before .before .before .before .before .before .before .before .before .before .before .args .s-twos))) (c .before .before .before .before .before .before .before .before .before .loop .i) (tritOf (c .before .before .before .before .before .before .before .trit-at .result)) (ap tritOf (c .before .before .before .before .before .before .before .trit-at .ensures) ∙ trit-number (tritAt (now (c .before .before .before .before .before .before .before .before .before .before .before .before .before .before .before .before .args .s-ones)) (now (c .before .before .before .before .before .before .before .before .before .before .before .before .before .before .before .before .args .s-twos)) (c .before .before .before .before .before .before .before .before .before .loop .i))) (c .before .before .before .before .before .before .before .before .before .loop .inv .1) (c .before .before .before .before .take-row .ensures .0) in
-    omega (arith, t, weight-le (tritAt (now (c .before .before .before .before .before .before .before .before .before .before .before .before .before .before .before .before .args .s-ones)) (now (c .before .before .before .before .before .before .before .before .before .before .before .before .before .before .before .before .args .s-twos))) (c .before .before .before .before .before .before .before .before .before .loop .i + 1), sizes (c .before .before .before .before .before .before .before .before .before .before .before .before .before .before .before .before .args .held) (c .before .before .before .before .before .before .before .before .before .before .before .before .before .before .before .before .pre .0 .is-sound))
+    let after-take-row = c .before .before .before .before in
+    let after-trit-at = after-take-row .before .before .before in
+    let at-loop = after-trit-at .before .before in
+    let start = start-from-at-loop at-loop in
+    let a = start .args in
+    let t = turn-weight (tritAt (now (a .s-ones)) (now (a .s-twos))) (at-loop .loop .i) (tritOf (after-trit-at .trit-at .result))
+    (ap tritOf (after-trit-at .trit-at .ensures) ∙ trit-number (tritAt (now (a .s-ones)) (now (a .s-twos)) (at-loop .loop .i))) (at-loop .loop .inv .1)
+    (after-take-row .take-row .ensures .0) in
+    omega (arith, t, weight-le (tritAt (now (a .s-ones)) (now (a .s-twos))) (at-loop .loop .i + 1), sizes (a .held) (start .pre .0 .is-sound))
 
 add-i : tie.Need-add-i Inv-loop μ-loop
 add-i c =
-    omega (arith, sizes (c .before .before .before .before .before .before .before .before .before .before .before .before .before .before .before .before .args .held) (c .before .before .before .before .before .before .before .before .before .before .before .before .before .before .before .before .pre .0 .is-sound))
+    let start = start-from-take-row (c .before .before .before .before) in
+    omega (arith, sizes (start .args .held) (start .pre .0 .is-sound))
 
 loop-less : tie.Need-loop-less Inv-loop μ-loop
 loop-less c =
@@ -55,10 +105,18 @@ loop-less c =
 
 loop-again : tie.Need-loop-again Inv-loop μ-loop
 loop-again c =
-    let x = (ap tritOf (c .before .before .before .before .before .before .before .trit-at .ensures) ∙ trit-number (tritAt (now (c .before .before .before .before .before .before .before .before .before .before .before .before .before .before .before .before .args .s-ones)) (now (c .before .before .before .before .before .before .before .before .before .before .before .before .before .before .before .before .args .s-twos)) (c .before .before .before .before .before .before .before .before .before .loop .i))) in (
+    let after-take-row = c .before .before .before .before in
+    let after-trit-at = after-take-row .before .before .before in
+    let at-loop = after-trit-at .before .before in
+    let start = start-from-at-loop at-loop in
+    let a = start .args in
+    let x = (ap tritOf (after-trit-at .trit-at .ensures) ∙ trit-number (tritAt (now (a .s-ones)) (now (a .s-twos)) (at-loop .loop .i))) in (
       omega arith,
-      turn-weight (tritAt (now (c .before .before .before .before .before .before .before .before .before .before .before .before .before .before .before .before .args .s-ones)) (now (c .before .before .before .before .before .before .before .before .before .before .before .before .before .before .before .before .args .s-twos))) (c .before .before .before .before .before .before .before .before .before .loop .i) (tritOf (c .before .before .before .before .before .before .before .trit-at .result)) x (c .before .before .before .before .before .before .before .before .before .loop .inv .1) (c .before .before .before .before .take-row .ensures .0),
-      turn-reads (tritAt (now (c .before .before .before .before .before .before .before .before .before .before .before .before .before .before .before .before .args .work-ones)) (now (c .before .before .before .before .before .before .before .before .before .before .before .before .before .before .before .before .args .work-twos))) (heldKey (c .before .before .before .before .before .before .before .before .before .before .before .before .before .before .before .before .args .held) (now (c .before .before .before .before .before .before .before .before .before .before .before .before .before .before .before .before .args .ones)) (now (c .before .before .before .before .before .before .before .before .before .before .before .before .before .before .before .before .args .twos))) (tritAt (now (c .before .before .before .before .before .before .before .before .before .before .before .before .before .before .before .before .args .s-ones)) (now (c .before .before .before .before .before .before .before .before .before .before .before .before .before .before .before .before .args .s-twos))) (c .before .before .before .before .before .before .before .before .before .loop .i) (tritOf (c .before .before .before .before .before .before .before .trit-at .result)) x (c .before .before .before .before .before .before .before .before .before .loop .inv .2 .size) (c .before .before .before .before .before .before .before .before .before .loop .inv .2) (c .before .before .before .before .take-row .ensures .1),
+      turn-weight (tritAt (now (a .s-ones)) (now (a .s-twos))) (at-loop .loop .i) (tritOf (after-trit-at .trit-at .result)) x (at-loop .loop .inv .1)
+          (after-take-row .take-row .ensures .0),
+      turn-reads (tritAt (now (a .work-ones)) (now (a .work-twos))) (heldKey (a .held) (now (a .ones)) (now (a .twos)))
+          (tritAt (now (a .s-ones)) (now (a .s-twos))) (at-loop .loop .i) (tritOf (after-trit-at .trit-at .result)) x (at-loop .loop .inv .2 .size)
+          (at-loop .loop .inv .2) (after-take-row .take-row .ensures .1),
     )
 
 same-length : tie.Need-same-length Inv-loop μ-loop
@@ -71,8 +129,13 @@ same-length-2 c =
 
 returns : tie.Need-returns Inv-loop μ-loop
 returns c =
-    let e : c .before .loop .i ≡ c .before .before .before .before .before .before .before .before .args .held .k = omega arith in
-    (c .before .loop .inv .1 ∙ ap (weightV (tritAt (now (c .before .before .before .before .before .before .before .before .args .s-ones)) (now (c .before .before .before .before .before .before .before .before .args .s-twos)))) e, reads-to (c .before .loop .inv .2) (ap (λ (x : ℕ). zipV subT (tritAt (now (c .before .before .before .before .before .before .before .before .args .work-ones)) (now (c .before .before .before .before .before .before .before .before .args .work-twos))) (timesKey x (heldKey (c .before .before .before .before .before .before .before .before .args .held) (now (c .before .before .before .before .before .before .before .before .args .ones)) (now (c .before .before .before .before .before .before .before .before .args .twos))) (tritAt (now (c .before .before .before .before .before .before .before .before .args .s-ones)) (now (c .before .before .before .before .before .before .before .before .args .s-twos))))) e))
+    let start = start-from-after-loop c in
+    let a = start .args in
+    let e : c .before .loop .i ≡ a .held .k = omega arith in (
+      c .before .loop .inv .1 ∙ ap (weightV (tritAt (now (a .s-ones)) (now (a .s-twos)))) e,
+      reads-to (c .before .loop .inv .2) (ap (λ (x : ℕ). zipV subT (tritAt (now (a .work-ones)) (now (a .work-twos)))
+          (timesKey x (heldKey (a .held) (now (a .ones)) (now (a .twos))) (tritAt (now (a .s-ones)) (now (a .s-twos))))) e),
+    )
 
 pub take-rows-spec : {M : Type 1} → statement M
 take-rows-spec =

@@ -14,31 +14,105 @@ use Rattle.checker.proofs.Weighed.{readable, row-ended, weighed, at-mos
 use Rattle.checker.proofs.weighing.weigh.Statement.{statement}
 use Rattle.checker.proofs.weighing.weigh.Tie as tie
 
+-- The places that the answers look back to, each from a later one.
+abbrev start-from-copy-words-arg : tie.After-copy-words-arg → tie.Start
+start-from-copy-words-arg c = c .before .before .before .before .before .before .before .before .before
+
+abbrev start-from-copy-words : tie.After-copy-words → tie.Start
+start-from-copy-words c = c .before .before .before .before .before .before .before .before .before .before
+
+abbrev shared-slice-known4-from-copy-words : tie.After-copy-words → tie.After-shared-slice-known4
+shared-slice-known4-from-copy-words c = c .before .before .before .before .before .before
+
+abbrev take-rows-from-weight-arg2 : tie.After-weight-arg2 → tie.After-take-rows
+take-rows-from-weight-arg2 c = c .before .before .before .before .before .before
+
+abbrev copy-words2-from-take-rows : tie.After-take-rows → tie.After-copy-words2
+copy-words2-from-take-rows c = c .before .before .before .before .before
+
+abbrev copy-words-from-take-rows : tie.After-take-rows → tie.After-copy-words
+copy-words-from-take-rows c = copy-words2-from-take-rows c .before .before .before .before
+
+abbrev take-rows-from-weight : tie.After-weight → tie.After-take-rows
+take-rows-from-weight c = c .before .before .before .before .before .before .before
+
 copy-words-requires : tie.Need-copy-words-requires
 copy-words-requires c κs =
-    fitted (c .before .before .before .before .before .before .before .before .before .args .held) (length (now (c .before .before .before .before .before .before .before .before .before .args .y-ones))) (length (now (c .before .before .before .before .before .before .before .before .before .args .y-twos))) (length (now (c .before .before .before .before .before .before .before .before .before .args .s-ones))) (length (now (c .before .before .before .before .before .before .before .before .before .args .s-twos))) (c .before .before .before .before .before .before .before .before .before .pre .1 .0) .y-ones ∙ sym (c .before .before .before .before .before .before .before .before .before .pre .1 .1 .1 .0)
+    let start = start-from-copy-words-arg c in
+    let a = start .args in
+    fitted (a .held) (length (now (a .y-ones))) (length (now (a .y-twos))) (length (now (a .s-ones))) (length (now (a .s-twos))) (start .pre .1 .0) .y-ones ∙
+    sym (start .pre .1 .1 .1 .0)
 
 copy-words-requires-2 : tie.Need-copy-words-requires-2
 copy-words-requires-2 c κs =
-    fitted (c .before .before .before .before .before .before .before .before .before .before .before .before .before .args .held) (length (now (c .before .before .before .before .before .before .before .before .before .before .before .before .before .args .y-ones))) (length (now (c .before .before .before .before .before .before .before .before .before .before .before .before .before .args .y-twos))) (length (now (c .before .before .before .before .before .before .before .before .before .before .before .before .before .args .s-ones))) (length (now (c .before .before .before .before .before .before .before .before .before .before .before .before .before .args .s-twos))) (c .before .before .before .before .before .before .before .before .before .before .before .before .before .pre .1 .0) .y-twos ∙ sym (c .before .before .before .before .before .before .before .before .before .before .before .before .before .pre .1 .1 .1 .1)
+    let start = start-from-copy-words (c .before .before .before) in
+    let a = start .args in
+    fitted (a .held) (length (now (a .y-ones))) (length (now (a .y-twos))) (length (now (a .s-ones))) (length (now (a .s-twos))) (start .pre .1 .0) .y-twos ∙
+    sym (start .pre .1 .1 .1 .1)
 
 take-rows-requires : tie.Need-take-rows-requires
 take-rows-requires c κs =
-    let f = fitted (c .before .before .before .before .before .before .before .before .before .before .before .before .before .before .before .before .before .before .args .held) (length (now (c .before .before .before .before .before .before .before .before .before .before .before .before .before .before .before .before .before .before .args .y-ones))) (length (now (c .before .before .before .before .before .before .before .before .before .before .before .before .before .before .before .before .before .before .args .y-twos))) (length (now (c .before .before .before .before .before .before .before .before .before .before .before .before .before .before .before .before .before .before .args .s-ones))) (length (now (c .before .before .before .before .before .before .before .before .before .before .before .before .before .before .before .before .before .before .args .s-twos))) (c .before .before .before .before .before .before .before .before .before .before .before .before .before .before .before .before .before .before .pre .1 .0) in
-    let t = contents (c .before .before .before .before .before .before .before .before .before .before .before .before .before .before .before .before .before .before .args .held) (now (c .before .before .before .before .before .before .before .before .before .before .before .before .before .before .before .before .before .before .args .ones)) (now (c .before .before .before .before .before .before .before .before .before .before .before .before .before .before .before .before .before .before .args .twos)) (now (c .before .before .before .before .before .before .before .before .before .before .before .before .before .before .before .before .before .before .args .y-ones)) (now (c .before .before .before .before .before .before .before .before .before .before .before .before .before .before .before .before .before .before .args .y-twos)) (now (c .before .before .before .before .before .before .before .before .before .before .before .before .before .before .before .before .before .before .args .s-ones)) (now (c .before .before .before .before .before .before .before .before .before .before .before .before .before .before .before .before .before .before .args .s-twos)) (c .before .before .before .before .before .before .before .before .before .before .before .before .before .before .before .before .before .before .pre .1 .1 .0) in
-    let eo = c .before .before .before .before .before .before .before .before .copy-words .ensures in
-    let et = c .before .before .before .before .copy-words2 .ensures in
-    (c .before .before .before .before .before .before .before .before .before .before .before .before .before .before .before .before .before .before .pre .0, (readable ((c .before .before .before .before .before .before .before .before .before .before .before .before .before .before .before .before .before .before .args .held) .k) (rowTrits (c .before .before .before .before .before .before .before .before .before .before .before .before .before .before .before .before .before .before .args .held)) (t .0) (c .before .before .before .before .before .before .before .before .before .before .before .before .before .before .before .before .before .before .pre .0 .twos-size ∙ sym (c .before .before .before .before .before .before .before .before .before .before .before .before .before .before .before .before .before .before .pre .0 .ones-size)) (c .before .before .before .before .before .before .before .before .before .before .before .before .before .before .before .before .before .shared-slice-known .given) (c .before .before .before .before .before .before .before .before .before .before .before .before .before .before .before .before .shared-slice-known2 .given), (record { row = subst₂ Row (sym eo) (sym et) (readable 1 (rowTrits (c .before .before .before .before .before .before .before .before .before .before .before .before .before .before .before .before .before .before .args .held)) (t .1) (f .y-twos ∙ sym (f .y-ones)) (c .before .before .before .before .before .before .before .before .before .before .before .before .before .before .before .shared-slice-known3 .given) (c .before .before .before .before .before .before .before .before .before .before .before .before .before .before .shared-slice-known4 .given)); size = ap length eo ∙ f .y-ones }, (omega (arith, f .s-ones), f .s-twos ∙ sym (f .s-ones)))))
+    let after-copy-words2 = c .before .before .before .before in
+    let after-copy-words = after-copy-words2 .before .before .before .before in
+    let after-shared-slice-known4 = shared-slice-known4-from-copy-words after-copy-words in
+    let after-shared-slice-known3 = after-shared-slice-known4 .before in
+    let after-shared-slice-known2 = after-shared-slice-known3 .before in
+    let after-shared-slice-known = after-shared-slice-known2 .before in
+    let start = after-shared-slice-known .before in
+    let a = start .args in
+    let f = fitted (a .held) (length (now (a .y-ones))) (length (now (a .y-twos))) (length (now (a .s-ones))) (length (now (a .s-twos))) (start .pre .1 .0) in
+    let t = contents (a .held) (now (a .ones)) (now (a .twos)) (now (a .y-ones)) (now (a .y-twos)) (now (a .s-ones)) (now (a .s-twos)) (start .pre .1 .1 .0) in
+    let eo = after-copy-words .copy-words .ensures in
+    let et = after-copy-words2 .copy-words2 .ensures in (
+      start .pre .0,
+      (
+        readable ((a .held) .k) (rowTrits (a .held)) (t .0) (start .pre .0 .twos-size ∙ sym (start .pre .0 .ones-size))
+            (after-shared-slice-known .shared-slice-known .given) (after-shared-slice-known2 .shared-slice-known2 .given),
+        (
+          record {
+            row =
+                subst₂ Row (sym eo) (sym et) (readable 1 (rowTrits (a .held)) (t .1) (f .y-twos ∙ sym (f .y-ones))
+                (after-shared-slice-known3 .shared-slice-known3 .given) (after-shared-slice-known4 .shared-slice-known4 .given));
+            size = ap length eo ∙ f .y-ones;
+          },
+          (omega (arith, f .s-ones), f .s-twos ∙ sym (f .s-ones)),
+        ),
+      ),
+    )
 
 weight-requires : tie.Need-weight-requires
 weight-requires c κs =
-    let r = c .before .before .before .before .before .before .take-rows .ensures .1 in
-    (r .row .same, omega (arith, r .size, ap length (c .before .before .before .before .before .before .before .before .before .before .before .before .before .before .before .copy-words .ensures), fitted (c .before .before .before .before .before .before .before .before .before .before .before .before .before .before .before .before .before .before .before .before .before .before .before .before .before .args .held) (length (now (c .before .before .before .before .before .before .before .before .before .before .before .before .before .before .before .before .before .before .before .before .before .before .before .before .before .args .y-ones))) (length (now (c .before .before .before .before .before .before .before .before .before .before .before .before .before .before .before .before .before .before .before .before .before .before .before .before .before .args .y-twos))) (length (now (c .before .before .before .before .before .before .before .before .before .before .before .before .before .before .before .before .before .before .before .before .before .before .before .before .before .args .s-ones))) (length (now (c .before .before .before .before .before .before .before .before .before .before .before .before .before .before .before .before .before .before .before .before .before .before .before .before .before .args .s-twos))) (c .before .before .before .before .before .before .before .before .before .before .before .before .before .before .before .before .before .before .before .before .before .before .before .before .before .pre .1 .0) .y-ones, sizes (c .before .before .before .before .before .before .before .before .before .before .before .before .before .before .before .before .before .before .before .before .before .before .before .before .before .args .held) (c .before .before .before .before .before .before .before .before .before .before .before .before .before .before .before .before .before .before .before .before .before .before .before .before .before .pre .0 .is-sound)))
+    let after-take-rows = take-rows-from-weight-arg2 c in
+    let after-copy-words = copy-words-from-take-rows after-take-rows in
+    let start = start-from-copy-words after-copy-words in
+    let a = start .args in
+    let r = after-take-rows .take-rows .ensures .1 in (
+      r .row .same,
+      omega (
+        arith,
+        r .size,
+        ap length (after-copy-words .copy-words .ensures),
+        fitted (a .held) (length (now (a .y-ones))) (length (now (a .y-twos))) (length (now (a .s-ones))) (length (now (a .s-twos))) (start .pre .1 .0) .y-ones,
+        sizes (a .held) (start .pre .0 .is-sound),
+      ),
+    )
 
 add-result : tie.Need-add-result
 add-result c =
-    let r = c .before .before .before .before .before .before .before .take-rows .ensures .1 in
-    omega (arith, at-most r (c .weight .ensures), c .before .before .before .before .before .before .before .take-rows .ensures .0, weight-le (tritAt (now (c .before .before .before .before .before .before .before .before .before .before .before .before .before .before .before .before .before .before .before .before .before .before .before .before .before .before .args .s-ones)) (now (c .before .before .before .before .before .before .before .before .before .before .before .before .before .before .before .before .before .before .before .before .before .before .before .before .before .before .args .s-twos))) ((c .before .before .before .before .before .before .before .before .before .before .before .before .before .before .before .before .before .before .before .before .before .before .before .before .before .before .args .held) .k), ap length (c .before .before .before .before .before .before .before .before .before .before .before .before .before .before .before .before .copy-words .ensures), fitted (c .before .before .before .before .before .before .before .before .before .before .before .before .before .before .before .before .before .before .before .before .before .before .before .before .before .before .args .held) (length (now (c .before .before .before .before .before .before .before .before .before .before .before .before .before .before .before .before .before .before .before .before .before .before .before .before .before .before .args .y-ones))) (length (now (c .before .before .before .before .before .before .before .before .before .before .before .before .before .before .before .before .before .before .before .before .before .before .before .before .before .before .args .y-twos))) (length (now (c .before .before .before .before .before .before .before .before .before .before .before .before .before .before .before .before .before .before .before .before .before .before .before .before .before .before .args .s-ones))) (length (now (c .before .before .before .before .before .before .before .before .before .before .before .before .before .before .before .before .before .before .before .before .before .before .before .before .before .before .args .s-twos))) (c .before .before .before .before .before .before .before .before .before .before .before .before .before .before .before .before .before .before .before .before .before .before .before .before .before .before .pre .1 .0) .y-ones, sizes (c .before .before .before .before .before .before .before .before .before .before .before .before .before .before .before .before .before .before .before .before .before .before .before .before .before .before .args .held) (c .before .before .before .before .before .before .before .before .before .before .before .before .before .before .before .before .before .before .before .before .before .before .before .before .before .before .pre .0 .is-sound))
+    let after-take-rows = take-rows-from-weight c in
+    let after-copy-words = copy-words-from-take-rows after-take-rows in
+    let start = start-from-copy-words after-copy-words in
+    let a = start .args in
+    let r = after-take-rows .take-rows .ensures .1 in
+    omega (
+      arith,
+      at-most r (c .weight .ensures),
+      after-take-rows .take-rows .ensures .0,
+      weight-le (tritAt (now (a .s-ones)) (now (a .s-twos))) ((a .held) .k),
+      ap length (after-copy-words .copy-words .ensures),
+      fitted (a .held) (length (now (a .y-ones))) (length (now (a .y-twos))) (length (now (a .s-ones))) (length (now (a .s-twos))) (start .pre .1 .0) .y-ones,
+      sizes (a .held) (start .pre .0 .is-sound),
+    )
 
 same-length : tie.Need-same-length
 same-length c = search needs
@@ -48,12 +122,26 @@ same-length-2 c = search needs
 
 returns : tie.Need-returns
 returns c =
-    let f = fitted (c .before .before .before .before .before .before .before .before .before .before .before .before .before .before .before .before .before .before .before .before .before .before .before .before .before .before .args .held) (length (now (c .before .before .before .before .before .before .before .before .before .before .before .before .before .before .before .before .before .before .before .before .before .before .before .before .before .before .args .y-ones))) (length (now (c .before .before .before .before .before .before .before .before .before .before .before .before .before .before .before .before .before .before .before .before .before .before .before .before .before .before .args .y-twos))) (length (now (c .before .before .before .before .before .before .before .before .before .before .before .before .before .before .before .before .before .before .before .before .before .before .before .before .before .before .args .s-ones))) (length (now (c .before .before .before .before .before .before .before .before .before .before .before .before .before .before .before .before .before .before .before .before .before .before .before .before .before .before .args .s-twos))) (c .before .before .before .before .before .before .before .before .before .before .before .before .before .before .before .before .before .before .before .before .before .before .before .before .before .before .pre .1 .0) in
-    let t = contents (c .before .before .before .before .before .before .before .before .before .before .before .before .before .before .before .before .before .before .before .before .before .before .before .before .before .before .args .held) (now (c .before .before .before .before .before .before .before .before .before .before .before .before .before .before .before .before .before .before .before .before .before .before .before .before .before .before .args .ones)) (now (c .before .before .before .before .before .before .before .before .before .before .before .before .before .before .before .before .before .before .before .before .before .before .before .before .before .before .args .twos)) (now (c .before .before .before .before .before .before .before .before .before .before .before .before .before .before .before .before .before .before .before .before .before .before .before .before .before .before .args .y-ones)) (now (c .before .before .before .before .before .before .before .before .before .before .before .before .before .before .before .before .before .before .before .before .before .before .before .before .before .before .args .y-twos)) (now (c .before .before .before .before .before .before .before .before .before .before .before .before .before .before .before .before .before .before .before .before .before .before .before .before .before .before .args .s-ones)) (now (c .before .before .before .before .before .before .before .before .before .before .before .before .before .before .before .before .before .before .before .before .before .before .before .before .before .before .args .s-twos)) (c .before .before .before .before .before .before .before .before .before .before .before .before .before .before .before .before .before .before .before .before .before .before .before .before .before .before .pre .1 .1 .0) in
-    let eo = c .before .before .before .before .before .before .before .before .before .before .before .before .before .before .before .before .copy-words .ensures in
-    let et = c .before .before .before .before .before .before .before .before .before .before .before .before .copy-words2 .ensures in
-    weighed (tritAt (now (c .before .before .before .before .before .before .before .before .before .before .before .before .before .before .before .before .before .before .before .before .before .before .before .before .before .before .args .y-ones)) (now (c .before .before .before .before .before .before .before .before .before .before .before .before .before .before .before .before .before .before .before .before .before .before .before .before .before .before .args .y-twos))) (tritAt (now (c .before .before .before .before .before .before .before .before .before .before .before .before .before .before .before .before .before .before .before .before .before .before .before .before .before .before .args .s-ones)) (now (c .before .before .before .before .before .before .before .before .before .before .before .before .before .before .before .before .before .before .before .before .before .before .before .before .before .before .args .s-twos))) (c .before .before .before .before .before .before .before .before .before .before .before .before .before .before .before .before .before .before .before .before .before .before .before .before .before .before .pre .0) (t .0) (row-ended (now (c .before .before .before .before .before .before .before .before .before .before .before .before .before .before .before .before .before .before .before .before .before .before .before .before .before .before .args .y-ones)) (now (c .before .before .before .before .before .before .before .before .before .before .before .before .before .before .before .before .before .before .before .before .before .before .before .before .before .before .args .y-twos)) (rowTrits (c .before .before .before .before .before .before .before .before .before .before .before .before .before .before .before .before .before .before .before .before .before .before .before .before .before .before .args .held)) (t .1) (f .y-ones) (f .y-twos))
-    (record { row = subst₂ Row (sym eo) (sym et) (readable 1 (rowTrits (c .before .before .before .before .before .before .before .before .before .before .before .before .before .before .before .before .before .before .before .before .before .before .before .before .before .before .args .held)) (t .1) (f .y-twos ∙ sym (f .y-ones)) (c .before .before .before .before .before .before .before .before .before .before .before .before .before .before .before .before .before .before .before .before .before .before .before .shared-slice-known3 .given) (c .before .before .before .before .before .before .before .before .before .before .before .before .before .before .before .before .before .before .before .before .before .before .shared-slice-known4 .given)); size = refl; trits = ap₂ tritAt eo et }) (ap length eo ∙ f .y-ones) (c .before .before .before .before .before .before .before .take-rows .ensures .1) (c .weight .ensures) (c .before .before .before .before .before .before .before .take-rows .ensures .0)
+    let after-take-rows = take-rows-from-weight c in
+    let after-copy-words2 = copy-words2-from-take-rows after-take-rows in
+    let after-copy-words = after-copy-words2 .before .before .before .before in
+    let after-shared-slice-known4 = shared-slice-known4-from-copy-words after-copy-words in
+    let after-shared-slice-known3 = after-shared-slice-known4 .before in
+    let start = after-shared-slice-known3 .before .before .before in
+    let a = start .args in
+    let f = fitted (a .held) (length (now (a .y-ones))) (length (now (a .y-twos))) (length (now (a .s-ones))) (length (now (a .s-twos))) (start .pre .1 .0) in
+    let t = contents (a .held) (now (a .ones)) (now (a .twos)) (now (a .y-ones)) (now (a .y-twos)) (now (a .s-ones)) (now (a .s-twos)) (start .pre .1 .1 .0) in
+    let eo = after-copy-words .copy-words .ensures in
+    let et = after-copy-words2 .copy-words2 .ensures in
+    weighed (tritAt (now (a .y-ones)) (now (a .y-twos))) (tritAt (now (a .s-ones)) (now (a .s-twos))) (start .pre .0) (t .0)
+    (row-ended (now (a .y-ones)) (now (a .y-twos)) (rowTrits (a .held)) (t .1) (f .y-ones) (f .y-twos))
+    (record {
+      row =
+          subst₂ Row (sym eo) (sym et) (readable 1 (rowTrits (a .held)) (t .1) (f .y-twos ∙ sym (f .y-ones))
+          (after-shared-slice-known3 .shared-slice-known3 .given) (after-shared-slice-known4 .shared-slice-known4 .given));
+      size = refl;
+      trits = ap₂ tritAt eo et;
+    }) (ap length eo ∙ f .y-ones) (after-take-rows .take-rows .ensures .1) (c .weight .ensures) (after-take-rows .take-rows .ensures .0)
 
 pub weigh-spec : {M : Type 1} → statement M
 weigh-spec =

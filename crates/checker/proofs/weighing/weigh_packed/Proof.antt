@@ -17,31 +17,94 @@ use Rattle.checker.proofs.Weighed.{readable, weighed, at-most}
 use Rattle.checker.proofs.weighing.weigh_packed.Statement.{statement}
 use Rattle.checker.proofs.weighing.weigh_packed.Tie as tie
 
+-- The places that the answers look back to, each from a later one.
+abbrev start-from-slice-known2 : tie.After-slice-known2 → tie.Start
+start-from-slice-known2 c = c .before .before .before .before .before .before
+
+abbrev start-from-row-trits : tie.After-row-trits → tie.Start
+start-from-row-trits c = c .before .before .before .before .before .before .before
+
+abbrev write-packed-from-take-packed-rows-arg2 : tie.After-take-packed-rows-arg2 → tie.After-write-packed
+write-packed-from-take-packed-rows-arg2 c = c .before .before .before .before .before .before
+
+abbrev shared-slice-known2-from-row-trits : tie.After-row-trits → tie.After-shared-slice-known2
+shared-slice-known2-from-row-trits c = c .before .before .before .before .before
+
+abbrev shared-slice-known2-from-write-packed : tie.After-write-packed → tie.After-shared-slice-known2
+shared-slice-known2-from-write-packed c = shared-slice-known2-from-row-trits (c .before .before .before)
+
+abbrev take-packed-rows-from-weight-arg2 : tie.After-weight-arg2 → tie.After-take-packed-rows
+take-packed-rows-from-weight-arg2 c = c .before .before .before .before .before .before
+
+abbrev write-packed-from-take-packed-rows : tie.After-take-packed-rows → tie.After-write-packed
+write-packed-from-take-packed-rows c = c .before .before .before .before .before .before .before
+
+abbrev start-from-write-packed : tie.After-write-packed → tie.Start
+start-from-write-packed c = start-from-row-trits (c .before .before .before)
+
+abbrev take-packed-rows-from-weight : tie.After-weight → tie.After-take-packed-rows
+take-packed-rows-from-weight c = c .before .before .before .before .before .before .before
+
 row-trits-requires : tie.Need-row-trits-requires
 row-trits-requires c κs =
-    c .before .before .before .before .before .before .pre .0 .is-sound
+    start-from-slice-known2 c .pre .0 .is-sound
 
 write-packed-requires : tie.Need-write-packed-requires
 write-packed-requires c κs =
-    let f = packed-fitted (c .before .before .before .before .before .before .before .before .before .args .held) (length (now (c .before .before .before .before .before .before .before .before .before .args .y))) (length (now (c .before .before .before .before .before .before .before .before .before .args .s))) (c .before .before .before .before .before .before .before .before .before .pre .1 .0) in
-    let p = c .before .before .before .before .before .before .before .before .before .pre .1 .1 .1 in
-    (omega (arith, f, p, c .before .before .row-trits .ensures, sizes (c .before .before .before .before .before .before .before .before .before .args .held) (c .before .before .before .before .before .before .before .before .before .pre .0 .is-sound)), packed-contents (c .before .before .before .before .before .before .before .before .before .args .held) (now (c .before .before .before .before .before .before .before .before .before .args .ones)) (now (c .before .before .before .before .before .before .before .before .before .args .twos)) (now (c .before .before .before .before .before .before .before .before .before .args .y)) (now (c .before .before .before .before .before .before .before .before .before .args .s)) (c .before .before .before .before .before .before .before .before .before .pre .1 .1 .0) .1)
+    let start = start-from-row-trits (c .before .before) in
+    let a = start .args in
+    let f = packed-fitted (a .held) (length (now (a .y))) (length (now (a .s))) (start .pre .1 .0) in
+    let p = start .pre .1 .1 .1 in (
+      omega (arith, f, p, c .before .before .row-trits .ensures, sizes (a .held) (start .pre .0 .is-sound)),
+      packed-contents (a .held) (now (a .ones)) (now (a .twos)) (now (a .y)) (now (a .s)) (start .pre .1 .1 .0) .1,
+    )
 
 take-packed-rows-requires : tie.Need-take-packed-rows-requires
 take-packed-rows-requires c κs =
-    let t = packed-contents (c .before .before .before .before .before .before .before .before .before .before .before .before .before .before .before .before .args .held) (now (c .before .before .before .before .before .before .before .before .before .before .before .before .before .before .before .before .args .ones)) (now (c .before .before .before .before .before .before .before .before .before .before .before .before .before .before .before .before .args .twos)) (now (c .before .before .before .before .before .before .before .before .before .before .before .before .before .before .before .before .args .y)) (now (c .before .before .before .before .before .before .before .before .before .before .before .before .before .before .before .before .args .s)) (c .before .before .before .before .before .before .before .before .before .before .before .before .before .before .before .before .pre .1 .1 .0) in
-    let u = c .before .before .before .before .before .before .write-packed .ensures in
-    (c .before .before .before .before .before .before .before .before .before .before .before .before .before .before .before .before .pre .0, (readable ((c .before .before .before .before .before .before .before .before .before .before .before .before .before .before .before .before .args .held) .k) (rowTrits (c .before .before .before .before .before .before .before .before .before .before .before .before .before .before .before .before .args .held)) (t .0) (c .before .before .before .before .before .before .before .before .before .before .before .before .before .before .before .before .pre .0 .twos-size ∙ sym (c .before .before .before .before .before .before .before .before .before .before .before .before .before .before .before .before .pre .0 .ones-size)) (c .before .before .before .before .before .before .before .before .before .before .before .before .before .before .before .shared-slice-known .given) (c .before .before .before .before .before .before .before .before .before .before .before .before .before .before .shared-slice-known2 .given), (record { row = u .row; size = u .size ∙ c .before .before .before .before .before .before .before .before .before .before .before .before .before .before .before .before .pre .1 .1 .1 .0 }, (packed-fitted (c .before .before .before .before .before .before .before .before .before .before .before .before .before .before .before .before .args .held) (length (now (c .before .before .before .before .before .before .before .before .before .before .before .before .before .before .before .before .args .y))) (length (now (c .before .before .before .before .before .before .before .before .before .before .before .before .before .before .before .before .args .s))) (c .before .before .before .before .before .before .before .before .before .before .before .before .before .before .before .before .pre .1 .0) .1, t .2))))
+    let after-write-packed = write-packed-from-take-packed-rows-arg2 c in
+    let after-shared-slice-known2 = shared-slice-known2-from-write-packed after-write-packed in
+    let after-shared-slice-known = after-shared-slice-known2 .before in
+    let start = after-shared-slice-known .before in
+    let a = start .args in
+    let t = packed-contents (a .held) (now (a .ones)) (now (a .twos)) (now (a .y)) (now (a .s)) (start .pre .1 .1 .0) in
+    let u = after-write-packed .write-packed .ensures in (
+      start .pre .0,
+      (
+        readable ((a .held) .k) (rowTrits (a .held)) (t .0) (start .pre .0 .twos-size ∙ sym (start .pre .0 .ones-size))
+            (after-shared-slice-known .shared-slice-known .given) (after-shared-slice-known2 .shared-slice-known2 .given),
+        (
+          record { row = u .row; size = u .size ∙ start .pre .1 .1 .1 .0 },
+          (packed-fitted (a .held) (length (now (a .y))) (length (now (a .s))) (start .pre .1 .0) .1, t .2),
+        ),
+      ),
+    )
 
 weight-requires : tie.Need-weight-requires
 weight-requires c κs =
-    let r = c .before .before .before .before .before .before .take-packed-rows .ensures .1 in
-    (r .row .same, omega (arith, r .size, c .before .before .before .before .before .before .before .before .before .before .before .before .before .write-packed .ensures .size, c .before .before .before .before .before .before .before .before .before .before .before .before .before .before .before .before .before .before .before .before .before .before .before .pre .1 .1 .1 .0, sizes (c .before .before .before .before .before .before .before .before .before .before .before .before .before .before .before .before .before .before .before .before .before .before .before .args .held) (c .before .before .before .before .before .before .before .before .before .before .before .before .before .before .before .before .before .before .before .before .before .before .before .pre .0 .is-sound)))
+    let after-take-packed-rows = take-packed-rows-from-weight-arg2 c in
+    let after-write-packed = write-packed-from-take-packed-rows after-take-packed-rows in
+    let start = start-from-write-packed after-write-packed in
+    let r = after-take-packed-rows .take-packed-rows .ensures .1 in (
+      r .row .same,
+      omega (arith, r .size, after-write-packed .write-packed .ensures .size, start .pre .1 .1 .1 .0, sizes (start .args .held) (start .pre .0 .is-sound)),
+    )
 
 add-result : tie.Need-add-result
 add-result c =
-    let r = c .before .before .before .before .before .before .before .take-packed-rows .ensures .1 in
-    omega (arith, at-most r (c .weight .ensures), c .before .before .before .before .before .before .before .take-packed-rows .ensures .0, weight-le (packedRow ((c .before .before .before .before .before .before .before .before .before .before .before .before .before .before .before .before .before .before .before .before .before .before .before .before .args .held) .k) (now (c .before .before .before .before .before .before .before .before .before .before .before .before .before .before .before .before .before .before .before .before .before .before .before .before .args .s))) ((c .before .before .before .before .before .before .before .before .before .before .before .before .before .before .before .before .before .before .before .before .before .before .before .before .args .held) .k), c .before .before .before .before .before .before .before .before .before .before .before .before .before .before .write-packed .ensures .size, c .before .before .before .before .before .before .before .before .before .before .before .before .before .before .before .before .before .before .before .before .before .before .before .before .pre .1 .1 .1 .0, sizes (c .before .before .before .before .before .before .before .before .before .before .before .before .before .before .before .before .before .before .before .before .before .before .before .before .args .held) (c .before .before .before .before .before .before .before .before .before .before .before .before .before .before .before .before .before .before .before .before .before .before .before .before .pre .0 .is-sound))
+    let after-take-packed-rows = take-packed-rows-from-weight c in
+    let after-write-packed = write-packed-from-take-packed-rows after-take-packed-rows in
+    let start = start-from-write-packed after-write-packed in
+    let a = start .args in
+    let r = after-take-packed-rows .take-packed-rows .ensures .1 in
+    omega (
+      arith,
+      at-most r (c .weight .ensures),
+      after-take-packed-rows .take-packed-rows .ensures .0,
+      weight-le (packedRow ((a .held) .k) (now (a .s))) ((a .held) .k),
+      after-write-packed .write-packed .ensures .size,
+      start .pre .1 .1 .1 .0,
+      sizes (a .held) (start .pre .0 .is-sound),
+    )
 
 same-length : tie.Need-same-length
 same-length c = search needs
@@ -51,8 +114,16 @@ same-length-2 c = search needs
 
 returns : tie.Need-returns
 returns c =
-    let t = packed-contents (c .before .before .before .before .before .before .before .before .before .before .before .before .before .before .before .before .before .before .before .before .before .before .before .before .args .held) (now (c .before .before .before .before .before .before .before .before .before .before .before .before .before .before .before .before .before .before .before .before .before .before .before .before .args .ones)) (now (c .before .before .before .before .before .before .before .before .before .before .before .before .before .before .before .before .before .before .before .before .before .before .before .before .args .twos)) (now (c .before .before .before .before .before .before .before .before .before .before .before .before .before .before .before .before .before .before .before .before .before .before .before .before .args .y)) (now (c .before .before .before .before .before .before .before .before .before .before .before .before .before .before .before .before .before .before .before .before .before .before .before .before .args .s)) (c .before .before .before .before .before .before .before .before .before .before .before .before .before .before .before .before .before .before .before .before .before .before .before .before .pre .1 .1 .0) in
-    weighed (packedRow (rowTrits (c .before .before .before .before .before .before .before .before .before .before .before .before .before .before .before .before .before .before .before .before .before .before .before .before .args .held)) (now (c .before .before .before .before .before .before .before .before .before .before .before .before .before .before .before .before .before .before .before .before .before .before .before .before .args .y))) (packedRow ((c .before .before .before .before .before .before .before .before .before .before .before .before .before .before .before .before .before .before .before .before .before .before .before .before .args .held) .k) (now (c .before .before .before .before .before .before .before .before .before .before .before .before .before .before .before .before .before .before .before .before .before .before .before .before .args .s))) (c .before .before .before .before .before .before .before .before .before .before .before .before .before .before .before .before .before .before .before .before .before .before .before .before .pre .0) (t .0) (packed-out (now (c .before .before .before .before .before .before .before .before .before .before .before .before .before .before .before .before .before .before .before .before .before .before .before .before .args .y)) (rowTrits (c .before .before .before .before .before .before .before .before .before .before .before .before .before .before .before .before .before .before .before .before .before .before .before .before .args .held))) (reads-to (c .before .before .before .before .before .before .before .before .before .before .before .before .before .before .write-packed .ensures) (ap (λ (m : ℕ). packedRow m (now (c .before .before .before .before .before .before .before .before .before .before .before .before .before .before .before .before .before .before .before .before .before .before .before .before .args .y))) (c .before .before .before .before .before .before .before .before .before .before .before .before .before .before .before .before .before .row-trits .ensures))) (c .before .before .before .before .before .before .before .before .before .before .before .before .before .before .before .before .before .before .before .before .before .before .before .before .pre .1 .1 .1 .0) (c .before .before .before .before .before .before .before .take-packed-rows .ensures .1) (c .weight .ensures) (c .before .before .before .before .before .before .before .take-packed-rows .ensures .0)
+    let after-take-packed-rows = take-packed-rows-from-weight c in
+    let after-write-packed = write-packed-from-take-packed-rows after-take-packed-rows in
+    let after-row-trits = after-write-packed .before .before .before in
+    let start = start-from-row-trits after-row-trits in
+    let a = start .args in
+    let t = packed-contents (a .held) (now (a .ones)) (now (a .twos)) (now (a .y)) (now (a .s)) (start .pre .1 .1 .0) in
+    weighed (packedRow (rowTrits (a .held)) (now (a .y))) (packedRow ((a .held) .k) (now (a .s))) (start .pre .0) (t .0)
+    (packed-out (now (a .y)) (rowTrits (a .held))) (reads-to (after-write-packed .write-packed .ensures)
+    (ap (λ (m : ℕ). packedRow m (now (a .y))) (after-row-trits .row-trits .ensures))) (start .pre .1 .1 .1 .0)
+    (after-take-packed-rows .take-packed-rows .ensures .1) (c .weight .ensures) (after-take-packed-rows .take-packed-rows .ensures .0)
 
 pub weigh-packed-spec : {M : Type 1} → statement M
 weigh-packed-spec =

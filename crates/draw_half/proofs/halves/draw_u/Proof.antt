@@ -12,13 +12,67 @@ use Prim.Native.Nat.{_*_}
 use Rattle.draw_half.proofs.halves.draw_u.Statement.{statement}
 use Rattle.draw_half.proofs.halves.draw_u.Tie as tie
 
+-- The places that the answers look back to, each from a later one.
+abbrev start-from-reduce-arg2 : tie.After-reduce-arg2 → tie.Start
+start-from-reduce-arg2 c = c .before .before .before .before .before .before .before .before .before .before .before .before .before
+
+abbrev reduce-from-then1 : tie.Then1 → tie.After-reduce
+reduce-from-then1 c = c .before .before .before .before .before
+
+abbrev reduce-from-else1 : tie.Else1 → tie.After-reduce
+reduce-from-else1 c = c .before .before .before .before .before
+
+abbrev start-from-reduce : tie.After-reduce → tie.Start
+start-from-reduce c = c .before .before .before .before .before .before .before .before .before .before .before .before .before .before
+
+abbrev supply-from-supply-forced-arg2 : tie.After-supply-forced-arg2 → tie.After-supply
+supply-from-supply-forced-arg2 c = c .before .before .before .before .before .before
+
+abbrev start-from-else1 : tie.Else1 → tie.Start
+start-from-else1 c = start-from-reduce (reduce-from-else1 c)
+
+abbrev start-from-supply : tie.After-supply → tie.Start
+start-from-supply c = start-from-else1 (c .before .before .before)
+
+abbrev supply-forced-from-sub-rows-arg2 : tie.After-sub-rows-arg2 → tie.After-supply-forced
+supply-forced-from-sub-rows-arg2 c = c .before .before .before .before .before .before
+
+abbrev supply-from-supply-forced : tie.After-supply-forced → tie.After-supply
+supply-from-supply-forced c = c .before .before .before .before .before .before .before
+
+abbrev start-from-supply-forced : tie.After-supply-forced → tie.Start
+start-from-supply-forced c = start-from-supply (supply-from-supply-forced c)
+
+abbrev sub-rows-from-solve-pivots-arg2 : tie.After-solve-pivots-arg2 → tie.After-sub-rows
+sub-rows-from-solve-pivots-arg2 c = c .before .before .before .before .before .before
+
+abbrev supply-forced-from-sub-rows : tie.After-sub-rows → tie.After-supply-forced
+supply-forced-from-sub-rows c = c .before .before .before .before .before .before .before
+
+abbrev start-from-sub-rows : tie.After-sub-rows → tie.Start
+start-from-sub-rows c = start-from-supply-forced (supply-forced-from-sub-rows c)
+
+abbrev sub-rows-from-solve-pivots : tie.After-solve-pivots → tie.After-sub-rows
+sub-rows-from-solve-pivots c = c .before .before .before .before .before .before .before
+
+abbrev start-from-solve-pivots : tie.After-solve-pivots → tie.Start
+start-from-solve-pivots c = start-from-sub-rows (sub-rows-from-solve-pivots c)
+
 add-first : tie.Need-add-first
 add-first c = search needs
 
 reduce-requires : tie.Need-reduce-requires
 reduce-requires c κs =
-    let s = c .before .before .before .before .before .before .before .before .before .before .before .before .before in
-    (s .pre .0 .0, (s .pre .0 .1, (s .pre .1 .1 .0, (s .pre .1 .1 .1 .0 .0, omega (arith, s .pre .1 .1 .1 .1 .1 .0 .2, s .pre .1 .1 .1 .1 .1 .0 .3), s .pre .1 .1 .1 .0 .3, s .pre .1 .1 .1 .0 .2))))
+    let s = start-from-reduce-arg2 c in (
+      s .pre .0 .0,
+      (
+        s .pre .0 .1,
+        (
+          s .pre .1 .1 .0,
+          (s .pre .1 .1 .1 .0 .0, omega (arith, s .pre .1 .1 .1 .1 .1 .0 .2, s .pre .1 .1 .1 .1 .1 .0 .3), s .pre .1 .1 .1 .0 .3, s .pre .1 .1 .1 .0 .2),
+        ),
+      ),
+    )
 
 same-length : tie.Need-same-length
 same-length c = search needs
@@ -28,52 +82,119 @@ same-length-2 c = search needs
 
 returns : tie.Need-returns
 returns c =
-    let q = c .before .before .before .before .before .reduce .ensures in
+    let q = reduce-from-then1 c .reduce .ensures in
     (lacks-rank (q .0) (c .if1 .taken), (q .1 .rows, not-solved))
 
 supply-requires : tie.Need-supply-requires
 supply-requires c κs =
-    let s = c .before .before .before .before .before .before .before .before .before .before .before .before .before .before .before .before .before .before .before .before .before in
+    let after-reduce = reduce-from-else1 (c .before .before) in
+    let s = start-from-reduce after-reduce in
     let a = s .args in
-    let q = c .before .before .before .before .before .before .before .reduce .ensures in
-    (q .1 .rows, (s .pre .1 .0 .2, (s .pre .1 .1 .0, ((omega (arith, q .1 .rows .size, s .pre .0 .0 .size, s .pre .1 .1 .1 .0 .0), s .pre .1 .1 .1 .0 .2, s .pre .1 .1 .1 .0 .3, s .pre .1 .1 .1 .1 .1 .0 .2, s .pre .1 .1 .1 .1 .1 .0 .3), roomU (a .r) (a .g) (matrixAt (a .w) (now (a .ho)) (now (a .ht))) (matrixAt (a .w) (now (a .ones)) (now (a .twos))) (now (a .order)) (s .pre .1 .1 .0) (a .x) (a .e) (64 * a .w) (s .pre .1 .1 .1 .1 .1 .0 .0) (s .pre .1 .1 .1 .1 .1 .0 .2) (s .pre .1 .1 .1 .1 .1 .0 .4) (sym (q .0) ∙ c .before .before .if1 .left) (64 * length (now (a .uo))) (q .1 .cells) (s .pre .1 .1 .1 .0 .3) (s .pre .1 .1 .1 .0 .4)))))
+    let q = after-reduce .reduce .ensures in (
+      q .1 .rows,
+      (
+        s .pre .1 .0 .2,
+        (
+          s .pre .1 .1 .0,
+          (
+            (
+              omega (arith, q .1 .rows .size, s .pre .0 .0 .size, s .pre .1 .1 .1 .0 .0),
+              s .pre .1 .1 .1 .0 .2,
+              s .pre .1 .1 .1 .0 .3,
+              s .pre .1 .1 .1 .1 .1 .0 .2,
+              s .pre .1 .1 .1 .1 .1 .0 .3,
+            ),
+            roomU (a .r) (a .g) (matrixAt (a .w) (now (a .ho)) (now (a .ht))) (matrixAt (a .w) (now (a .ones)) (now (a .twos))) (now (a .order))
+                (s .pre .1 .1 .0) (a .x) (a .e) (64 * a .w) (s .pre .1 .1 .1 .1 .1 .0 .0) (s .pre .1 .1 .1 .1 .1 .0 .2) (s .pre .1 .1 .1 .1 .1 .0 .4)
+                (sym (q .0) ∙ c .before .before .if1 .left) (64 * length (now (a .uo))) (q .1 .cells) (s .pre .1 .1 .1 .0 .3) (s .pre .1 .1 .1 .0 .4),
+          ),
+        ),
+      ),
+    )
 
 supply-forced-requires : tie.Need-supply-forced-requires
 supply-forced-requires c κs =
-    let s = c .before .before .before .before .before .before .before .before .before .before .before .before .before .before .before .before .before .before .before .before .before .before .before .before .before .before .before .before in
-    let q = c .before .before .before .before .before .before .supply .ensures in
-    (q .rows, (s .pre .1 .0, (s .pre .1 .1 .0, ((omega (arith, q .rows .size, s .pre .0 .0 .size, s .pre .1 .1 .1 .0 .0), s .pre .1 .1 .1 .0 .1, s .pre .1 .1 .1 .0 .2, s .pre .1 .1 .1 .0 .3, s .pre .1 .1 .1 .1 .1 .0 .6, s .pre .1 .1 .1 .1 .1 .0 .3, s .pre .1 .1 .1 .1 .1 .0 .7), (s .pre .1 .1 .1 .1 .0 .0, s .pre .1 .1 .1 .1 .0 .1, omega (arith, s .pre .1 .1 .1 .0 .3, s .pre .1 .1 .1 .0 .4), omega arith)))))
+    let after-supply = supply-from-supply-forced-arg2 c in
+    let s = start-from-supply after-supply in
+    let q = after-supply .supply .ensures in (
+      q .rows,
+      (
+        s .pre .1 .0,
+        (
+          s .pre .1 .1 .0,
+          (
+            (
+              omega (arith, q .rows .size, s .pre .0 .0 .size, s .pre .1 .1 .1 .0 .0),
+              s .pre .1 .1 .1 .0 .1,
+              s .pre .1 .1 .1 .0 .2,
+              s .pre .1 .1 .1 .0 .3,
+              s .pre .1 .1 .1 .1 .1 .0 .6,
+              s .pre .1 .1 .1 .1 .1 .0 .3,
+              s .pre .1 .1 .1 .1 .1 .0 .7,
+            ),
+            (s .pre .1 .1 .1 .1 .0 .0, s .pre .1 .1 .1 .1 .0 .1, omega (arith, s .pre .1 .1 .1 .0 .3, s .pre .1 .1 .1 .0 .4), omega arith),
+          ),
+        ),
+      ),
+    )
 
 sub-rows-requires : tie.Need-sub-rows-requires
 sub-rows-requires c κs =
-    let s = c .before .before .before .before .before .before .before .before .before .before .before .before .before .before .before .before .before .before .before .before .before .before .before .before .before .before .before .before .before .before .before .before .before .before .before in
-    (c .before .before .before .before .before .before .supply-forced .ensures .rows, (s .pre .1 .1 .1 .1 .1 .0 .1, s .pre .1 .1 .1 .1 .1 .0 .3, s .pre .1 .1 .1 .1 .1 .0 .4))
+    let after-supply-forced = supply-forced-from-sub-rows-arg2 c in
+    let s = start-from-supply-forced after-supply-forced in
+    (after-supply-forced .supply-forced .ensures .rows, (s .pre .1 .1 .1 .1 .1 .0 .1, s .pre .1 .1 .1 .1 .1 .0 .3, s .pre .1 .1 .1 .1 .1 .0 .4))
 
 solve-pivots-requires : tie.Need-solve-pivots-requires
 solve-pivots-requires c κs =
-    let s = c .before .before .before .before .before .before .before .before .before .before .before .before .before .before .before .before .before .before .before .before .before .before .before .before .before .before .before .before .before .before .before .before .before .before .before .before .before .before .before .before .before .before in
-    let q = c .before .before .before .before .before .before .sub-rows .ensures in
-    (q .rows, (s .pre .1 .1 .0, ((omega (arith, q .rows .size, s .pre .0 .0 .size, s .pre .1 .1 .1 .0 .0), s .pre .1 .1 .1 .0 .1, s .pre .1 .1 .1 .0 .2, s .pre .1 .1 .1 .0 .3), (s .pre .1 .1 .1 .1 .1 .0 .2, s .pre .1 .1 .1 .1 .1 .0 .3, s .pre .1 .1 .1 .1 .1 .0 .1, s .pre .1 .1 .1 .1 .1 .0 .4))))
+    let after-sub-rows = sub-rows-from-solve-pivots-arg2 c in
+    let s = start-from-sub-rows after-sub-rows in
+    let q = after-sub-rows .sub-rows .ensures in (
+      q .rows,
+      (
+        s .pre .1 .1 .0,
+        (
+          (omega (arith, q .rows .size, s .pre .0 .0 .size, s .pre .1 .1 .1 .0 .0), s .pre .1 .1 .1 .0 .1, s .pre .1 .1 .1 .0 .2, s .pre .1 .1 .1 .0 .3),
+          (s .pre .1 .1 .1 .1 .1 .0 .2, s .pre .1 .1 .1 .1 .1 .0 .3, s .pre .1 .1 .1 .1 .1 .0 .1, s .pre .1 .1 .1 .1 .1 .0 .4),
+        ),
+      ),
+    )
 
 same-length-3 : tie.Need-same-length-3
 same-length-3 c =
-    let s = c .before .before .before .before .before .before .before .before .before .before .before .before .before .before .before .before .before .before .before .before .before .before .before .before .before .before .before .before .before .before .before .before .before .before .before .before .before .before .before .before .before .before .before .before .before .before .before in
-    omega (arith, c .before .before .before .before .solve-pivots .ensures .rows .size, s .pre .0 .0 .size)
+    let after-solve-pivots = c .before .before .before .before in
+    let s = start-from-solve-pivots after-solve-pivots in
+    omega (arith, after-solve-pivots .solve-pivots .ensures .rows .size, s .pre .0 .0 .size)
 
 same-length-4 : tie.Need-same-length-4
 same-length-4 c =
-    let s = c .before .before .before .before .before .before .before .before .before .before .before .before .before .before .before .before .before .before .before .before .before .before .before .before .before .before .before .before .before .before .before .before .before .before .before .before .before .before .before .before .before .before .before .before .before .before .before in
-    let q = c .before .before .before .before .solve-pivots .ensures .rows in
+    let after-solve-pivots = c .before .before .before .before in
+    let s = start-from-solve-pivots after-solve-pivots in
+    let q = after-solve-pivots .solve-pivots .ensures .rows in
     omega (arith, q .size, q .row .same, s .pre .0 .0 .size, s .pre .0 .0 .row .same)
 
 returns-2 : tie.Need-returns-2
 returns-2 c =
-    let s = c .before .before .before .before .before .before .before .before .before .before .before .before .before .before .before .before .before .before .before .before .before .before .before .before .before .before .before .before .before .before .before .before .before .before .before .before .before .before .before .before .before .before .before .before .before .before .before in
+    let after-solve-pivots = c .before .before .before .before in
+    let after-sub-rows = sub-rows-from-solve-pivots after-solve-pivots in
+    let after-supply-forced = supply-forced-from-sub-rows after-sub-rows in
+    let after-supply = supply-from-supply-forced after-supply-forced in
+    let else1 = after-supply .before .before .before in
+    let after-reduce = reduce-from-else1 else1 in
+    let s = start-from-reduce after-reduce in
     let a = s .args in
-    let q = c .before .before .before .before .before .before .before .before .before .before .before .before .before .before .before .before .before .before .before .before .before .before .before .before .before .before .before .before .before .before .before .before .before .reduce .ensures in
-    let l = c .before .before .before .before .solve-pivots .ensures in
-    let z = s .pre .1 .1 .1 .1 .1 .1 in
-    (has-rank (q .0) (c .before .before .before .before .before .before .before .before .before .before .before .before .before .before .before .before .before .before .before .before .before .before .before .before .before .before .before .before .if1 .left), (l .rows, is-solved (halfU-done (a .r) (a .g) (matrixAt (a .w) (now (a .ho)) (now (a .ht))) (matrixAt (a .w) (now (a .ones)) (now (a .twos))) (now (a .order)) (s .pre .1 .1 .0) (a .x) (a .e) (64 * a .w) (s .pre .1 .1 .1 .1 .1 .0 .0) (s .pre .1 .1 .1 .1 .1 .0 .2) (s .pre .1 .1 .1 .1 .1 .0 .4) (sym (q .0) ∙ c .before .before .before .before .before .before .before .before .before .before .before .before .before .before .before .before .before .before .before .before .before .before .before .before .before .before .before .before .if1 .left) (tritAt (now (a .bo)) (now (a .bt))) (tritAt (now (a .co)) (now (a .ct))) (tritAt (now (a .uo)) (now (a .ut))) (a .ev) (z .1) (s .pre .1 .1 .1 .1 .1 .0 .5) (s .pre .1 .1 .1 .1 .1 .0 .7) (z .0) (s .pre .1 .1 .1 .0 .2) (q .1 .cells) (c .before .before .before .before .before .before .before .before .before .before .before .before .before .before .before .before .before .before .before .before .before .before .before .before .before .supply .ensures .cells) (c .before .before .before .before .before .before .before .before .before .before .before .before .before .before .before .before .before .before .supply-forced .ensures .cells) (c .before .before .before .before .before .before .before .before .before .before .before .sub-rows .ensures .cells) (l .cells))))
+    let q = after-reduce .reduce .ensures in
+    let l = after-solve-pivots .solve-pivots .ensures in
+    let z = s .pre .1 .1 .1 .1 .1 .1 in (
+      has-rank (q .0) (else1 .if1 .left),
+      (
+        l .rows,
+        is-solved (halfU-done (a .r) (a .g) (matrixAt (a .w) (now (a .ho)) (now (a .ht))) (matrixAt (a .w) (now (a .ones)) (now (a .twos))) (now (a .order))
+            (s .pre .1 .1 .0) (a .x) (a .e) (64 * a .w) (s .pre .1 .1 .1 .1 .1 .0 .0) (s .pre .1 .1 .1 .1 .1 .0 .2) (s .pre .1 .1 .1 .1 .1 .0 .4)
+            (sym (q .0) ∙ else1 .if1 .left) (tritAt (now (a .bo)) (now (a .bt))) (tritAt (now (a .co)) (now (a .ct))) (tritAt (now (a .uo)) (now (a .ut)))
+            (a .ev) (z .1) (s .pre .1 .1 .1 .1 .1 .0 .5) (s .pre .1 .1 .1 .1 .1 .0 .7) (z .0) (s .pre .1 .1 .1 .0 .2) (q .1 .cells)
+            (after-supply .supply .ensures .cells) (after-supply-forced .supply-forced .ensures .cells) (after-sub-rows .sub-rows .ensures .cells) (l .cells)),
+      ),
+    )
 
 pub draw-u-spec : {M : Type 1} → statement M
 draw-u-spec =

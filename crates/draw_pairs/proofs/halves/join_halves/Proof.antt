@@ -8,17 +8,31 @@ use Rattle.draw_pairs.proofs.PlacedHalves.{joined-grid}
 use Rattle.draw_pairs.proofs.halves.join_halves.Statement.{statement}
 use Rattle.draw_pairs.proofs.halves.join_halves.Tie as tie
 
+-- The places that the answers look back to, each from a later one.
+abbrev start-from-add-product-arg2 : tie.After-add-product-arg2 → tie.Start
+start-from-add-product-arg2 c = c .before .before .before .before .before .before .before .before
+
+abbrev add-product-from-add-product-arg4 : tie.After-add-product-arg4 → tie.After-add-product
+add-product-from-add-product-arg4 c = c .before .before .before .before .before .before
+
+abbrev start-from-add-product : tie.After-add-product → tie.Start
+start-from-add-product c = c .before .before .before .before .before .before .before .before .before
+
+abbrev add-product-from-add-product2 : tie.After-add-product2 → tie.After-add-product
+add-product-from-add-product2 c = c .before .before .before .before .before .before .before
+
 add-product-requires : tie.Need-add-product-requires
 add-product-requires c κs =
-    let s = c .before .before .before .before .before .before .before .before in
+    let s = start-from-add-product-arg2 c in
     let p = s .pre .1 .1 in
     (s .pre .0, (s .pre .1 .0 .0, (p .0, p .1, p .2, λ z. p .4 (sym z), p .3, p .5)))
 
 add-product-requires-2 : tie.Need-add-product-requires-2
 add-product-requires-2 c κs =
-    let s = c .before .before .before .before .before .before .before .before .before .before .before .before .before .before .before in
+    let after-add-product = add-product-from-add-product-arg4 c in
+    let s = start-from-add-product after-add-product in
     let p = s .pre .1 .1 in
-    (c .before .before .before .before .before .before .add-product .ensures .rows, (s .pre .1 .0 .1, (p .1, p .0, p .2, λ z. p .3 (sym z), p .4, p .6)))
+    (after-add-product .add-product .ensures .rows, (s .pre .1 .0 .1, (p .1, p .0, p .2, λ z. p .3 (sym z), p .4, p .6)))
 
 same-length : tie.Need-same-length
 same-length c =
@@ -30,9 +44,12 @@ same-length-2 c =
 
 returns : tie.Need-returns
 returns c =
-    let s = c .before .before .before .before .before .before .before .before .before .before .before .before .before .before .before .before .before .before .before .before in
+    let after-add-product2 = c .before .before .before .before in
+    let after-add-product = add-product-from-add-product2 after-add-product2 in
+    let s = start-from-add-product after-add-product in
     let a = s .args in
-    joined-grid (a .w) (now (a .ones)) (now (a .twos)) (tritAt (now (a .bo)) (now (a .bt))) (tritAt (now (a .co)) (now (a .ct))) (a .u) (a .v) (a .t) (c .before .before .before .before .before .before .before .before .before .before .before .add-product .ensures) (c .before .before .before .before .add-product2 .ensures)
+    joined-grid (a .w) (now (a .ones)) (now (a .twos)) (tritAt (now (a .bo)) (now (a .bt))) (tritAt (now (a .co)) (now (a .ct))) (a .u) (a .v) (a .t)
+    (after-add-product .add-product .ensures) (after-add-product2 .add-product2 .ensures)
 
 pub join-halves-spec : {M : Type 1} → statement M
 join-halves-spec =

@@ -8,6 +8,19 @@ use Rattle.draw_pairs.proofs.PlacedHalves.{parted-grid}
 use Rattle.draw_pairs.proofs.halves.part_halves.Statement.{statement}
 use Rattle.draw_pairs.proofs.halves.part_halves.Tie as tie
 
+-- The places that the answers look back to, each from a later one.
+abbrev start-from-sub-product-arg2 : tie.After-sub-product-arg2 → tie.Start
+start-from-sub-product-arg2 c = c .before .before .before .before .before .before .before .before
+
+abbrev sub-product-from-sub-product-arg4 : tie.After-sub-product-arg4 → tie.After-sub-product
+sub-product-from-sub-product-arg4 c = c .before .before .before .before .before .before
+
+abbrev start-from-sub-product : tie.After-sub-product → tie.Start
+start-from-sub-product c = c .before .before .before .before .before .before .before .before .before
+
+abbrev sub-product-from-sub-product2 : tie.After-sub-product2 → tie.After-sub-product
+sub-product-from-sub-product2 c = c .before .before .before .before .before .before .before
+
 add-r : tie.Need-add-r
 add-r c =
     omega arith
@@ -18,15 +31,16 @@ add-t c =
 
 sub-product-requires : tie.Need-sub-product-requires
 sub-product-requires c κs =
-    let s = c .before .before .before .before .before .before .before .before in
+    let s = start-from-sub-product-arg2 c in
     let p = s .pre .1 .1 .0 in
     (s .pre .0, (s .pre .1 .0 .1, (omega arith, omega arith, omega arith, λ z. omega arith, λ z. omega arith, s .pre .1 .1 .2)))
 
 sub-product-requires-2 : tie.Need-sub-product-requires-2
 sub-product-requires-2 c κs =
-    let s = c .before .before .before .before .before .before .before .before .before .before .before .before .before .before .before in
+    let after-sub-product = sub-product-from-sub-product-arg4 c in
+    let s = start-from-sub-product after-sub-product in
     let p = s .pre .1 .1 .0 in
-    (c .before .before .before .before .before .before .sub-product .ensures .rows, (search needs, (omega arith, omega arith, omega arith, λ z. omega arith, λ z. omega arith, search needs)))
+    (after-sub-product .sub-product .ensures .rows, (search needs, (omega arith, omega arith, omega arith, λ z. omega arith, λ z. omega arith, search needs)))
 
 same-length : tie.Need-same-length
 same-length c =
@@ -38,9 +52,12 @@ same-length-2 c =
 
 returns : tie.Need-returns
 returns c =
-    let s = c .before .before .before .before .before .before .before .before .before .before .before .before .before .before .before .before .before .before .before .before in
+    let after-sub-product2 = c .before .before .before .before in
+    let after-sub-product = sub-product-from-sub-product2 after-sub-product2 in
+    let s = start-from-sub-product after-sub-product in
     let a = s .args in
-    parted-grid (a .w) (now (a .ones)) (now (a .twos)) (tritAt (now (a .bo)) (now (a .bt))) (tritAt (now (a .co)) (now (a .ct))) (a .l) (c .before .before .before .before .before .before .before .before .before .before .before .sub-product .ensures) (c .before .before .before .before .sub-product2 .ensures)
+    parted-grid (a .w) (now (a .ones)) (now (a .twos)) (tritAt (now (a .bo)) (now (a .bt))) (tritAt (now (a .co)) (now (a .ct))) (a .l)
+    (after-sub-product .sub-product .ensures) (after-sub-product2 .sub-product2 .ensures)
 
 pub part-halves-spec : {M : Type 1} → statement M
 part-halves-spec =

@@ -17,29 +17,46 @@ use Rattle.draw_pairs.proofs.places.place_syndrome.Statement.{statement
 use Rattle.draw_pairs.proofs.places.place_syndrome.Tie as tie
 
 abbrev Inv-loop : tie.InvT-loop
-Inv-loop ones₀ twos₀ rows w l half p count yo yt r i₀ ones twos i = (i ≤ count) × Grid ones twos rows w (placedRows l half (placed p (join i (tritAt yo yt) zeros)) (matrixAt w ones₀ twos₀))
+Inv-loop ones₀ twos₀ rows w l half p count yo yt r i₀ ones twos i = (i ≤ count) ×
+    Grid ones twos rows w (placedRows l half (placed p (join i (tritAt yo yt) zeros)) (matrixAt w ones₀ twos₀))
 
 abbrev μ-loop : tie.MeasureT-loop
 μ-loop ones₀ twos₀ rows w l half p count yo yt r i₀ ones twos i = count - i
 
+-- The places that the answers look back to, each from a later one.
+abbrev start-from-shared-slice-known3 : tie.After-shared-slice-known3 Inv-loop μ-loop → tie.Start Inv-loop μ-loop
+start-from-shared-slice-known3 c = c .before .before .before .before .before
+
+abbrev start-from-at-loop : tie.At-loop Inv-loop μ-loop → tie.Start Inv-loop μ-loop
+start-from-at-loop c = c .before .before .before .before .before .before
+
+abbrev start-from-in-loop : tie.In-loop Inv-loop μ-loop → tie.Start Inv-loop μ-loop
+start-from-in-loop c = start-from-at-loop (c .before)
+
+abbrev start-from-after-loop : tie.After-loop Inv-loop μ-loop → tie.Start Inv-loop μ-loop
+start-from-after-loop c = start-from-at-loop (c .before)
+
 add-r : tie.Need-add-r Inv-loop μ-loop
 add-r c =
-    omega (arith, c .before .before .before .before .before .pre .1 .1 .1 .0 .1)
+    omega (arith, start-from-shared-slice-known3 c .pre .1 .1 .1 .0 .1)
 
 loop-holds : tie.Need-loop-holds Inv-loop μ-loop
 loop-holds c =
-    let s = c .before .before .before .before .before in
-    let a = s .args in
-    (omega arith, place-begun (a .l) (a .half) (now (a .p)) (s .pre .1 .1 .0) (tritAt (now (a .yo)) (now (a .yt))) (matrixAt (a .w) (now (a .ones)) (now (a .twos))) (s .pre .0) refl (s .pre .1 .0 .0) (s .pre .1 .0 .1))
+    let s = start-from-shared-slice-known3 c in
+    let a = s .args in (
+      omega arith,
+      place-begun (a .l) (a .half) (now (a .p)) (s .pre .1 .1 .0) (tritAt (now (a .yo)) (now (a .yt))) (matrixAt (a .w) (now (a .ones)) (now (a .twos)))
+          (s .pre .0) refl (s .pre .1 .0 .0) (s .pre .1 .0 .1),
+    )
 
 mul-q : tie.Need-mul-q Inv-loop μ-loop
 mul-q c =
-    let s = c .before .before .before .before .before .before .before in
+    let s = start-from-in-loop c in
     omega (arith, s .pre .1 .1 .0 .size, s .pre .1 .1 .1 .1 .0)
 
 shared-slice-read-q : tie.Need-shared-slice-read-q Inv-loop μ-loop
 shared-slice-read-q c =
-    let s = c .before .before .before .before .before .before .before .before in
+    let s = start-from-in-loop (c .before) in
     omega (arith, s .pre .1 .1 .0 .size, s .pre .1 .1 .1 .1 .0)
 
 cast-q : tie.Need-cast-q Inv-loop μ-loop
@@ -49,17 +66,27 @@ cast-q c =
 
 trit-at-requires : tie.Need-trit-at-requires Inv-loop μ-loop
 trit-at-requires c κs =
-    let s = c .before .before .before .before .before .before .before .before in
+    let s = start-from-in-loop (c .before) in
     (s .pre .1 .1 .1 .1 .2, omega (arith, s .pre .1 .1 .1 .1 .1))
 
 put-place-requires : tie.Need-put-place-requires Inv-loop μ-loop
 put-place-requires c κs =
-    let s = c .before .before .before .before .before .before .before .before .before .before .before in
+    let at-loop = c .before .before .before .before .before in
+    let s = start-from-at-loop at-loop in
     let a = s .args in
-    let l = c .before .before .before .before .before .loop in
+    let l = at-loop .loop in
     let p = s .pre .1 .1 .1 .0 in
-    let q = order-below (a .half + a .half) (now (a .p)) (s .pre .1 .1 .0) (l .i) (omega (arith, s .pre .1 .1 .1 .1 .0)) in
-    (l .inv .1 .rows, (omega (arith, l .inv .1 .rows .size, s .pre .0 .size, p .0), omega (arith, p .1), omega (arith, p .1), p .2, q, read-lt _ _ _ _ (c .before .before .trit-at .ensures)))
+    let q = order-below (a .half + a .half) (now (a .p)) (s .pre .1 .1 .0) (l .i) (omega (arith, s .pre .1 .1 .1 .1 .0)) in (
+      l .inv .1 .rows,
+      (
+        omega (arith, l .inv .1 .rows .size, s .pre .0 .size, p .0),
+        omega (arith, p .1),
+        omega (arith, p .1),
+        p .2,
+        q,
+        read-lt _ _ _ _ (c .before .before .trit-at .ensures),
+      ),
+    )
 
 add-i : tie.Need-add-i Inv-loop μ-loop
 add-i c =
@@ -71,25 +98,34 @@ loop-less c =
 
 loop-again : tie.Need-loop-again Inv-loop μ-loop
 loop-again c =
-    let s = c .before .before .before .before .before .before .before .before .before .before .before .before .before .before .before .before in
+    let after-put-place = c .before .before .before .before in
+    let after-trit-at = after-put-place .before .before .before in
+    let at-loop = after-trit-at .before .before .before in
+    let s = start-from-at-loop at-loop in
     let a = s .args in
-    let l = c .before .before .before .before .before .before .before .before .before .before .loop in
-    (omega arith, place-turn (a .l) (a .half) (now (a .p)) (s .pre .1 .1 .0) (tritAt (now (a .yo)) (now (a .yt))) (matrixAt (a .w) (now (a .ones)) (now (a .twos))) (l .i) (c .before .before .before .before .before .before .before .trit-at .result) (omega (arith, s .pre .1 .1 .1 .1 .0)) (l .inv .1) (read-trit _ _ (c .before .before .before .before .before .before .before .trit-at .ensures)) (c .before .before .before .before .put-place .ensures))
+    let l = at-loop .loop in (
+      omega arith,
+      place-turn (a .l) (a .half) (now (a .p)) (s .pre .1 .1 .0) (tritAt (now (a .yo)) (now (a .yt))) (matrixAt (a .w) (now (a .ones)) (now (a .twos))) (l .i)
+          (after-trit-at .trit-at .result) (omega (arith, s .pre .1 .1 .1 .1 .0)) (l .inv .1) (read-trit _ _ (after-trit-at .trit-at .ensures))
+          (after-put-place .put-place .ensures),
+    )
 
 same-length : tie.Need-same-length Inv-loop μ-loop
 same-length c =
-    omega (arith, c .before .loop .inv .1 .rows .size, c .before .before .before .before .before .before .before .pre .0 .size)
+    omega (arith, c .before .loop .inv .1 .rows .size, start-from-after-loop c .pre .0 .size)
 
 same-length-2 : tie.Need-same-length-2 Inv-loop μ-loop
 same-length-2 c =
-    omega (arith, c .before .loop .inv .1 .rows .size, c .before .loop .inv .1 .rows .row .same, c .before .before .before .before .before .before .before .pre .0 .size, c .before .before .before .before .before .before .before .pre .0 .row .same)
+    let start = start-from-after-loop c in
+    omega (arith, c .before .loop .inv .1 .rows .size, c .before .loop .inv .1 .rows .row .same, start .pre .0 .size, start .pre .0 .row .same)
 
 returns : tie.Need-returns Inv-loop μ-loop
 returns c =
-    let s = c .before .before .before .before .before .before .before in
+    let s = start-from-after-loop c in
     let a = s .args in
     let l = c .before .loop in
-    place-done (a .l) (a .half) (now (a .p)) (s .pre .1 .1 .0) (tritAt (now (a .yo)) (now (a .yt))) (matrixAt (a .w) (now (a .ones)) (now (a .twos))) (l .i) (a .count) (omega arith) (l .inv .1)
+    place-done (a .l) (a .half) (now (a .p)) (s .pre .1 .1 .0) (tritAt (now (a .yo)) (now (a .yt))) (matrixAt (a .w) (now (a .ones)) (now (a .twos))) (l .i)
+    (a .count) (omega arith) (l .inv .1)
 
 pub place-syndrome-spec : {M : Type 1} → statement M
 place-syndrome-spec =

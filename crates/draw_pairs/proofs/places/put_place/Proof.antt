@@ -31,8 +31,11 @@ same-length-2 c =
 
 returns : tie.Need-returns
 returns c =
-    let a = c .before .before .before .before .before .before .before .before .before .before .args in
-    put-low (a .u) (a .v) (a .half) (a .q) (tritOf (a .t)) (matrixAt (a .w) (now (a .ones)) (now (a .twos))) (c .before .before .before .before .before .before .before .if1 .taken) (c .before .before .before .before .put-at .ensures)
+    let after-put-at = c .before .before .before .before in
+    let then1 = after-put-at .before .before .before in
+    let start = then1 .before .before .before in
+    let a = start .args in
+    put-low (a .u) (a .v) (a .half) (a .q) (tritOf (a .t)) (matrixAt (a .w) (now (a .ones)) (now (a .twos))) (then1 .if1 .taken) (after-put-at .put-at .ensures)
 
 same-length-3 : tie.Need-same-length-3
 same-length-3 c =
@@ -44,8 +47,12 @@ same-length-4 c =
 
 returns-2 : tie.Need-returns-2
 returns-2 c =
-    let a = c .before .before .before .before .before .before .before .before .before .before .args in
-    put-high (a .u) (a .v) (a .half) (a .q) (tritOf (a .t)) (matrixAt (a .w) (now (a .ones)) (now (a .twos))) (omega (arith, c .before .before .before .before .before .before .before .if1 .left)) (c .before .before .before .before .put-at2 .ensures)
+    let after-put-at2 = c .before .before .before .before in
+    let else1 = after-put-at2 .before .before .before in
+    let start = else1 .before .before .before in
+    let a = start .args in
+    put-high (a .u) (a .v) (a .half) (a .q) (tritOf (a .t)) (matrixAt (a .w) (now (a .ones)) (now (a .twos))) (omega (arith, else1 .if1 .left))
+    (after-put-at2 .put-at2 .ensures)
 
 pub put-place-spec : {M : Type 1} → statement M
 put-place-spec =

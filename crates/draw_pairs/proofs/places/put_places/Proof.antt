@@ -15,50 +15,79 @@ use Rattle.draw_pairs.proofs.places.put_places.Statement.{statement}
 use Rattle.draw_pairs.proofs.places.put_places.Tie as tie
 
 abbrev Inv-loop : tie.InvT-loop
-Inv-loop ones twos rows w u v half p from count oo₀ ot₀ j₀ oo ot j = (j ≤ count) × Reads oo ot (length oo₀) (upTo j (writtenFrom half (matrixAt w ones twos u) (matrixAt w ones twos v) p from))
+Inv-loop ones twos rows w u v half p from count oo₀ ot₀ j₀ oo ot j = (j ≤ count) ×
+    Reads oo ot (length oo₀) (upTo j (writtenFrom half (matrixAt w ones twos u) (matrixAt w ones twos v) p from))
 
 abbrev μ-loop : tie.MeasureT-loop
 μ-loop ones twos rows w u v half p from count oo₀ ot₀ j₀ oo ot j = count - j
 
+-- The places that the answers look back to, each from a later one.
+abbrev start-from-slice-known2 : tie.After-slice-known2 Inv-loop μ-loop → tie.Start Inv-loop μ-loop
+start-from-slice-known2 c = c .before .before .before .before .before
+
+abbrev start-from-at-loop : tie.At-loop Inv-loop μ-loop → tie.Start Inv-loop μ-loop
+start-from-at-loop c = c .before .before .before .before .before .before
+
+abbrev start-from-in-loop : tie.In-loop Inv-loop μ-loop → tie.Start Inv-loop μ-loop
+start-from-in-loop c = start-from-at-loop (c .before)
+
+abbrev start-from-after-loop : tie.After-loop Inv-loop μ-loop → tie.Start Inv-loop μ-loop
+start-from-after-loop c = start-from-at-loop (c .before)
+
 loop-holds : tie.Need-loop-holds Inv-loop μ-loop
 loop-holds c =
-    (omega arith, c .before .before .before .before .before .pre .1 .0)
+    (omega arith, start-from-slice-known2 c .pre .1 .0)
 
 add-q : tie.Need-add-q Inv-loop μ-loop
 add-q c =
-    let s = c .before .before .before .before .before .before .before in
+    let s = start-from-in-loop c in
     omega (arith, s .pre .1 .1 .1 .1 .0, s .pre .1 .1 .0 .size)
 
 mul-q : tie.Need-mul-q Inv-loop μ-loop
 mul-q c =
-    let s = c .before .before .before .before .before .before .before in
+    let s = start-from-in-loop c in
     omega (arith, s .pre .1 .1 .1 .1 .0)
 
 shared-slice-read-q : tie.Need-shared-slice-read-q Inv-loop μ-loop
 shared-slice-read-q c =
-    let s = c .before .before .before .before .before .before .before .before in
+    let s = start-from-in-loop (c .before) in
     omega (arith, s .pre .1 .1 .1 .1 .0)
 
 cast-q : tie.Need-cast-q Inv-loop μ-loop
 cast-q c =
-    let a = c .before .before .before .before .before .before .before .before .args in
+    let a = start-from-in-loop (c .before) .args in
     let l = c .before .before .loop in
     omega (arith, c .shared-slice-known4 .given (a .from + l .j))
 
 trit-of-place-requires : tie.Need-trit-of-place-requires Inv-loop μ-loop
 trit-of-place-requires c κs =
-    let s = c .before .before .before .before .before .before .before .before in
+    let s = start-from-in-loop (c .before) in
     let a = s .args in
     let l = c .before .before .loop in
-    let p = s .pre .1 .1 .1 .0 in
-    (s .pre .0, (p .0, omega (arith, p .1, p .2), omega (arith, p .1, p .2), p .3, order-below (a .half + a .half) (now (a .p)) (s .pre .1 .1 .0) (a .from + l .j) (omega (arith, s .pre .1 .1 .0 .size, s .pre .1 .1 .1 .1 .0))))
+    let p = s .pre .1 .1 .1 .0 in (
+      s .pre .0,
+      (
+        p .0,
+        omega (arith, p .1, p .2),
+        omega (arith, p .1, p .2),
+        p .3,
+        order-below (a .half + a .half) (now (a .p)) (s .pre .1 .1 .0) (a .from + l .j) (omega (arith, s .pre .1 .1 .0 .size, s .pre .1 .1 .1 .1 .0)),
+      ),
+    )
 
 put-trit-requires : tie.Need-put-trit-requires Inv-loop μ-loop
 put-trit-requires c κs =
-    let s = c .before .before .before .before .before .before .before .before .before .before .before in
+    let at-loop = c .before .before .before .before .before in
+    let s = start-from-at-loop at-loop in
     let a = s .args in
-    let l = c .before .before .before .before .before .loop in
-    (l .inv .1 .row, (omega (arith, l .inv .1 .size, s .pre .1 .1 .1 .1 .1), trit-lt (writtenFrom (a .half) (matrixAt (a .w) (now (a .ones)) (now (a .twos)) (a .u)) (matrixAt (a .w) (now (a .ones)) (now (a .twos)) (a .v)) (now (a .p)) (a .from) (l .j)) _ (c .before .before .trit-of-place .ensures)))
+    let l = at-loop .loop in (
+      l .inv .1 .row,
+      (
+        omega (arith, l .inv .1 .size, s .pre .1 .1 .1 .1 .1),
+        trit-lt (writtenFrom (a .half) (matrixAt (a .w) (now (a .ones)) (now (a .twos)) (a .u)) (matrixAt (a .w) (now (a .ones)) (now (a .twos)) (a .v))
+            (now (a .p)) (a .from) (l .j)) _ (c .before .before .trit-of-place .ensures),
+      ),
+    )
 
 add-j : tie.Need-add-j Inv-loop μ-loop
 add-j c =
@@ -70,10 +99,17 @@ loop-less c =
 
 loop-again : tie.Need-loop-again Inv-loop μ-loop
 loop-again c =
-    let s = c .before .before .before .before .before .before .before .before .before .before .before .before .before .before .before .before in
+    let after-put-trit = c .before .before .before .before in
+    let after-trit-of-place = after-put-trit .before .before .before in
+    let at-loop = after-trit-of-place .before .before .before in
+    let s = start-from-at-loop at-loop in
     let a = s .args in
-    let l = c .before .before .before .before .before .before .before .before .before .before .loop in
-    (omega arith, column-turn (writtenFrom (a .half) (matrixAt (a .w) (now (a .ones)) (now (a .twos)) (a .u)) (matrixAt (a .w) (now (a .ones)) (now (a .twos)) (a .v)) (now (a .p)) (a .from)) (l .j) (c .before .before .before .before .before .before .before .trit-of-place .result) (l .inv .1) (read-trit _ _ (c .before .before .before .before .before .before .before .trit-of-place .ensures)) (c .before .before .before .before .put-trit .ensures))
+    let l = at-loop .loop in (
+      omega arith,
+      column-turn (writtenFrom (a .half) (matrixAt (a .w) (now (a .ones)) (now (a .twos)) (a .u)) (matrixAt (a .w) (now (a .ones)) (now (a .twos)) (a .v))
+          (now (a .p)) (a .from)) (l .j) (after-trit-of-place .trit-of-place .result) (l .inv .1) (read-trit _ _ (after-trit-of-place .trit-of-place .ensures))
+          (after-put-trit .put-trit .ensures),
+    )
 
 same-length : tie.Need-same-length Inv-loop μ-loop
 same-length c =
@@ -81,11 +117,11 @@ same-length c =
 
 same-length-2 : tie.Need-same-length-2 Inv-loop μ-loop
 same-length-2 c =
-    omega (arith, c .before .loop .inv .1 .size, c .before .loop .inv .1 .row .same, c .before .before .before .before .before .before .before .pre .1 .0 .row .same)
+    omega (arith, c .before .loop .inv .1 .size, c .before .loop .inv .1 .row .same, start-from-after-loop c .pre .1 .0 .row .same)
 
 returns : tie.Need-returns Inv-loop μ-loop
 returns c =
-    let a = c .before .before .before .before .before .before .before .args in
+    let a = start-from-after-loop c .args in
     let e : c .before .loop .j ≡ a .count = omega arith in
     rw e at (c .before .loop .inv .1)
 

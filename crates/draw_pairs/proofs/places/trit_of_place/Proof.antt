@@ -81,7 +81,8 @@ returns-2 : tie.Need-returns-2
 returns-2 c =
     let s = c .before .before .before .before in
     let a = s .args in
-    read-high (a .w) (now (a .ones)) (now (a .twos)) (a .u) (a .v) (a .half) (a .q) _ (omega (arith, c .before .if1 .left)) (s .pre .1 .4) (s .pre .1 .3) (c .trit-at2 .ensures)
+    read-high (a .w) (now (a .ones)) (now (a .twos)) (a .u) (a .v) (a .half) (a .q) _ (omega (arith, c .before .if1 .left)) (s .pre .1 .4) (s .pre .1 .3)
+    (c .trit-at2 .ensures)
 
 pub trit-of-place-spec : {M : Type 1} → statement M
 trit-of-place-spec =

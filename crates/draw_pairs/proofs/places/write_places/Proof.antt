@@ -13,6 +13,16 @@ use Rattle.draw_pairs.specs.Steps.{writtenFrom}
 use Rattle.draw_pairs.proofs.places.write_places.Statement.{statement}
 use Rattle.draw_pairs.proofs.places.write_places.Tie as tie
 
+-- The places that the answers look back to, each from a later one.
+abbrev start-from-zero-words : tie.After-zero-words → tie.Start
+start-from-zero-words c = c .before .before .before .before .before .before .before
+
+abbrev zero-words2-from-put-places : tie.After-put-places → tie.After-zero-words2
+zero-words2-from-put-places c = c .before .before .before .before .before
+
+abbrev zero-words-from-put-places : tie.After-put-places → tie.After-zero-words
+zero-words-from-put-places c = zero-words2-from-put-places c .before .before .before .before
+
 zero-words-requires : tie.Need-zero-words-requires
 zero-words-requires c κs =
     search needs
@@ -23,12 +33,20 @@ zero-words-requires-2 c κs =
 
 put-places-requires : tie.Need-put-places-requires
 put-places-requires c κs =
-    let s = c .before .before .before .before .before .before .before .before .before .before .before .before .before .before .before in
+    let after-zero-words2 = c .before .before .before .before in
+    let after-zero-words = after-zero-words2 .before .before .before .before in
+    let s = start-from-zero-words after-zero-words in
     let a = s .args in
-    let e = c .before .before .before .before .before .before .before .before .zero-words .ensures in
+    let e = after-zero-words .zero-words .ensures in
     let n = ap length e ∙ length-zeros (length (now (a .oo))) in
-    let p = s .pre .1 .1 .1 in
-    (s .pre .0, (zeros-hold (writtenFrom (a .half) (matrixAt (a .w) (now (a .ones)) (now (a .twos)) (a .u)) (matrixAt (a .w) (now (a .ones)) (now (a .twos)) (a .v)) (now (a .p)) (a .from)) e (c .before .before .before .before .zero-words2 .ensures) (p .2), (s .pre .1 .0, (s .pre .1 .1 .0, (p .0, omega (arith, n, p .1))))))
+    let p = s .pre .1 .1 .1 in (
+      s .pre .0,
+      (
+        zeros-hold (writtenFrom (a .half) (matrixAt (a .w) (now (a .ones)) (now (a .twos)) (a .u)) (matrixAt (a .w) (now (a .ones)) (now (a .twos)) (a .v))
+            (now (a .p)) (a .from)) e (after-zero-words2 .zero-words2 .ensures) (p .2),
+        (s .pre .1 .0, (s .pre .1 .1 .0, (p .0, omega (arith, n, p .1)))),
+      ),
+    )
 
 same-length : tie.Need-same-length
 same-length c =
@@ -40,9 +58,12 @@ same-length-2 c =
 
 returns : tie.Need-returns
 returns c =
-    let a = c .before .before .before .before .before .before .before .before .before .before .before .before .before .before .before .before .before .before .before .before .args in
-    let n = ap length (c .before .before .before .before .before .before .before .before .before .before .before .before .before .zero-words .ensures) ∙ length-zeros (length (now (a .oo))) in
-    let w = reads-words (c .before .before .before .before .put-places .ensures) n (λ j. c .before .before .slice-known5 .given j .fits) (λ j. c .slice-known6 .given j .fits) in
+    let after-put-places = c .before .before .before .before in
+    let after-zero-words = zero-words-from-put-places after-put-places in
+    let start = start-from-zero-words after-zero-words in
+    let a = start .args in
+    let n = ap length (after-zero-words .zero-words .ensures) ∙ length-zeros (length (now (a .oo))) in
+    let w = reads-words (after-put-places .put-places .ensures) n (λ j. c .before .before .slice-known5 .given j .fits) (λ j. c .slice-known6 .given j .fits) in
     (w .ones-are, w .twos-are)
 
 pub write-places-spec : {M : Type 1} → statement M

@@ -18,6 +18,13 @@ Inv-loop ones₀ twos₀ rows w order m count₀ i₀ ones twos count i = (i ≤
 abbrev μ-loop : tie.MeasureT-loop
 μ-loop ones₀ twos₀ rows w order m count₀ i₀ ones twos count i = m - i
 
+-- The places that the answers look back to, each from a later one.
+abbrev at-loop-from-count-column : tie.After-count-column Inv-loop μ-loop → tie.At-loop Inv-loop μ-loop
+at-loop-from-count-column c = c .before .before .before .before .before
+
+abbrev start-from-after-loop : tie.After-loop Inv-loop μ-loop → tie.Start Inv-loop μ-loop
+start-from-after-loop c = c .before .before .before .before .before
+
 loop-holds : tie.Need-loop-holds Inv-loop μ-loop
 loop-holds c =
     let s = c .before .before .before in
@@ -34,8 +41,9 @@ cast-q c = omega (arith, c .shared-slice-known2 .given (c .before .before .loop 
 
 count-column-requires : tie.Need-count-column-requires Inv-loop μ-loop
 count-column-requires c κs =
-    let s = c .before .before .before .before .before .before .before .before in
-    let l = c .before .before .before .before .loop in
+    let at-loop = c .before .before .before .before in
+    let s = at-loop .before .before .before .before in
+    let l = at-loop .loop in
     let p = place-below (now (s .args .order)) (length (now (s .args .order))) (l .i) (s .pre .1 .0) (omega arith) in
     (l .inv .1 .grid .rows, (omega (arith, l .inv .1 .grid .rows .size), omega (arith, p), omega (arith, l .inv .1 .room)))
 
@@ -47,9 +55,11 @@ loop-less c = omega arith
 
 loop-again : tie.Need-loop-again Inv-loop μ-loop
 loop-again c =
-    let s = c .before .before .before .before .before .before .before .before .before .before .before .before .before in
-    let l = c .before .before .before .before .before .before .before .before .before .loop in
-    let e = c .before .before .before .before .count-column .ensures in
+    let after-count-column = c .before .before .before .before in
+    let at-loop = at-loop-from-count-column after-count-column in
+    let s = at-loop .before .before .before .before in
+    let l = at-loop .loop in
+    let e = after-count-column .count-column .ensures in
     (omega arith, went-turn _ (l .inv .1) (take-next (now (s .args .order)) (l .i) (omega arith)) (e .0) (e .1))
 
 same-length : tie.Need-same-length Inv-loop μ-loop
@@ -60,12 +70,13 @@ same-length-2 c = omega arith
 
 returns : tie.Need-returns Inv-loop μ-loop
 returns c =
-    let s = c .before .before .before .before .before in
+    let s = start-from-after-loop c in
+    let a = s .args in
     let l = c .before .loop in
-    let e : l .i ≡ s .args .m = omega arith in
+    let e : l .i ≡ a .m = omega arith in
     let g = rw e at (l .inv .1) in
-    let n = length (now (s .args .order)) in
-    (went-count n g (first-below n (s .args .m) (now (s .args .order)) (s .pre .1 .0)), went-grid g)
+    let n = length (now (a .order)) in
+    (went-count n g (first-below n (a .m) (now (a .order)) (s .pre .1 .0)), went-grid g)
 
 pub eliminate-by-spec : {M : Type 1} → statement M
 eliminate-by-spec =

@@ -11,6 +11,19 @@ use Rattle.draw_reduce.proofs.Fronts.{front-grid}
 use Rattle.draw_reduce.proofs.reduce.reduce.Statement.{statement}
 use Rattle.draw_reduce.proofs.reduce.reduce.Tie as tie
 
+-- The places that the answers look back to, each from a later one.
+abbrev start-from-shared-slice-known3 : tie.After-shared-slice-known3 → tie.Start
+start-from-shared-slice-known3 c = c .before .before .before .before .before
+
+abbrev start-from-reduce-copied-arg : tie.After-reduce-copied-arg → tie.Start
+start-from-reduce-copied-arg c = c .before .before .before .before .before .before
+
+abbrev start-from-reduce-copied-arg2 : tie.After-reduce-copied-arg2 → tie.Start
+start-from-reduce-copied-arg2 c = c .before .before .before .before .before .before .before
+
+abbrev start-from-reduce-copied : tie.After-reduce-copied → tie.Start
+start-from-reduce-copied c = c .before .before .before .before .before .before .before .before
+
 sub-reduce-copied : tie.Need-sub-reduce-copied
 sub-reduce-copied c = search needs
 
@@ -19,7 +32,7 @@ part-reduce-copied-start c = search needs
 
 part-reduce-copied-end : tie.Need-part-reduce-copied-end
 part-reduce-copied-end c =
-    let s = c .before .before .before .before .before in
+    let s = start-from-shared-slice-known3 c in
     let a = s .args in
     omega (arith, s .pre .0 .size, s .pre .1 .0 .size, mul-le-mul-right (a .w) (s .pre .1 .1 .1 .1))
 
@@ -31,13 +44,13 @@ part-reduce-copied-start-2 c = search needs
 
 part-reduce-copied-end-2 : tie.Need-part-reduce-copied-end-2
 part-reduce-copied-end-2 c =
-    let s = c .before .before .before .before .before .before in
+    let s = start-from-reduce-copied-arg c in
     let a = s .args in
     omega (arith, s .pre .0 .row .same, s .pre .0 .size, s .pre .1 .0 .size, mul-le-mul-right (a .w) (s .pre .1 .1 .1 .1))
 
 reduce-copied-requires : tie.Need-reduce-copied-requires
 reduce-copied-requires c κs =
-    let s = c .before .before .before .before .before .before .before in
+    let s = start-from-reduce-copied-arg2 c in
     let a = s .args in
     let n = length (now (a .ho)) in
     let b = s .pre .1 .1 .1 in
@@ -55,9 +68,10 @@ same-length-2 c = search needs
 
 returns : tie.Need-returns
 returns c =
-    let s = c .before .before .before .before .before .before .before .before .before .before .before .before in
+    let after-reduce-copied = c .before .before .before .before in
+    let s = start-from-reduce-copied after-reduce-copied in
     let a = s .args in
-    let d = c .before .before .before .before .reduce-copied .ensures in
+    let d = after-reduce-copied .reduce-copied .ensures in
     (d .0, front-grid (a .w) (a .r) (s .pre .0) (s .pre .1 .1 .1 .1) (length (now (a .ho)) - 0) (omega (arith, s .pre .1 .0 .size)) (d .1))
 
 pub reduce-spec : {M : Type 1} → statement M

@@ -12,6 +12,13 @@ use Rattle.draw_reduce.proofs.Fronts.{copied-rows, copied-cells}
 use Rattle.draw_reduce.proofs.reduce.reduce_copied.Statement.{statement}
 use Rattle.draw_reduce.proofs.reduce.reduce_copied.Tie as tie
 
+-- The places that the answers look back to, each from a later one.
+abbrev start-from-copy-words : tie.After-copy-words → tie.Start
+start-from-copy-words c = c .before .before .before .before .before .before .before
+
+abbrev copy-words2-from-eliminate-by : tie.After-eliminate-by → tie.After-copy-words2
+copy-words2-from-eliminate-by c = c .before .before .before .before .before
+
 copy-words-requires : tie.Need-copy-words-requires
 copy-words-requires c κs = search needs
 
@@ -20,10 +27,14 @@ copy-words-requires-2 c κs = search needs
 
 eliminate-by-requires : tie.Need-eliminate-by-requires
 eliminate-by-requires c κs =
-    let s = c .before .before .before .before .before .before .before .before .before .before .before .before .before .before .before in
-    let e = c .before .before .before .before .before .before .before .before .copy-words .ensures in
-    let b = s .pre .1 .1 .1 in
-    (copied-rows e (c .before .before .before .before .copy-words2 .ensures) (s .pre .0), (s .pre .1 .1 .0, (omega (arith, ap length e, s .pre .0 .size, s .pre .1 .0 .0, b .0), b .1, b .2)))
+    let after-copy-words2 = c .before .before .before .before in
+    let after-copy-words = after-copy-words2 .before .before .before .before in
+    let s = start-from-copy-words after-copy-words in
+    let e = after-copy-words .copy-words .ensures in
+    let b = s .pre .1 .1 .1 in (
+      copied-rows e (after-copy-words2 .copy-words2 .ensures) (s .pre .0),
+      (s .pre .1 .1 .0, (omega (arith, ap length e, s .pre .0 .size, s .pre .1 .0 .0, b .0), b .1, b .2)),
+    )
 
 same-length : tie.Need-same-length
 same-length c = search needs
@@ -33,10 +44,14 @@ same-length-2 c = search needs
 
 returns : tie.Need-returns
 returns c =
-    let a = c .before .before .before .before .before .before .before .before .before .before .before .before .before .before .before .before .before .before .before .before .args in
+    let after-eliminate-by = c .before .before .before .before in
+    let after-copy-words2 = copy-words2-from-eliminate-by after-eliminate-by in
+    let after-copy-words = after-copy-words2 .before .before .before .before in
+    let start = start-from-copy-words after-copy-words in
+    let a = start .args in
     let ps = take (a .m) (now (a .order)) in
-    let f = copied-cells (c .before .before .before .before .before .before .before .before .before .before .before .before .before .copy-words .ensures) (c .before .before .before .before .before .before .before .before .before .copy-words2 .ensures) (a .w) in
-    let d = c .before .before .before .before .eliminate-by .ensures in
+    let f = copied-cells (after-copy-words .copy-words .ensures) (after-copy-words2 .copy-words2 .ensures) (a .w) in
+    let d = after-eliminate-by .eliminate-by .ensures in
     (d .0 ∙ ap (λ (A : Matrix). rank (a .rows) (length (now (a .order))) A ps) f, grid-to (d .1) (ap (λ (A : Matrix). eliminated (a .rows) A ps) f))
 
 pub reduce-copied-spec : {M : Type 1} → statement M

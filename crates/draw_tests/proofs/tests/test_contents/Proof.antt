@@ -6,9 +6,25 @@ use borrow.Author.Needs.{needs}
 use Rattle.draw_tests.proofs.tests.test_contents.Statement.{statement}
 use Rattle.draw_tests.proofs.tests.test_contents.Tie as tie
 
+-- The places that the answers look back to, each from a later one.
+abbrev start-from-shared-slice-known17 : tie.After-shared-slice-known17 → tie.Start
+start-from-shared-slice-known17 c =
+    c .before .before .before .before .before .before .before .before .before .before .before .before .before .before .before .before .before
+
+abbrev start-from-test-secret : tie.After-test-secret → tie.Start
+start-from-test-secret c =
+    c .before .before .before .before .before .before .before .before .before .before .before .before .before .before .before .before .before .before
+
+abbrev start-from-code : tie.After-code → tie.Start
+start-from-code c = start-from-test-secret (c .before)
+
+abbrev start-from-else1 : tie.Else1 → tie.Start
+start-from-else1 c = start-from-code (c .before)
+
 test-secret-requires : tie.Need-test-secret-requires
 test-secret-requires c κs =
-    let s = c .before .before .before .before .before .before .before .before .before .before .before .before .before .before .before .before .before in (s .pre .0, s .pre .1 .0)
+    let s = start-from-shared-slice-known17 c in
+    (s .pre .0, s .pre .1 .0)
 
 code-requires : tie.Need-code-requires
 code-requires c κs = search needs
@@ -19,7 +35,8 @@ returns c =
 
 test-choices-requires : tie.Need-test-choices-requires
 test-choices-requires c κs =
-    let s = c .before .before .before .before .before .before .before .before .before .before .before .before .before .before .before .before .before .before .before .before in (s .pre .0, s .pre .1 .1)
+    let s = start-from-else1 c in
+    (s .pre .0, s .pre .1 .1)
 
 returns-2 : tie.Need-returns-2
 returns-2 c =

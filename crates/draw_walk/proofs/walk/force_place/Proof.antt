@@ -14,37 +14,56 @@ use Prim.Native.Nat.{_+_, _-_, _*_}
 use Rattle.draw_walk.proofs.walk.force_place.Statement.{statement}
 use Rattle.draw_walk.proofs.walk.force_place.Tie as tie
 
+-- The places that the answers look back to, each from a later one.
+abbrev start-from-trit-at-arg2 : tie.After-trit-at-arg2 → tie.Start
+start-from-trit-at-arg2 c = c .before .before .before .before .before .before .before .before .before .before
+
+abbrev start-from-trit-at : tie.After-trit-at → tie.Start
+start-from-trit-at c = c .before .before .before .before .before .before .before .before .before .before .before
+
+abbrev start-from-then1 : tie.Then1 → tie.Start
+start-from-then1 c = start-from-trit-at (c .before)
+
+abbrev start-from-else1 : tie.Else1 → tie.Start
+start-from-else1 c = start-from-trit-at (c .before)
+
+abbrev start-from-trit-at2 : tie.After-trit-at2 → tie.Start
+start-from-trit-at2 c = start-from-else1 (c .before)
+
+abbrev start-from-trit-at3 : tie.After-trit-at3 → tie.Start
+start-from-trit-at3 c = start-from-trit-at2 (c .before)
+
 mul-trit-at : tie.Need-mul-trit-at
 mul-trit-at c =
-    let s = c .before .before .before .before .before .before .before .before .before .before in
+    let s = start-from-trit-at-arg2 c in
     let a = s .args in
     let h = row-le (a .w) {i = a .ev} {m = a .rows} (omega arith) in
     omega (arith, h, s .pre .0 .size)
 
 mul-trit-at-2 : tie.Need-mul-trit-at-2
 mul-trit-at-2 c =
-    let s = c .before .before .before .before .before .before .before .before .before .before in
+    let s = start-from-trit-at-arg2 c in
     let a = s .args in
     let h = row-le (a .w) {i = a .ev} {m = a .rows} (omega arith) in
     omega (arith, h, s .pre .0 .size)
 
 add-trit-at : tie.Need-add-trit-at
 add-trit-at c =
-    let s = c .before .before .before .before .before .before .before .before .before .before in
+    let s = start-from-trit-at-arg2 c in
     let a = s .args in
     let h = row-le (a .w) {i = a .ev} {m = a .rows} (omega arith) in
     omega (arith, h, s .pre .0 .size)
 
 trit-at-requires : tie.Need-trit-at-requires
 trit-at-requires c κs =
-    let s = c .before .before .before .before .before .before .before .before .before .before in
+    let s = start-from-trit-at-arg2 c in
     let a = s .args in
     let h = row-le (a .w) {i = a .ev} {m = a .rows} (omega arith) in
     (s .pre .0 .row .same, omega (arith, h, s .pre .0 .size))
 
 put-from-requires : tie.Need-put-from-requires
 put-from-requires c κs =
-    let s = c .before .before .before .before .before .before .before .before .before .before .before .before .before .before in
+    let s = start-from-then1 (c .before .before) in
     (s .pre .0, (s .pre .1 .0 .2, (s .pre .1 .1 .0, s .pre .1 .1 .1, s .pre .1 .1 .3, s .pre .1 .1 .6)))
 
 same-length : tie.Need-same-length
@@ -55,29 +74,48 @@ same-length-2 c = search needs
 
 returns : tie.Need-returns
 returns c =
-    let s = c .before .before .before .before .before .before .before .before .before .before .before .before .before .before .before .before .before .before .before in
+    let after-put-from = c .before .before .before .before in
+    let then1 = after-put-from .before .before .before in
+    let after-trit-at = then1 .before in
+    let s = start-from-trit-at after-trit-at in
     let a = s .args in
-    grid-row (matrixAt (a .w) (now (a .ones)) (now (a .twos))) (a .e) (c .before .before .before .before .put-from .ensures) (ap (λ (x : Trit). putV ((matrixAt (a .w) (now (a .ones)) (now (a .twos))) (a .e)) (a .q) x) (forced-none (a .w) (now (a .ones)) (now (a .twos)) (a .ev) (a .q) _ (s .pre .1 .1 .1) (c .before .before .before .before .before .before .before .before .trit-at .ensures) (tritAt (now (a .bo)) (now (a .bt))) (tritAt (now (a .co)) (now (a .ct))) (tritAt (now (a .uo)) (now (a .ut)) (a .j)) (c .before .before .before .before .before .before .before .if1 .taken)))
+    grid-row (matrixAt (a .w) (now (a .ones)) (now (a .twos))) (a .e) (after-put-from .put-from .ensures)
+    (ap (λ (x : Trit). putV ((matrixAt (a .w) (now (a .ones)) (now (a .twos))) (a .e)) (a .q) x)
+    (forced-none (a .w) (now (a .ones)) (now (a .twos)) (a .ev) (a .q) _ (s .pre .1 .1 .1) (after-trit-at .trit-at .ensures)
+    (tritAt (now (a .bo)) (now (a .bt))) (tritAt (now (a .co)) (now (a .ct))) (tritAt (now (a .uo)) (now (a .ut)) (a .j)) (then1 .if1 .taken)))
 
 trit-at-requires-2 : tie.Need-trit-at-requires-2
 trit-at-requires-2 c κs =
-    let s = c .before .before .before .before .before .before .before .before .before .before .before .before in
+    let s = start-from-else1 c in
     (s .pre .1 .0 .0 .same, s .pre .1 .1 .4)
 
 trit-at-requires-3 : tie.Need-trit-at-requires-3
 trit-at-requires-3 c κs =
-    let s = c .before .before .before .before .before .before .before .before .before .before .before .before .before in
+    let s = start-from-trit-at2 c in
     (s .pre .1 .0 .1 .same, s .pre .1 .1 .5)
 
 forced-trit-requires : tie.Need-forced-trit-requires
 forced-trit-requires c κs =
-    let a = c .before .before .before .before .before .before .before .before .before .before .before .before .before .before .args in
-    (trit-lt (tritAt (now (a .bo)) (now (a .bt)) (a .q)) _ (c .before .trit-at2 .ensures), trit-lt (tritAt (now (a .co)) (now (a .ct)) (a .q)) _ (c .trit-at3 .ensures), trit-lt (tritAt (now (a .ones)) (now (a .twos)) (64 * (a .ev * a .w) + a .q)) _ (c .before .before .before .trit-at .ensures))
+    let a = start-from-trit-at3 c .args in (
+      trit-lt (tritAt (now (a .bo)) (now (a .bt)) (a .q)) _ (c .before .trit-at2 .ensures),
+      trit-lt (tritAt (now (a .co)) (now (a .ct)) (a .q)) _ (c .trit-at3 .ensures),
+      trit-lt (tritAt (now (a .ones)) (now (a .twos)) (64 * (a .ev * a .w) + a .q)) _ (c .before .before .before .trit-at .ensures),
+    )
 
 put-at-requires : tie.Need-put-at-requires
 put-at-requires c κs =
-    let s = c .before .before .before .before .before .before .before .before .before .before .before .before .before .before .before .before .before in
-    (s .pre .0, (s .pre .1 .1 .0, s .pre .1 .1 .3, s .pre .1 .1 .1, trit-lt (mulT (subT (tritOf (c .before .before .before .trit-at3 .result)) (tritOf (c .before .before .before .before .trit-at2 .result))) (tritOf (c .before .before .before .before .before .before .trit-at .result))) _ (c .before .before .forced-trit .ensures)))
+    let after-trit-at2 = c .before .before .before .before in
+    let after-trit-at = after-trit-at2 .before .before in
+    let s = start-from-trit-at after-trit-at in (
+      s .pre .0,
+      (
+        s .pre .1 .1 .0,
+        s .pre .1 .1 .3,
+        s .pre .1 .1 .1,
+        trit-lt (mulT (subT (tritOf (c .before .before .before .trit-at3 .result)) (tritOf (after-trit-at2 .trit-at2 .result)))
+            (tritOf (after-trit-at .trit-at .result))) _ (c .before .before .forced-trit .ensures),
+      ),
+    )
 
 same-length-3 : tie.Need-same-length-3
 same-length-3 c = search needs
@@ -87,9 +125,18 @@ same-length-4 c = search needs
 
 returns-2 : tie.Need-returns-2
 returns-2 c =
-    let s = c .before .before .before .before .before .before .before .before .before .before .before .before .before .before .before .before .before .before .before .before .before .before in
+    let after-put-at = c .before .before .before .before in
+    let after-forced-trit = after-put-at .before .before .before in
+    let after-trit-at3 = after-forced-trit .before in
+    let after-trit-at2 = after-trit-at3 .before in
+    let else1 = after-trit-at2 .before in
+    let after-trit-at = else1 .before in
+    let s = start-from-trit-at after-trit-at in
     let a = s .args in
-    put-number (matrixAt (a .w) (now (a .ones)) (now (a .twos))) (a .e) (a .q) _ _ (forced-some (a .w) (now (a .ones)) (now (a .twos)) (a .ev) (a .q) _ (s .pre .1 .1 .1) (c .before .before .before .before .before .before .before .before .before .before .before .trit-at .ensures) (tritAt (now (a .bo)) (now (a .bt))) (tritAt (now (a .co)) (now (a .ct))) (tritAt (now (a .uo)) (now (a .ut)) (a .j)) (c .before .before .before .before .before .before .before .before .before .before .if1 .left) (c .before .before .before .before .before .before .before .before .before .trit-at2 .ensures) (c .before .before .before .before .before .before .before .before .trit-at3 .ensures) (c .before .before .before .before .before .before .before .forced-trit .ensures)) (c .before .before .before .before .put-at .ensures)
+    put-number (matrixAt (a .w) (now (a .ones)) (now (a .twos))) (a .e) (a .q) _ _
+    (forced-some (a .w) (now (a .ones)) (now (a .twos)) (a .ev) (a .q) _ (s .pre .1 .1 .1) (after-trit-at .trit-at .ensures)
+    (tritAt (now (a .bo)) (now (a .bt))) (tritAt (now (a .co)) (now (a .ct))) (tritAt (now (a .uo)) (now (a .ut)) (a .j)) (else1 .if1 .left)
+    (after-trit-at2 .trit-at2 .ensures) (after-trit-at3 .trit-at3 .ensures) (after-forced-trit .forced-trit .ensures)) (after-put-at .put-at .ensures)
 
 pub force-place-spec : {M : Type 1} → statement M
 force-place-spec =

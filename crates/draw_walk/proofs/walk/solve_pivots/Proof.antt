@@ -14,16 +14,29 @@ use Rattle.draw_walk.proofs.walk.solve_pivots.Statement.{statement}
 use Rattle.draw_walk.proofs.walk.solve_pivots.Tie as tie
 
 abbrev Inv-loop : tie.InvT-loop
-Inv-loop ones₀ twos₀ rows w r order m x e c₀ i₀ ones twos c i = (i ≤ m) × Walking rows w r e (matrixAt w ones₀ twos₀) (fill (taken r (matrixAt w ones₀ twos₀) 0 (take i order)) (times (64 * w) (matrixAt w ones₀ twos₀) ((matrixAt w ones₀ twos₀) x)) ((matrixAt w ones₀ twos₀) e)) (take i order) c ones twos
+Inv-loop ones₀ twos₀ rows w r order m x e c₀ i₀ ones twos c i = (i ≤ m) ×
+    Walking rows w r e (matrixAt w ones₀ twos₀) (fill (taken r (matrixAt w ones₀ twos₀) 0 (take i order))
+    (times (64 * w) (matrixAt w ones₀ twos₀) ((matrixAt w ones₀ twos₀) x)) ((matrixAt w ones₀ twos₀) e)) (take i order) c ones twos
 
 abbrev μ-loop : tie.MeasureT-loop
 μ-loop ones₀ twos₀ rows w r order m x e c₀ i₀ ones twos c i = m - i
 
+-- The places that the answers look back to, each from a later one.
+abbrev at-loop-from-solve-place : tie.After-solve-place Inv-loop μ-loop → tie.At-loop Inv-loop μ-loop
+at-loop-from-solve-place c = c .before .before .before .before .before
+
+abbrev start-from-after-loop : tie.After-loop Inv-loop μ-loop → tie.Start Inv-loop μ-loop
+start-from-after-loop c = c .before .before .before .before .before
+
 loop-holds : tie.Need-loop-holds Inv-loop μ-loop
 loop-holds c =
     let s = c .before .before .before in
-    let a = s .args in
-    (omega arith, walking-none (a .e) (now (a .order)) (λ B. taken (a .r) B 0 (take 0 (now (a .order)))) (times (64 * a .w) (matrixAt (a .w) (now (a .ones)) (now (a .twos))) ((matrixAt (a .w) (now (a .ones)) (now (a .twos))) (a .x))) (s .pre .0) (taken-nil (a .r) (matrixAt (a .w) (now (a .ones)) (now (a .twos))) (now (a .order))))
+    let a = s .args in (
+      omega arith,
+      walking-none (a .e) (now (a .order)) (λ B. taken (a .r) B 0 (take 0 (now (a .order))))
+          (times (64 * a .w) (matrixAt (a .w) (now (a .ones)) (now (a .twos))) ((matrixAt (a .w) (now (a .ones)) (now (a .twos))) (a .x))) (s .pre .0)
+          (taken-nil (a .r) (matrixAt (a .w) (now (a .ones)) (now (a .twos))) (now (a .order))),
+    )
 
 mul-q : tie.Need-mul-q Inv-loop μ-loop
 mul-q c = omega arith
@@ -37,11 +50,14 @@ cast-q c =
 
 solve-place-requires : tie.Need-solve-place-requires Inv-loop μ-loop
 solve-place-requires c κs =
-    let s = c .before .before .before .before .before .before .before .before in
+    let at-loop = c .before .before .before .before in
+    let s = at-loop .before .before .before .before in
     let a = s .args in
-    let l = c .before .before .before .before .loop in
-    let q = place-below (now (a .order)) (length (now (a .order))) (l .i) (s .pre .1 .0) (omega arith) in
-    (l .inv .1 .grid .rows, (omega (arith, l .inv .1 .grid .rows .size, s .pre .0 .size), s .pre .1 .1 .0 .1, omega (arith, q), omega arith, s .pre .1 .1 .1 .2, s .pre .1 .1 .1 .1))
+    let l = at-loop .loop in
+    let q = place-below (now (a .order)) (length (now (a .order))) (l .i) (s .pre .1 .0) (omega arith) in (
+      l .inv .1 .grid .rows,
+      (omega (arith, l .inv .1 .grid .rows .size, s .pre .0 .size), s .pre .1 .1 .0 .1, omega (arith, q), omega arith, s .pre .1 .1 .1 .2, s .pre .1 .1 .1 .1),
+    )
 
 add-i : tie.Need-add-i Inv-loop μ-loop
 add-i c = omega arith
@@ -51,26 +67,31 @@ loop-less c = omega arith
 
 loop-again : tie.Need-loop-again Inv-loop μ-loop
 loop-again c =
-    let s = c .before .before .before .before .before .before .before .before .before .before .before .before .before in
+    let after-solve-place = c .before .before .before .before in
+    let at-loop = at-loop-from-solve-place after-solve-place in
+    let s = at-loop .before .before .before .before in
     let a = s .args in
-    let l = c .before .before .before .before .before .before .before .before .before .loop in
-    let e = c .before .before .before .before .solve-place .ensures in
-    (omega arith, solve-turn (now (a .order)) (matrixAt (a .w) (now (a .ones)) (now (a .twos))) (s .pre .1 .0) (omega arith) (s .pre .1 .1 .1 .0) (a .x) (64 * a .w) (s .pre .1 .1 .1 .3) (l .inv .1) (e .0) (e .1))
+    let l = at-loop .loop in
+    let e = after-solve-place .solve-place .ensures in (
+      omega arith,
+      solve-turn (now (a .order)) (matrixAt (a .w) (now (a .ones)) (now (a .twos))) (s .pre .1 .0) (omega arith) (s .pre .1 .1 .1 .0) (a .x) (64 * a .w)
+          (s .pre .1 .1 .1 .3) (l .inv .1) (e .0) (e .1),
+    )
 
 same-length : tie.Need-same-length Inv-loop μ-loop
 same-length c =
-    let s = c .before .before .before .before .before in
+    let s = start-from-after-loop c in
     omega (arith, c .before .loop .inv .1 .grid .rows .size, s .pre .0 .size)
 
 same-length-2 : tie.Need-same-length-2 Inv-loop μ-loop
 same-length-2 c =
-    let s = c .before .before .before .before .before in
+    let s = start-from-after-loop c in
     let g = c .before .loop .inv .1 .grid .rows in
     omega (arith, g .size, g .row .same, s .pre .0 .size, s .pre .0 .row .same)
 
 returns : tie.Need-returns Inv-loop μ-loop
 returns c =
-    let a = c .before .before .before .before .before .args in
+    let a = start-from-after-loop c .args in
     let l = c .before .loop in
     let e : l .i ≡ a .m = omega arith in
     (rw e at (l .inv .1)) .grid

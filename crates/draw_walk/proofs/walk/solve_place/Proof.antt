@@ -13,6 +13,22 @@ use Prim.Native.Nat.{_*_}
 use Rattle.draw_walk.proofs.walk.solve_place.Statement.{statement}
 use Rattle.draw_walk.proofs.walk.solve_place.Tie as tie
 
+-- The places that the answers look back to, each from a later one.
+abbrev start-from-then1 : tie.Then1 → tie.Start
+start-from-then1 c = c .before .before .before .before .before .before
+
+abbrev start-from-row-dot : tie.After-row-dot → tie.Start
+start-from-row-dot c = start-from-then1 (c .before .before .before)
+
+abbrev then1-from-put-at : tie.After-put-at → tie.Then1
+then1-from-put-at c = c .before .before .before .before .before .before
+
+abbrev start-from-is-next : tie.After-is-next → tie.Start
+start-from-is-next c = c .before .before .before .before .before
+
+abbrev start-from-else1 : tie.Else1 → tie.Start
+start-from-else1 c = c .before .before .before .before .before .before
+
 is-next-requires : tie.Need-is-next-requires
 is-next-requires c κs =
     let s = c .before .before .before .before in
@@ -20,21 +36,33 @@ is-next-requires c κs =
 
 row-dot-requires : tie.Need-row-dot-requires
 row-dot-requires c κs =
-    let s = c .before .before .before .before .before .before .before .before in
+    let s = start-from-then1 (c .before .before) in
     let a = s .args in
-    let h = next-lt (a .r) (matrixAt (a .w) (now (a .ones)) (now (a .twos))) (a .c) (a .q) (sym (c .before .before .before .is-next .ensures) ∙ c .before .before .if1 .taken) in
+    let h = next-lt (a .r) (matrixAt (a .w) (now (a .ones)) (now (a .twos))) (a .c) (a .q)
+    (sym (c .before .before .before .is-next .ensures) ∙ c .before .before .if1 .taken) in
     (s .pre .0, (s .pre .1 .1, omega (arith, h, s .pre .1 .3), s .pre .1 .4))
 
 put-at-requires : tie.Need-put-at-requires
 put-at-requires c κs =
-    let s = c .before .before .before .before .before .before .before .before .before .before .before in
-    let a = s .args in
-    (s .pre .0, (s .pre .1 .0, s .pre .1 .5, s .pre .1 .2, trit-lt (dotV ((matrixAt (a .w) (now (a .ones)) (now (a .twos))) (a .c)) ((matrixAt (a .w) (now (a .ones)) (now (a .twos))) (a .x)) (64 * a .w)) _ (c .before .before .row-dot .ensures)))
+    let s = start-from-row-dot (c .before .before) in
+    let a = s .args in (
+      s .pre .0,
+      (
+        s .pre .1 .0,
+        s .pre .1 .5,
+        s .pre .1 .2,
+        trit-lt (dotV ((matrixAt (a .w) (now (a .ones)) (now (a .twos))) (a .c)) ((matrixAt (a .w) (now (a .ones)) (now (a .twos))) (a .x)) (64 * a .w)) _
+            (c .before .before .row-dot .ensures),
+      ),
+    )
 
 add-result : tie.Need-add-result
 add-result c =
-    let a = c .before .before .before .before .before .before .before .before .before .before .before .before .before .before .before .before .args in
-    let h = next-lt (a .r) (matrixAt (a .w) (now (a .ones)) (now (a .twos))) (a .c) (a .q) (sym (c .before .before .before .before .before .before .before .before .before .before .before .is-next .ensures) ∙ c .before .before .before .before .before .before .before .before .before .before .if1 .taken) in
+    let then1 = then1-from-put-at (c .before .before .before .before) in
+    let after-is-next = then1 .before in
+    let start = start-from-is-next after-is-next in
+    let a = start .args in
+    let h = next-lt (a .r) (matrixAt (a .w) (now (a .ones)) (now (a .twos))) (a .c) (a .q) (sym (after-is-next .is-next .ensures) ∙ then1 .if1 .taken) in
     omega (arith, h)
 
 same-length : tie.Need-same-length
@@ -45,10 +73,18 @@ same-length-2 c = search needs
 
 returns : tie.Need-returns
 returns c =
-    let s = c .before .before .before .before .before .before .before .before .before .before .before .before .before .before .before .before in
+    let after-put-at = c .before .before .before .before in
+    let after-row-dot = after-put-at .before .before .before in
+    let then1 = after-row-dot .before .before .before in
+    let after-is-next = then1 .before in
+    let s = start-from-is-next after-is-next in
     let a = s .args in
-    let y = sym (c .before .before .before .before .before .before .before .before .before .before .before .is-next .ensures) ∙ c .before .before .before .before .before .before .before .before .before .before .if1 .taken in
-    (yes-count (a .c) y, grid-row (matrixAt (a .w) (now (a .ones)) (now (a .twos))) (a .e) (put-number (matrixAt (a .w) (now (a .ones)) (now (a .twos))) (a .e) (a .q) _ _ (c .before .before .before .before .before .before .before .row-dot .ensures) (c .before .before .before .before .put-at .ensures)) (pick-first _ ((matrixAt (a .w) (now (a .ones)) (now (a .twos))) (a .e)) y))
+    let y = sym (after-is-next .is-next .ensures) ∙ then1 .if1 .taken in (
+      yes-count (a .c) y,
+      grid-row (matrixAt (a .w) (now (a .ones)) (now (a .twos))) (a .e)
+          (put-number (matrixAt (a .w) (now (a .ones)) (now (a .twos))) (a .e) (a .q) _ _ (after-row-dot .row-dot .ensures) (after-put-at .put-at .ensures))
+          (pick-first _ ((matrixAt (a .w) (now (a .ones)) (now (a .twos))) (a .e)) y),
+    )
 
 same-length-3 : tie.Need-same-length-3
 same-length-3 c = search needs
@@ -58,7 +94,7 @@ same-length-4 c = search needs
 
 returns-2 : tie.Need-returns-2
 returns-2 c =
-    let s = c .before .before .before .before .before .before in
+    let s = start-from-else1 c in
     let a = s .args in
     let y = sym (c .before .is-next .ensures) ∙ c .if1 .left in
     (no-count (a .c) y, grid-own (s .pre .0) (a .e) (pick-second _ ((matrixAt (a .w) (now (a .ones)) (now (a .twos))) (a .e)) y))

@@ -15,16 +15,34 @@ use Rattle.draw_walk.proofs.walk.supply.Statement.{statement}
 use Rattle.draw_walk.proofs.walk.supply.Tie as tie
 
 abbrev Inv-loop : tie.InvT-loop
-Inv-loop ones₀ twos₀ rows w r order m vo vt e c₀ i₀ ones twos c i = (i ≤ m) × Walking rows w r e (matrixAt w ones₀ twos₀) (fill (passed r (matrixAt w ones₀ twos₀) 0 (take i order)) (tritAt vo vt) ((matrixAt w ones₀ twos₀) e)) (take i order) c ones twos
+Inv-loop ones₀ twos₀ rows w r order m vo vt e c₀ i₀ ones twos c i = (i ≤ m) ×
+    Walking rows w r e (matrixAt w ones₀ twos₀) (fill (passed r (matrixAt w ones₀ twos₀) 0 (take i order)) (tritAt vo vt) ((matrixAt w ones₀ twos₀) e))
+    (take i order) c ones twos
 
 abbrev μ-loop : tie.MeasureT-loop
 μ-loop ones₀ twos₀ rows w r order m vo vt e c₀ i₀ ones twos c i = m - i
 
+-- The places that the answers look back to, each from a later one.
+abbrev start-from-shared-slice-known3 : tie.After-shared-slice-known3 Inv-loop μ-loop → tie.Start Inv-loop μ-loop
+start-from-shared-slice-known3 c = c .before .before .before .before .before
+
+abbrev start-from-at-loop : tie.At-loop Inv-loop μ-loop → tie.Start Inv-loop μ-loop
+start-from-at-loop c = c .before .before .before .before .before .before
+
+abbrev at-loop-from-supply-place : tie.After-supply-place Inv-loop μ-loop → tie.At-loop Inv-loop μ-loop
+at-loop-from-supply-place c = c .before .before .before .before .before
+
+abbrev start-from-after-loop : tie.After-loop Inv-loop μ-loop → tie.Start Inv-loop μ-loop
+start-from-after-loop c = start-from-at-loop (c .before)
+
 loop-holds : tie.Need-loop-holds Inv-loop μ-loop
 loop-holds c =
-    let s = c .before .before .before .before .before in
-    let a = s .args in
-    (omega arith, walking-none (a .e) (now (a .order)) (λ B. passed (a .r) B 0 (take 0 (now (a .order)))) (tritAt (now (a .vo)) (now (a .vt))) (s .pre .0) (passed-nil (a .r) (matrixAt (a .w) (now (a .ones)) (now (a .twos))) (now (a .order))))
+    let s = start-from-shared-slice-known3 c in
+    let a = s .args in (
+      omega arith,
+      walking-none (a .e) (now (a .order)) (λ B. passed (a .r) B 0 (take 0 (now (a .order)))) (tritAt (now (a .vo)) (now (a .vt))) (s .pre .0)
+          (passed-nil (a .r) (matrixAt (a .w) (now (a .ones)) (now (a .twos))) (now (a .order))),
+    )
 
 mul-q : tie.Need-mul-q Inv-loop μ-loop
 mul-q c = omega arith
@@ -38,16 +56,22 @@ cast-q c =
 
 sub-supply-place : tie.Need-sub-supply-place Inv-loop μ-loop
 sub-supply-place c =
-    let s = c .before .before .before .before .before .before .before .before .before .before in
+    let at-loop = c .before .before .before .before in
+    let s = start-from-at-loop at-loop in
     let a = s .args in
-    let l = c .before .before .before .before .loop in
-    omega (arith, passed-count (now (a .order)) (matrixAt (a .w) (now (a .ones)) (now (a .twos))) {i = l .i} (s .pre .1 .1 .0) (omega arith) (s .pre .1 .1 .1 .0 .3) (l .inv .1))
+    let l = at-loop .loop in
+    omega (
+      arith,
+      passed-count (now (a .order)) (matrixAt (a .w) (now (a .ones)) (now (a .twos))) {i = l .i} (s .pre .1 .1 .0) (omega arith) (s .pre .1 .1 .1 .0 .3)
+          (l .inv .1),
+    )
 
 supply-place-requires : tie.Need-supply-place-requires Inv-loop μ-loop
 supply-place-requires c κs =
-    let s = c .before .before .before .before .before .before .before .before .before .before in
+    let at-loop = c .before .before .before .before in
+    let s = start-from-at-loop at-loop in
     let a = s .args in
-    let l = c .before .before .before .before .loop in
+    let l = at-loop .loop in
     let q = place-below (now (a .order)) (length (now (a .order))) (l .i) (s .pre .1 .1 .0) (omega arith) in
     let p = passed-count (now (a .order)) (matrixAt (a .w) (now (a .ones)) (now (a .twos))) {i = l .i} (s .pre .1 .1 .0) (omega arith) (s .pre .1 .1 .1 .0 .3) (l .inv .1) in (
       l .inv .1 .grid .rows,
@@ -55,7 +79,8 @@ supply-place-requires c κs =
         s .pre .1 .0,
         (
           (omega (arith, l .inv .1 .grid .rows .size, s .pre .0 .size), omega (arith, q), omega arith, s .pre .1 .1 .1 .0 .4),
-          supply-room (now (a .order)) (matrixAt (a .w) (now (a .ones)) (now (a .twos))) (s .pre .1 .1 .0) (omega arith) (s .pre .1 .1 .1 .0 .3) (l .inv .1) (a .m) (64 * length (now (a .vo))) (omega arith) (s .pre .1 .1 .1 .1) (omega (arith, p)),
+          supply-room (now (a .order)) (matrixAt (a .w) (now (a .ones)) (now (a .twos))) (s .pre .1 .1 .0) (omega arith) (s .pre .1 .1 .1 .0 .3) (l .inv .1)
+              (a .m) (64 * length (now (a .vo))) (omega arith) (s .pre .1 .1 .1 .1) (omega (arith, p)),
         ),
       ),
     )
@@ -68,26 +93,31 @@ loop-less c = omega arith
 
 loop-again : tie.Need-loop-again Inv-loop μ-loop
 loop-again c =
-    let s = c .before .before .before .before .before .before .before .before .before .before .before .before .before .before .before in
+    let after-supply-place = c .before .before .before .before in
+    let at-loop = at-loop-from-supply-place after-supply-place in
+    let s = start-from-at-loop at-loop in
     let a = s .args in
-    let l = c .before .before .before .before .before .before .before .before .before .loop in
-    let e = c .before .before .before .before .supply-place .ensures in
-    (omega arith, supply-turn (now (a .order)) (matrixAt (a .w) (now (a .ones)) (now (a .twos))) (s .pre .1 .1 .0) (omega arith) (s .pre .1 .1 .1 .0 .3) (tritAt (now (a .vo)) (now (a .vt))) (l .inv .1) (e .0) (e .1))
+    let l = at-loop .loop in
+    let e = after-supply-place .supply-place .ensures in (
+      omega arith,
+      supply-turn (now (a .order)) (matrixAt (a .w) (now (a .ones)) (now (a .twos))) (s .pre .1 .1 .0) (omega arith) (s .pre .1 .1 .1 .0 .3)
+          (tritAt (now (a .vo)) (now (a .vt))) (l .inv .1) (e .0) (e .1),
+    )
 
 same-length : tie.Need-same-length Inv-loop μ-loop
 same-length c =
-    let s = c .before .before .before .before .before .before .before in
+    let s = start-from-after-loop c in
     omega (arith, c .before .loop .inv .1 .grid .rows .size, s .pre .0 .size)
 
 same-length-2 : tie.Need-same-length-2 Inv-loop μ-loop
 same-length-2 c =
-    let s = c .before .before .before .before .before .before .before in
+    let s = start-from-after-loop c in
     let g = c .before .loop .inv .1 .grid .rows in
     omega (arith, g .size, g .row .same, s .pre .0 .size, s .pre .0 .row .same)
 
 returns : tie.Need-returns Inv-loop μ-loop
 returns c =
-    let a = c .before .before .before .before .before .before .before .args in
+    let a = start-from-after-loop c .args in
     let l = c .before .loop in
     let e : l .i ≡ a .m = omega arith in
     (rw e at (l .inv .1)) .grid

@@ -15,16 +15,40 @@ use Rattle.draw_walk.proofs.walk.supply_forced.Statement.{statement}
 use Rattle.draw_walk.proofs.walk.supply_forced.Tie as tie
 
 abbrev Inv-loop : tie.InvT-loop
-Inv-loop ones₀ twos₀ rows w order from bo bt co ct uo ut g ev e i₀ ones twos i = ((from ≤ i) × (i ≤ length order)) × Grid ones twos rows w (putRow e (fill (take (i - from) (drop from order)) (forcedAt order (matrixAt w ones₀ twos₀) from ev (tritAt bo bt) (tritAt co ct) (tritAt uo ut) g) ((matrixAt w ones₀ twos₀) e)) (matrixAt w ones₀ twos₀))
+Inv-loop ones₀ twos₀ rows w order from bo bt co ct uo ut g ev e i₀ ones twos i = ((from ≤ i) × (i ≤ length order)) ×
+    Grid ones twos rows w (putRow e (fill (take (i - from) (drop from order))
+    (forcedAt order (matrixAt w ones₀ twos₀) from ev (tritAt bo bt) (tritAt co ct) (tritAt uo ut) g) ((matrixAt w ones₀ twos₀) e)) (matrixAt w ones₀ twos₀))
 
 abbrev μ-loop : tie.MeasureT-loop
 μ-loop ones₀ twos₀ rows w order from bo bt co ct uo ut g ev e i₀ ones twos i = length order - i
 
+-- The places that the answers look back to, each from a later one.
+abbrev start-from-shared-slice-known7 : tie.After-shared-slice-known7 Inv-loop μ-loop → tie.Start Inv-loop μ-loop
+start-from-shared-slice-known7 c = c .before .before .before .before .before .before .before .before .before
+
+abbrev start-from-at-loop : tie.At-loop Inv-loop μ-loop → tie.Start Inv-loop μ-loop
+start-from-at-loop c = c .before .before .before .before .before .before .before .before .before .before
+
+abbrev start-from-in-loop : tie.In-loop Inv-loop μ-loop → tie.Start Inv-loop μ-loop
+start-from-in-loop c = start-from-at-loop (c .before)
+
+abbrev start-from-force-place : tie.After-force-place Inv-loop μ-loop → tie.Start Inv-loop μ-loop
+start-from-force-place c = start-from-in-loop (c .before .before .before .before)
+
+abbrev at-loop-from-force-place : tie.After-force-place Inv-loop μ-loop → tie.At-loop Inv-loop μ-loop
+at-loop-from-force-place c = c .before .before .before .before .before
+
+abbrev start-from-after-loop : tie.After-loop Inv-loop μ-loop → tie.Start Inv-loop μ-loop
+start-from-after-loop c = start-from-at-loop (c .before)
+
 loop-holds : tie.Need-loop-holds Inv-loop μ-loop
 loop-holds c =
-    let s = c .before .before .before .before .before .before .before .before .before in
-    let a = s .args in
-    ((omega arith, omega arith), forced-start (now (a .order)) (matrixAt (a .w) (now (a .ones)) (now (a .twos))) (a .from) (a .from) (a .e) (a .ev) (tritAt (now (a .bo)) (now (a .bt))) (tritAt (now (a .co)) (now (a .ct))) (tritAt (now (a .uo)) (now (a .ut))) (a .g) (s .pre .0) refl refl)
+    let s = start-from-shared-slice-known7 c in
+    let a = s .args in (
+      (omega arith, omega arith),
+      forced-start (now (a .order)) (matrixAt (a .w) (now (a .ones)) (now (a .twos))) (a .from) (a .from) (a .e) (a .ev) (tritAt (now (a .bo)) (now (a .bt)))
+          (tritAt (now (a .co)) (now (a .ct))) (tritAt (now (a .uo)) (now (a .ut))) (a .g) (s .pre .0) refl refl,
+    )
 
 mul-q : tie.Need-mul-q Inv-loop μ-loop
 mul-q c = omega arith
@@ -41,21 +65,35 @@ sub-j c = omega arith
 
 add-j : tie.Need-add-j Inv-loop μ-loop
 add-j c =
-    let s = c .before .before .before .before .before .before .before .before .before .before .before .before in
+    let s = start-from-in-loop (c .before) in
     let p = s .pre .1 .1 .1 in
     omega (arith, p .0 .1, p .0 .2, p .0 .3, p .1 .3)
 
 force-place-requires : tie.Need-force-place-requires Inv-loop μ-loop
 force-place-requires c κs =
-    let s = c .before .before .before .before .before .before .before .before .before .before .before .before .before .before in
+    let at-loop = c .before .before .before .before in
+    let s = start-from-at-loop at-loop in
     let a = s .args in
-    let l = c .before .before .before .before .loop in
-    let q = place-below (now (a .order)) (length (now (a .order))) (l .i) (s .pre .1 .1 .0) (omega arith) in
-    (l .inv .1 .rows, (s .pre .1 .0, (omega (arith, l .inv .1 .rows .size, s .pre .0 .size), omega (arith, q), s .pre .1 .1 .1 .0 .4, s .pre .1 .1 .1 .0 .5, omega (arith, q), omega (arith, q), omega arith)))
+    let l = at-loop .loop in
+    let q = place-below (now (a .order)) (length (now (a .order))) (l .i) (s .pre .1 .1 .0) (omega arith) in (
+      l .inv .1 .rows,
+      (
+        s .pre .1 .0,
+        (
+          omega (arith, l .inv .1 .rows .size, s .pre .0 .size),
+          omega (arith, q),
+          s .pre .1 .1 .1 .0 .4,
+          s .pre .1 .1 .1 .0 .5,
+          omega (arith, q),
+          omega (arith, q),
+          omega arith,
+        ),
+      ),
+    )
 
 add-i : tie.Need-add-i Inv-loop μ-loop
 add-i c =
-    let s = c .before .before .before .before .before .before .before .before .before .before .before .before .before .before .before .before .before .before .before in
+    let s = start-from-force-place (c .before .before .before .before) in
     let p = s .pre .1 .1 .1 in
     omega (arith, p .0 .1, p .0 .2)
 
@@ -64,27 +102,33 @@ loop-less c = omega arith
 
 loop-again : tie.Need-loop-again Inv-loop μ-loop
 loop-again c =
-    let s = c .before .before .before .before .before .before .before .before .before .before .before .before .before .before .before .before .before .before .before in
+    let after-force-place = c .before .before .before .before in
+    let s = start-from-at-loop (at-loop-from-force-place after-force-place) in
     let a = s .args in
-    let l = c .before .before .before .before .before .before .before .before .before .loop in
-    ((omega arith, omega arith), forced-turn (now (a .order)) (matrixAt (a .w) (now (a .ones)) (now (a .twos))) (a .from) (l .i) (a .e) (a .ev) (tritAt (now (a .bo)) (now (a .bt))) (tritAt (now (a .co)) (now (a .ct))) (tritAt (now (a .uo)) (now (a .ut))) (a .g) (s .pre .1 .1 .0) (omega arith) (omega arith) (s .pre .1 .1 .1 .0 .6) (l .inv .1) (c .before .before .before .before .force-place .ensures))
+    let l = after-force-place .before .before .before .before .before .loop in (
+      (omega arith, omega arith),
+      forced-turn (now (a .order)) (matrixAt (a .w) (now (a .ones)) (now (a .twos))) (a .from) (l .i) (a .e) (a .ev) (tritAt (now (a .bo)) (now (a .bt)))
+          (tritAt (now (a .co)) (now (a .ct))) (tritAt (now (a .uo)) (now (a .ut))) (a .g) (s .pre .1 .1 .0) (omega arith) (omega arith) (s .pre .1 .1 .1 .0 .6)
+          (l .inv .1) (after-force-place .force-place .ensures),
+    )
 
 same-length : tie.Need-same-length Inv-loop μ-loop
 same-length c =
-    let s = c .before .before .before .before .before .before .before .before .before .before .before in
+    let s = start-from-after-loop c in
     omega (arith, c .before .loop .inv .1 .rows .size, s .pre .0 .size)
 
 same-length-2 : tie.Need-same-length-2 Inv-loop μ-loop
 same-length-2 c =
-    let s = c .before .before .before .before .before .before .before .before .before .before .before in
+    let s = start-from-after-loop c in
     let g = c .before .loop .inv .1 .rows in
     omega (arith, g .size, g .row .same, s .pre .0 .size, s .pre .0 .row .same)
 
 returns : tie.Need-returns Inv-loop μ-loop
 returns c =
-    let a = c .before .before .before .before .before .before .before .before .before .before .before .args in
+    let a = start-from-after-loop c .args in
     let l = c .before .loop in
-    forced-all (now (a .order)) (matrixAt (a .w) (now (a .ones)) (now (a .twos))) (a .from) (l .i) (a .e) (a .ev) (tritAt (now (a .bo)) (now (a .bt))) (tritAt (now (a .co)) (now (a .ct))) (tritAt (now (a .uo)) (now (a .ut))) (a .g) (omega arith) (l .inv .1)
+    forced-all (now (a .order)) (matrixAt (a .w) (now (a .ones)) (now (a .twos))) (a .from) (l .i) (a .e) (a .ev) (tritAt (now (a .bo)) (now (a .bt)))
+    (tritAt (now (a .co)) (now (a .ct))) (tritAt (now (a .uo)) (now (a .ut))) (a .g) (omega arith) (l .inv .1)
 
 pub supply-forced-spec : {M : Type 1} → statement M
 supply-forced-spec =

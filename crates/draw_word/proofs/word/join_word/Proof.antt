@@ -10,33 +10,45 @@ use borrow.Author.Needs.{needs}
 use Rattle.draw_word.proofs.word.join_word.Statement.{statement}
 use Rattle.draw_word.proofs.word.join_word.Tie as tie
 
+-- The places that the answers look back to, each from a later one.
+abbrev start-from-shape-of : tie.After-shape-of → tie.Start
+start-from-shape-of c = c .before .before .before .before .before .before .before
+
+abbrev join-halves-from-pair-weight-arg2 : tie.After-pair-weight-arg2 → tie.After-join-halves
+join-halves-from-pair-weight-arg2 c = c .before .before .before .before .before .before
+
 shape-of-requires : tie.Need-shape-of-requires
 shape-of-requires c κs = search needs
 
 add-rows : tie.Need-add-rows
-add-rows c = omega (arith, c .before .before .before .before .before .before .before .pre .1 .1 .1 .0)
+add-rows c = omega (arith, start-from-shape-of c .pre .1 .1 .1 .0)
 
 add-v : tie.Need-add-v
-add-v c = omega (arith, c .before .before .before .before .before .before .before .pre .1 .1 .1 .0)
+add-v c = omega (arith, start-from-shape-of c .pre .1 .1 .1 .0)
 
 add-u : tie.Need-add-u
-add-u c = omega (arith, c .before .before .before .before .before .before .before .pre .1 .1 .1 .0)
+add-u c = omega (arith, start-from-shape-of c .pre .1 .1 .1 .0)
 
 add-join-halves : tie.Need-add-join-halves
-add-join-halves c = omega (arith, c .before .before .before .before .before .before .before .before .before .pre .1 .1 .1 .0)
+add-join-halves c = omega (arith, start-from-shape-of (c .before .before) .pre .1 .1 .1 .0)
 
 join-halves-requires : tie.Need-join-halves-requires
 join-halves-requires c κs =
-    let s = c .before .before .before .before .before .before .before .before .before in
+    let s = start-from-shape-of (c .before .before) in
     let y = s .pre .1 .1 .0 in
-    rw (c .before .before .shape-of .ensures) (s .pre .1 .1 .1 .1, (s .pre .1 .0, (omega arith, omega arith, omega arith, λ w. omega arith, λ w. omega arith, y .0, y .1)))
+    rw (c .before .before .shape-of .ensures) (
+      s .pre .1 .1 .1 .1,
+      (s .pre .1 .0, (omega arith, omega arith, omega arith, λ w. omega arith, λ w. omega arith, y .0, y .1)),
+    )
 
 pair-weight-requires : tie.Need-pair-weight-requires
 pair-weight-requires c κs =
-    let s = c .before .before .before .before .before .before .before .before .before .before .before .before .before .before .before .before in
+    let after-join-halves = c .before .before .before .before .before .before in
+    let after-shape-of = after-join-halves .before .before .before in
+    let s = start-from-shape-of after-shape-of in
     let b = bounds (s .args .z) (s .pre .0) in
-    let e = c .before .before .before .before .before .before .before .before .before .shape-of .ensures in
-    rw e ((rw e at (c .before .before .before .before .before .before .join-halves .ensures)) .rows, (omega (arith, s .pre .1 .1 .1 .0), omega (arith, b .high), omega arith, omega arith))
+    let e = after-shape-of .shape-of .ensures in
+    rw e ((rw e at (after-join-halves .join-halves .ensures)) .rows, (omega (arith, s .pre .1 .1 .1 .0), omega (arith, b .high), omega arith, omega arith))
 
 same-length : tie.Need-same-length
 same-length c = search needs
@@ -46,10 +58,17 @@ same-length-2 c = search needs
 
 returns : tie.Need-returns
 returns c =
-    let a = c .before .before .before .before .before .before .before .before .before .before .before .before .before .before .before .before .before .args in
-    let e = c .before .before .before .before .before .before .before .before .before .before .shape-of .ensures in
-    let j = rw e at (c .before .before .before .before .before .before .before .join-halves .ensures) in
-    (j .rows, word-joined (a .l) (pairsOf (now (a .b-ones)) (now (a .b-twos)) (now (a .c-ones)) (now (a .c-twos))) (halfWords (a .z)) _ _ _ _ j, rw e at (c .pair-weight .ensures))
+    let after-work-ones = c .before .before .before .before .before .before in
+    let after-join-halves = after-work-ones .before in
+    let after-shape-of = after-join-halves .before .before .before in
+    let start = start-from-shape-of after-shape-of in
+    let a = start .args in
+    let e = after-shape-of .shape-of .ensures in
+    let j = rw e at (after-join-halves .join-halves .ensures) in (
+      j .rows,
+      word-joined (a .l) (pairsOf (now (a .b-ones)) (now (a .b-twos)) (now (a .c-ones)) (now (a .c-twos))) (halfWords (a .z)) _ _ _ _ j,
+      rw e at (c .pair-weight .ensures),
+    )
 
 pub join-word-spec : {M : Type 1} → statement M
 join-word-spec =

@@ -14,13 +14,79 @@ use borrow.Author.Needs.{needs}
 use Rattle.draw_word.proofs.word.make_word.Statement.{statement}
 use Rattle.draw_word.proofs.word.make_word.Tie as tie
 
+-- The places that the answers look back to, each from a later one.
+abbrev start-from-part-word-arg2 : tie.After-part-word-arg2 → tie.Start
+start-from-part-word-arg2 c =
+    c .before .before .before .before .before .before .before .before .before .before .before .before .before .before .before .before .before .before .before .before .before
+
+abbrev part-word-from-solve-halves-arg2 : tie.After-solve-halves-arg2 → tie.After-part-word
+part-word-from-solve-halves-arg2 c = c .before .before .before .before .before .before
+
+abbrev start-from-part-word : tie.After-part-word → tie.Start
+start-from-part-word c =
+    c .before .before .before .before .before .before .before .before .before .before .before .before .before .before .before .before .before .before .before .before .before .before
+
+abbrev solve-halves-from-then1 : tie.Then1 → tie.After-solve-halves
+solve-halves-from-then1 c = c .before .before .before .before .before .before
+
+abbrev part-word-from-solve-halves : tie.After-solve-halves → tie.After-part-word
+part-word-from-solve-halves c = c .before .before .before .before .before .before .before
+
+abbrev start-from-solve-halves : tie.After-solve-halves → tie.Start
+start-from-solve-halves c = start-from-part-word (part-word-from-solve-halves c)
+
+abbrev solve-halves-from-else1 : tie.Else1 → tie.After-solve-halves
+solve-halves-from-else1 c = c .before .before .before .before .before .before
+
+abbrev join-word-from-then2 : tie.Then2 → tie.After-join-word
+join-word-from-then2 c = c .before .before .before .before .before .before
+
+abbrev solve-halves-from-code : tie.After-code → tie.After-solve-halves
+solve-halves-from-code c = c .before .before .before .before .before
+
+abbrev join-word-from-else2 : tie.Else2 → tie.After-join-word
+join-word-from-else2 c = c .before .before .before .before .before .before
+
 part-word-requires : tie.Need-part-word-requires
 part-word-requires c κs =
-    let s = c .before .before .before .before .before .before .before .before .before .before .before .before .before .before .before .before .before .before .before .before .before in let a = s .args in let b = bounds (a .z) (s .pre .0) in let r = s .pre .1 .0 in let k = r .secret in let m = s .pre .1 .1 in let i = (given (planes (now (a .hu-ones)) (now (a .hu-twos)) (now (a .hv-ones)) (now (a .hv-twos)) (now (a .b-ones)) (now (a .b-twos)) (now (a .c-ones)) (now (a .c-twos))) (now (a .p)) (now (a .y-ones)) (now (a .y-twos)) (now (a .v-order)) (now (a .v-ones)) (now (a .v-twos)) (now (a .u-order)) (now (a .u-ones)) (now (a .u-twos))) in (s .pre .0, ((k .b, k .c), ((k .bSize, k .cSize), (r .p, ((r .ySize, r .y .same), (m .2, m .3, m .4))))))
+    let s = start-from-part-word-arg2 c in
+    let a = s .args in
+    let b = bounds (a .z) (s .pre .0) in
+    let r = s .pre .1 .0 in
+    let k = r .secret in
+    let m = s .pre .1 .1 in
+    let i =
+    (given (planes (now (a .hu-ones)) (now (a .hu-twos)) (now (a .hv-ones)) (now (a .hv-twos)) (now (a .b-ones)) (now (a .b-twos)) (now (a .c-ones))
+    (now (a .c-twos))) (now (a .p)) (now (a .y-ones)) (now (a .y-twos)) (now (a .v-order)) (now (a .v-ones)) (now (a .v-twos)) (now (a .u-order))
+    (now (a .u-ones)) (now (a .u-twos))) in
+    (s .pre .0, ((k .b, k .c), ((k .bSize, k .cSize), (r .p, ((r .ySize, r .y .same), (m .2, m .3, m .4))))))
 
 solve-halves-requires : tie.Need-solve-halves-requires
 solve-halves-requires c κs =
-    let s = c .before .before .before .before .before .before .before .before .before .before .before .before .before .before .before .before .before .before .before .before .before .before .before .before .before .before .before .before in let a = s .args in let b = bounds (a .z) (s .pre .0) in let r = s .pre .1 .0 in let k = r .secret in let m = s .pre .1 .1 in let i = (given (planes (now (a .hu-ones)) (now (a .hu-twos)) (now (a .hv-ones)) (now (a .hv-twos)) (now (a .b-ones)) (now (a .b-twos)) (now (a .c-ones)) (now (a .c-twos))) (now (a .p)) (now (a .y-ones)) (now (a .y-twos)) (now (a .v-order)) (now (a .v-ones)) (now (a .v-twos)) (now (a .u-order)) (now (a .u-ones)) (now (a .u-twos))) in let t = c .before .before .before .before .before .before .part-word .ensures .1 in (s .pre .0, (k, ((r .orderV, r .orderU, r .v, r .u), ((r .vSize, r .uSize), ((m .0, m .1, m .2), (c .before .before .before .before .before .before .part-word .ensures .0, (upto-row _ (t .left), upto-row _ (t .right), t .emptyV, t .emptyU)))))))
+    let after-part-word = part-word-from-solve-halves-arg2 c in
+    let s = start-from-part-word after-part-word in
+    let a = s .args in
+    let b = bounds (a .z) (s .pre .0) in
+    let r = s .pre .1 .0 in
+    let k = r .secret in
+    let m = s .pre .1 .1 in
+    let i =
+    (given (planes (now (a .hu-ones)) (now (a .hu-twos)) (now (a .hv-ones)) (now (a .hv-twos)) (now (a .b-ones)) (now (a .b-twos)) (now (a .c-ones))
+    (now (a .c-twos))) (now (a .p)) (now (a .y-ones)) (now (a .y-twos)) (now (a .v-order)) (now (a .v-ones)) (now (a .v-twos)) (now (a .u-order))
+    (now (a .u-ones)) (now (a .u-twos))) in
+    let t = after-part-word .part-word .ensures .1 in (
+      s .pre .0,
+      (
+        k,
+        (
+          (r .orderV, r .orderU, r .v, r .u),
+          (
+            (r .vSize, r .uSize),
+            ((m .0, m .1, m .2), (after-part-word .part-word .ensures .0, (upto-row _ (t .left), upto-row _ (t .right), t .emptyV, t .emptyU))),
+          ),
+        ),
+      ),
+    )
 
 code-requires : tie.Need-code-requires
 code-requires c κs = search needs
@@ -33,11 +99,37 @@ same-length-2 c = search needs
 
 returns : tie.Need-returns
 returns c =
-    let s = c .before .before .before .before .before .before .before .before .before .before .before .before .before .before .before .before .before .before .before .before .before .before .before .before .before .before .before .before .before .before .before .before .before .before .before in let a = s .args in let b = bounds (a .z) (s .pre .0) in let r = s .pre .1 .0 in let k = r .secret in let m = s .pre .1 .1 in let i = (given (planes (now (a .hu-ones)) (now (a .hu-twos)) (now (a .hv-ones)) (now (a .hv-twos)) (now (a .b-ones)) (now (a .b-twos)) (now (a .c-ones)) (now (a .c-twos))) (now (a .p)) (now (a .y-ones)) (now (a .y-twos)) (now (a .v-order)) (now (a .v-ones)) (now (a .v-twos)) (now (a .u-order)) (now (a .u-ones)) (now (a .u-twos))) in let e = c .before .before .before .before .before .before .solve-halves .ensures .0 in (ending-ranks (a .z) i e (λ y. c .if1 .taken (c .before .code .ensures ∙ y)), c .before .before .before .before .before .before .solve-halves .ensures .1, unmade (positive _ (λ y. c .if1 .taken (c .before .code .ensures ∙ y))))
+    let after-solve-halves = solve-halves-from-then1 c in
+    let s = start-from-solve-halves after-solve-halves in
+    let a = s .args in
+    let b = bounds (a .z) (s .pre .0) in
+    let r = s .pre .1 .0 in
+    let k = r .secret in
+    let m = s .pre .1 .1 in
+    let i =
+    (given (planes (now (a .hu-ones)) (now (a .hu-twos)) (now (a .hv-ones)) (now (a .hv-twos)) (now (a .b-ones)) (now (a .b-twos)) (now (a .c-ones))
+    (now (a .c-twos))) (now (a .p)) (now (a .y-ones)) (now (a .y-twos)) (now (a .v-order)) (now (a .v-ones)) (now (a .v-twos)) (now (a .u-order))
+    (now (a .u-ones)) (now (a .u-twos))) in
+    let e = after-solve-halves .solve-halves .ensures .0 in (
+      ending-ranks (a .z) i e (λ y. c .if1 .taken (c .before .code .ensures ∙ y)),
+      after-solve-halves .solve-halves .ensures .1,
+      unmade (positive _ (λ y. c .if1 .taken (c .before .code .ensures ∙ y))),
+    )
 
 join-word-requires : tie.Need-join-word-requires
 join-word-requires c κs =
-    let s = c .before .before .before .before .before .before .before .before .before .before .before .before .before .before .before .before .before .before .before .before .before .before .before .before .before .before .before .before .before .before .before .before .before .before .before .before .before in let a = s .args in let b = bounds (a .z) (s .pre .0) in let r = s .pre .1 .0 in let k = r .secret in let m = s .pre .1 .1 in let i = (given (planes (now (a .hu-ones)) (now (a .hu-twos)) (now (a .hv-ones)) (now (a .hv-twos)) (now (a .b-ones)) (now (a .b-twos)) (now (a .c-ones)) (now (a .c-twos))) (now (a .p)) (now (a .y-ones)) (now (a .y-twos)) (now (a .v-order)) (now (a .v-ones)) (now (a .v-twos)) (now (a .u-order)) (now (a .u-ones)) (now (a .u-twos))) in (s .pre .0, ((k .b, k .c), ((k .bSize, k .cSize), (m .2, c .before .before .before .before .before .before .before .before .solve-halves .ensures .1))))
+    let after-solve-halves = solve-halves-from-else1 (c .before .before) in
+    let s = start-from-solve-halves after-solve-halves in
+    let a = s .args in
+    let b = bounds (a .z) (s .pre .0) in
+    let r = s .pre .1 .0 in
+    let k = r .secret in
+    let m = s .pre .1 .1 in
+    let i =
+    (given (planes (now (a .hu-ones)) (now (a .hu-twos)) (now (a .hv-ones)) (now (a .hv-twos)) (now (a .b-ones)) (now (a .b-twos)) (now (a .c-ones))
+    (now (a .c-twos))) (now (a .p)) (now (a .y-ones)) (now (a .y-twos)) (now (a .v-order)) (now (a .v-ones)) (now (a .v-twos)) (now (a .u-order))
+    (now (a .u-ones)) (now (a .u-twos))) in
+    (s .pre .0, ((k .b, k .c), ((k .bSize, k .cSize), (m .2, after-solve-halves .solve-halves .ensures .1))))
 
 same-length-3 : tie.Need-same-length-3
 same-length-3 c = search needs
@@ -47,7 +139,29 @@ same-length-4 c = search needs
 
 returns-2 : tie.Need-returns-2
 returns-2 c =
-    let s = c .before .before .before .before .before .before .before .before .before .before .before .before .before .before .before .before .before .before .before .before .before .before .before .before .before .before .before .before .before .before .before .before .before .before .before .before .before .before .before .before .before .before .before .before in let a = s .args in let b = bounds (a .z) (s .pre .0) in let r = s .pre .1 .0 in let k = r .secret in let m = s .pre .1 .1 in let i = (given (planes (now (a .hu-ones)) (now (a .hu-twos)) (now (a .hv-ones)) (now (a .hv-twos)) (now (a .b-ones)) (now (a .b-twos)) (now (a .c-ones)) (now (a .c-twos))) (now (a .p)) (now (a .y-ones)) (now (a .y-twos)) (now (a .v-order)) (now (a .v-ones)) (now (a .v-twos)) (now (a .u-order)) (now (a .u-ones)) (now (a .u-twos))) in let n = sym (c .before .before .before .before .before .before .before .before .before .before .code .ensures) ∙ c .before .before .before .before .before .before .before .before .before .if1 .left in let e = sym (c .before .before .before .before .before .before .before .before .before .before .before .before .before .before .before .solve-halves .ensures .0) ∙ n in let h = b .high in (ending-fourteen (a .z) i e (a .l) r (c .before .before .before .before .before .before .before .before .before .before .before .before .before .before .before .before .before .before .before .before .before .before .part-word .ensures .1) n (c .before .before .before .before .before .before .before .before .before .before .before .before .before .before .before .solve-halves .ensures .2) (c .before .before .before .before .before .before .join-word .ensures .1) (64 * halfWords (a .z)) (omega (arith, h)) (c .before .before .before .before .before .before .join-word .ensures .2) (c .if2 .taken), c .before .before .before .before .before .before .join-word .ensures .0, unmade (lit< tt))
+    let after-join-word = join-word-from-then2 c in
+    let else1 = after-join-word .before .before .before in
+    let after-code = else1 .before in
+    let after-solve-halves = solve-halves-from-code after-code in
+    let after-part-word = part-word-from-solve-halves after-solve-halves in
+    let s = start-from-part-word after-part-word in
+    let a = s .args in
+    let b = bounds (a .z) (s .pre .0) in
+    let r = s .pre .1 .0 in
+    let k = r .secret in
+    let m = s .pre .1 .1 in
+    let i =
+    (given (planes (now (a .hu-ones)) (now (a .hu-twos)) (now (a .hv-ones)) (now (a .hv-twos)) (now (a .b-ones)) (now (a .b-twos)) (now (a .c-ones))
+    (now (a .c-twos))) (now (a .p)) (now (a .y-ones)) (now (a .y-twos)) (now (a .v-order)) (now (a .v-ones)) (now (a .v-twos)) (now (a .u-order))
+    (now (a .u-ones)) (now (a .u-twos))) in
+    let n = sym (after-code .code .ensures) ∙ else1 .if1 .left in
+    let e = sym (after-solve-halves .solve-halves .ensures .0) ∙ n in
+    let h = b .high in (
+      ending-fourteen (a .z) i e (a .l) r (after-part-word .part-word .ensures .1) n (after-solve-halves .solve-halves .ensures .2)
+          (after-join-word .join-word .ensures .1) (64 * halfWords (a .z)) (omega (arith, h)) (after-join-word .join-word .ensures .2) (c .if2 .taken),
+      after-join-word .join-word .ensures .0,
+      unmade (lit< tt),
+    )
 
 same-length-5 : tie.Need-same-length-5
 same-length-5 c = search needs
@@ -57,7 +171,30 @@ same-length-6 c = search needs
 
 returns-3 : tie.Need-returns-3
 returns-3 c =
-    let s = c .before .before .before .before .before .before .before .before .before .before .before .before .before .before .before .before .before .before .before .before .before .before .before .before .before .before .before .before .before .before .before .before .before .before .before .before .before .before .before .before .before .before .before .before in let a = s .args in let b = bounds (a .z) (s .pre .0) in let r = s .pre .1 .0 in let k = r .secret in let m = s .pre .1 .1 in let i = (given (planes (now (a .hu-ones)) (now (a .hu-twos)) (now (a .hv-ones)) (now (a .hv-twos)) (now (a .b-ones)) (now (a .b-twos)) (now (a .c-ones)) (now (a .c-twos))) (now (a .p)) (now (a .y-ones)) (now (a .y-twos)) (now (a .v-order)) (now (a .v-ones)) (now (a .v-twos)) (now (a .u-order)) (now (a .u-ones)) (now (a .u-twos))) in let n = sym (c .before .before .before .before .before .before .before .before .before .before .code .ensures) ∙ c .before .before .before .before .before .before .before .before .before .if1 .left in let e = sym (c .before .before .before .before .before .before .before .before .before .before .before .before .before .before .before .solve-halves .ensures .0) ∙ n in let h = b .high in (ending-none (a .z) i e (a .l) r (c .before .before .before .before .before .before .before .before .before .before .before .before .before .before .before .before .before .before .before .before .before .before .part-word .ensures .1) n (c .before .before .before .before .before .before .before .before .before .before .before .before .before .before .before .solve-halves .ensures .2) (c .before .before .before .before .before .before .join-word .ensures .1) (64 * halfWords (a .z)) (omega (arith, h)) (c .before .before .before .before .before .before .join-word .ensures .2) (c .if2 .left), c .before .before .before .before .before .before .join-word .ensures .0, made (a .z) i e (a .l) r (c .before .before .before .before .before .before .before .before .before .before .before .before .before .before .before .before .before .before .before .before .before .before .part-word .ensures .1) n (c .before .before .before .before .before .before .before .before .before .before .before .before .before .before .before .solve-halves .ensures .2) (c .before .before .before .before .before .before .join-word .ensures .1))
+    let after-join-word = join-word-from-else2 c in
+    let else1 = after-join-word .before .before .before in
+    let after-code = else1 .before in
+    let after-solve-halves = solve-halves-from-code after-code in
+    let after-part-word = part-word-from-solve-halves after-solve-halves in
+    let s = start-from-part-word after-part-word in
+    let a = s .args in
+    let b = bounds (a .z) (s .pre .0) in
+    let r = s .pre .1 .0 in
+    let k = r .secret in
+    let m = s .pre .1 .1 in
+    let i =
+    (given (planes (now (a .hu-ones)) (now (a .hu-twos)) (now (a .hv-ones)) (now (a .hv-twos)) (now (a .b-ones)) (now (a .b-twos)) (now (a .c-ones))
+    (now (a .c-twos))) (now (a .p)) (now (a .y-ones)) (now (a .y-twos)) (now (a .v-order)) (now (a .v-ones)) (now (a .v-twos)) (now (a .u-order))
+    (now (a .u-ones)) (now (a .u-twos))) in
+    let n = sym (after-code .code .ensures) ∙ else1 .if1 .left in
+    let e = sym (after-solve-halves .solve-halves .ensures .0) ∙ n in
+    let h = b .high in (
+      ending-none (a .z) i e (a .l) r (after-part-word .part-word .ensures .1) n (after-solve-halves .solve-halves .ensures .2)
+          (after-join-word .join-word .ensures .1) (64 * halfWords (a .z)) (omega (arith, h)) (after-join-word .join-word .ensures .2) (c .if2 .left),
+      after-join-word .join-word .ensures .0,
+      made (a .z) i e (a .l) r (after-part-word .part-word .ensures .1) n (after-solve-halves .solve-halves .ensures .2)
+          (after-join-word .join-word .ensures .1),
+    )
 
 pub make-word-spec : {M : Type 1} → statement M
 make-word-spec =

@@ -12,32 +12,48 @@ use borrow.Author.Needs.{needs}
 use Rattle.draw_word.proofs.word.part_word.Statement.{statement}
 use Rattle.draw_word.proofs.word.part_word.Tie as tie
 
+-- The places that the answers look back to, each from a later one.
+abbrev start-from-shape-of : tie.After-shape-of → tie.Start
+start-from-shape-of c = c .before .before .before .before .before .before .before .before .before .before
+
+abbrev clear-from-place-syndrome-arg2 : tie.After-place-syndrome-arg2 → tie.After-clear
+clear-from-place-syndrome-arg2 c = c .before .before .before .before .before .before
+
+abbrev clear-from-place-syndrome : tie.After-place-syndrome → tie.After-clear
+clear-from-place-syndrome c = c .before .before .before .before .before .before .before
+
+abbrev shape-of-from-place-syndrome : tie.After-place-syndrome → tie.After-shape-of
+shape-of-from-place-syndrome c = clear-from-place-syndrome c .before .before .before .before
+
 shape-of-requires : tie.Need-shape-of-requires
 shape-of-requires c κs = search needs
 
 add-count : tie.Need-add-count
 add-count c =
-    let s = c .before .before .before .before .before .before .before .before .before .before .before in rw (c .before .shape-of .ensures) (omega (arith, bounds (s .args .z) (s .pre .0) .high))
+    let s = start-from-shape-of (c .before) in
+    rw (c .before .shape-of .ensures) (omega (arith, bounds (s .args .z) (s .pre .0) .high))
 
 add-rows : tie.Need-add-rows
-add-rows c = omega (arith, c .before .before .before .before .before .before .before .before .before .before .before .pre .1 .1 .1 .1 .1 .0)
+add-rows c = omega (arith, start-from-shape-of (c .before) .pre .1 .1 .1 .1 .1 .0)
 
 clear-requires : tie.Need-clear-requires
 clear-requires c κs = search needs
 
 place-syndrome-requires : tie.Need-place-syndrome-requires
 place-syndrome-requires c κs =
-    let s = c .before .before .before .before .before .before .before .before .before .before .before .before .before .before .before .before .before .before .before .before in
+    let after-clear = clear-from-place-syndrome-arg2 c in
+    let after-shape-of = after-clear .before .before .before .before in
+    let s = start-from-shape-of after-shape-of in
     let a = s .args in
     let b = bounds (a .z) (s .pre .0) in
     let m = s .pre .1 .1 .1 .1 .1 in
     let y = s .pre .1 .1 .1 .1 .0 in
-    let q = c .before .before .before .before .before .before .clear .ensures in
+    let q = after-clear .clear .ensures in
     let h = b .high in
     let big = prod (a .l + 5) (halfWords (a .z)) 8197 128 (omega (arith, m .0)) (omega (arith, h)) in
     let r = space-rows _ _ (a .l + 5) (halfWords (a .z)) (q .0) (q .1) (m .1) (m .2) in
     let none = space-empty _ _ (a .l + 5) (halfWords (a .z)) (q .0) (q .1) (m .1) (m .2) in
-    rw (c .before .before .before .before .before .before .before .before .before .before .shape-of .ensures) (
+    rw (after-shape-of .shape-of .ensures) (
       r,
       (
         (none (a .l), none (a .l + 1)),
@@ -47,9 +63,12 @@ place-syndrome-requires c κs =
 
 part-halves-requires : tie.Need-part-halves-requires
 part-halves-requires c κs =
-    let s = c .before .before .before .before .before .before .before .before .before .before .before .before .before .before .before .before .before .before .before .before .before .before .before .before .before .before .before in
-    let e = c .before .before .before .before .before .before .before .before .before .before .before .before .before .before .before .before .before .shape-of .ensures in
-    rw e ((rw e at (c .before .before .before .before .before .before .place-syndrome .ensures)) .rows, (s .pre .1 .0, (omega arith, s .pre .1 .1 .0 .0, s .pre .1 .1 .0 .1)))
+    let after-place-syndrome = c .before .before .before .before .before .before in
+    let after-work-ones = after-place-syndrome .before .before .before .before .before .before in
+    let after-shape-of = after-work-ones .before .before .before .before .before in
+    let s = start-from-shape-of after-shape-of in
+    let e = after-shape-of .shape-of .ensures in
+    rw e ((rw e at (after-place-syndrome .place-syndrome .ensures)) .rows, (s .pre .1 .0, (omega arith, s .pre .1 .1 .0 .0, s .pre .1 .1 .0 .1)))
 
 same-length : tie.Need-same-length
 same-length c = search needs
@@ -59,16 +78,22 @@ same-length-2 c = search needs
 
 returns : tie.Need-returns
 returns c =
-    let s = c .before .before .before .before .before .before .before .before .before .before .before .before .before .before .before .before .before .before .before .before .before .before .before .before .before .before .before .before .before .before .before .before in
+    let after-part-halves = c .before .before .before .before in
+    let after-work-ones2 = after-part-halves .before .before .before .before .before .before in
+    let after-place-syndrome = after-work-ones2 .before in
+    let after-work-ones = after-place-syndrome .before .before .before .before .before .before in
+    let after-clear = after-work-ones .before in
+    let after-shape-of = after-clear .before .before .before .before in
+    let s = start-from-shape-of after-shape-of in
     let a = s .args in
     let m = s .pre .1 .1 .1 .1 .1 in
-    let q = c .before .before .before .before .before .before .before .before .before .before .before .before .before .before .before .before .before .before .clear .ensures in
-    let e = c .before .before .before .before .before .before .before .before .before .before .before .before .before .before .before .before .before .before .before .before .before .before .shape-of .ensures in
-    let h = rw e at (c .before .before .before .before .part-halves .ensures) in (
+    let q = after-clear .clear .ensures in
+    let e = after-shape-of .shape-of .ensures in
+    let h = rw e at (after-part-halves .part-halves .ensures) in (
       h .rows,
       word-parted (a .z) (a .l) (pairsOf (now (a .b-ones)) (now (a .b-twos)) (now (a .c-ones)) (now (a .c-twos)))
           (startWord (a .z) (now (a .p)) (tritAt (now (a .y-ones)) (now (a .y-twos)))) (halfWords (a .z)) _ _ _ _ _ _
-          (space-empty _ _ (a .l + 5) (halfWords (a .z)) (q .0) (q .1) (m .1) (m .2)) (rw e at (c .before .before .before .before .before .before .before .before .before .before .before .place-syndrome .ensures)) h,
+          (space-empty _ _ (a .l + 5) (halfWords (a .z)) (q .0) (q .1) (m .1) (m .2)) (rw e at (after-place-syndrome .place-syndrome .ensures)) h,
     )
 
 pub part-word-spec : {M : Type 1} → statement M

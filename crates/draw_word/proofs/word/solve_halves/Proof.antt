@@ -20,31 +20,37 @@ use Rattle.draw_word.proofs.word.solve_halves.Tie as tie
 abbrev secret : tie.Start → Secret
 secret s =
     let a = s .args in
-    secretOf (a .z) (planes (now (a .hu-ones)) (now (a .hu-twos)) (now (a .hv-ones)) (now (a .hv-twos)) (now (a .b-ones)) (now (a .b-twos)) (now (a .c-ones)) (now (a .c-twos)))
+    secretOf (a .z) (planes (now (a .hu-ones)) (now (a .hu-twos)) (now (a .hv-ones)) (now (a .hv-twos)) (now (a .b-ones)) (now (a .b-twos)) (now (a .c-ones))
+    (now (a .c-twos)))
 
 abbrev chosen : tie.Start → Choices
 chosen s =
     let a = s .args in
     choices (now (a .v-order)) (now (a .v-ones)) (now (a .v-twos)) (now (a .u-order)) (now (a .u-ones)) (now (a .u-twos))
 
+-- The places that the answers look back to, each from a later one.
+abbrev start-from-shape-of : tie.After-shape-of → tie.Start
+start-from-shape-of c =
+    c .before .before .before .before .before .before .before .before .before .before .before .before .before .before .before .before .before
+
 shape-of-requires : tie.Need-shape-of-requires
 shape-of-requires c κs = search needs
 
 add-rows : tie.Need-add-rows
-add-rows c = omega (arith, c .before .before .before .before .before .before .before .before .before .before .before .before .before .before .before .before .before .pre .1 .1 .1 .1 .0 .2)
+add-rows c = omega (arith, start-from-shape-of c .pre .1 .1 .1 .1 .0 .2)
 
 add-v : tie.Need-add-v
-add-v c = omega (arith, c .before .before .before .before .before .before .before .before .before .before .before .before .before .before .before .before .before .pre .1 .1 .1 .1 .0 .2)
+add-v c = omega (arith, start-from-shape-of c .pre .1 .1 .1 .1 .0 .2)
 
 add-u : tie.Need-add-u
-add-u c = omega (arith, c .before .before .before .before .before .before .before .before .before .before .before .before .before .before .before .before .before .pre .1 .1 .1 .1 .0 .2)
+add-u c = omega (arith, start-from-shape-of c .pre .1 .1 .1 .1 .0 .2)
 
 add-draw-v : tie.Need-add-draw-v
-add-draw-v c = omega (arith, c .before .before .before .before .before .before .before .before .before .before .before .before .before .before .before .before .before .before .before .pre .1 .1 .1 .1 .0 .2)
+add-draw-v c = omega (arith, start-from-shape-of (c .before .before) .pre .1 .1 .1 .1 .0 .2)
 
 draw-v-requires : tie.Need-draw-v-requires
 draw-v-requires c κs =
-    let s = c .before .before .before .before .before .before .before .before .before .before .before .before .before .before .before .before .before .before .before in
+    let s = start-from-shape-of (c .before .before) in
     let a = s .args in
     let b = bounds (a .z) (s .pre .0) in
     let o = s .pre .1 .1 .0 in
@@ -59,7 +65,13 @@ draw-v-requires c κs =
       (
         order-own (o .0),
         (
-          (omega (arith, R .size, big), omega (arith, h), omega (arith, o .0 .size), omega (arith, o .0 .size, b .gv, b .kv), omega (arith, o .0 .size, y .0, b .kv)),
+          (
+            omega (arith, R .size, big),
+            omega (arith, h),
+            omega (arith, o .0 .size),
+            omega (arith, o .0 .size, b .gv, b .kv),
+            omega (arith, o .0 .size, y .0, b .kv),
+          ),
           ((omega (arith, m .1), omega arith, omega (arith, m .1), omega arith, λ w. omega arith), (ends-own (o .0) (E .1), E .2)),
         ),
       ),
@@ -73,15 +85,23 @@ same-length-2 c = search needs
 
 returns : tie.Need-returns
 returns c =
-    let s = c .before .before .before .before .before .before .before .before .before .before .before .before .before .before .before .before .before .before .before .before .before .before .before .before .before in
+    let after-draw-v = c .before .before .before .before .before in
+    let after-shape-of = after-draw-v .before .before .before in
+    let s = start-from-shape-of after-shape-of in
     let a = s .args in
     let o = s .pre .1 .1 .0 in
-    let v = rw (c .before .before .before .before .before .before .before .before .shape-of .ensures) at (c .before .before .before .before .before .draw-v .ensures) in
-    (rw (sym (test-v (a .z) (a .l) (secret s) (chosen s) (o .0 .size)) ∙ sym (v .0) ∙ not-true (c .before .before .before .before .before .draw-v .result) (c .if1 .taken)), v .1 .0, unsolved (lit< tt))
+    let v = rw (after-shape-of .shape-of .ensures) at (after-draw-v .draw-v .ensures) in (
+      rw (sym (test-v (a .z) (a .l) (secret s) (chosen s) (o .0 .size)) ∙ sym (v .0) ∙ not-true (after-draw-v .draw-v .result) (c .if1 .taken)),
+      v .1 .0,
+      unsolved (lit< tt),
+    )
 
 draw-u-requires : tie.Need-draw-u-requires
 draw-u-requires c κs =
-    let s = c .before .before .before .before .before .before .before .before .before .before .before .before .before .before .before .before .before .before .before .before .before .before .before .before .before .before .before in
+    let after-work-ones = c .before .before .before .before .before .before in
+    let after-draw-v = after-work-ones .before in
+    let after-shape-of = after-draw-v .before .before .before in
+    let s = start-from-shape-of after-shape-of in
     let a = s .args in
     let b = bounds (a .z) (s .pre .0) in
     let k = s .pre .1 .0 in
@@ -91,17 +111,23 @@ draw-u-requires c κs =
     let E = s .pre .1 .1 .1 .1 .1 .1 in
     let h = b .high in
     let big = prod (a .l + 5) (halfWords (a .z)) 8197 128 (omega (arith, m .2)) (omega (arith, h)) in
-    let v = rw (c .before .before .before .before .before .before .before .before .before .before .shape-of .ensures) at (c .before .before .before .before .before .before .before .draw-v .ensures) in
-    let hv = v .1 .1 .solved (not-false (c .before .before .before .before .before .before .before .draw-v .result) (c .before .before .if1 .left)) in
+    let v = rw (after-shape-of .shape-of .ensures) at (after-draw-v .draw-v .ensures) in
+    let hv = v .1 .1 .solved (not-false (after-draw-v .draw-v .result) (c .before .before .if1 .left)) in
     let Q = v .1 .0 in
-    rw (c .before .before .before .before .before .before .before .before .before .before .shape-of .ensures) (
+    rw (after-shape-of .shape-of .ensures) (
       (Q, k .hu),
       (
         (k .b, k .c, o .3),
         (
           order-own (o .1),
           (
-            (omega (arith, Q .size, big), omega (arith, h), omega (arith, o .1 .size), omega (arith, o .1 .size, b .gu, b .ku), omega (arith, o .1 .size, y .1, b .ku)),
+            (
+              omega (arith, Q .size, big),
+              omega (arith, h),
+              omega (arith, o .1 .size),
+              omega (arith, o .1 .size, b .gu, b .ku),
+              omega (arith, o .1 .size, y .1, b .ku),
+            ),
             (
               (omega (arith, o .1 .size, k .bSize), omega (arith, o .1 .size, k .cSize)),
               (
@@ -125,14 +151,18 @@ same-length-4 c = search needs
 
 returns-2 : tie.Need-returns-2
 returns-2 c =
-    let s = c .before .before .before .before .before .before .before .before .before .before .before .before .before .before .before .before .before .before .before .before .before .before .before .before .before .before .before .before .before .before .before .before .before in
+    let after-draw-u = c .before .before .before .before .before in
+    let else1 = after-draw-u .before .before .before in
+    let after-draw-v = else1 .before .before .before .before .before in
+    let after-shape-of = after-draw-v .before .before .before in
+    let s = start-from-shape-of after-shape-of in
     let a = s .args in
     let o = s .pre .1 .1 .0 in
-    let v = rw (c .before .before .before .before .before .before .before .before .before .before .before .before .before .before .before .before .shape-of .ensures) at (c .before .before .before .before .before .before .before .before .before .before .before .before .before .draw-v .ensures) in
-    let u = rw (c .before .before .before .before .before .before .before .before .before .before .before .before .before .before .before .before .shape-of .ensures) at (c .before .before .before .before .before .draw-u .ensures) in (
+    let v = rw (after-shape-of .shape-of .ensures) at (after-draw-v .draw-v .ensures) in
+    let u = rw (after-shape-of .shape-of .ensures) at (after-draw-u .draw-u .ensures) in (
       rw (
-        sym (test-v (a .z) (a .l) (secret s) (chosen s) (o .0 .size)) ∙ sym (v .0) ∙ not-false (c .before .before .before .before .before .before .before .before .before .before .before .before .before .draw-v .result) (c .before .before .before .before .before .before .before .before .if1 .left),
-        sym (test-u (a .z) (a .l) (secret s) (chosen s) (o .1 .size)) ∙ sym (u .0) ∙ not-true (c .before .before .before .before .before .draw-u .result) (c .if2 .taken),
+        sym (test-v (a .z) (a .l) (secret s) (chosen s) (o .0 .size)) ∙ sym (v .0) ∙ not-false (after-draw-v .draw-v .result) (else1 .if1 .left),
+        sym (test-u (a .z) (a .l) (secret s) (chosen s) (o .1 .size)) ∙ sym (u .0) ∙ not-true (after-draw-u .draw-u .result) (c .if2 .taken),
       ),
       u .1 .0,
       unsolved (lit< tt),
@@ -146,15 +176,22 @@ same-length-6 c = search needs
 
 returns-3 : tie.Need-returns-3
 returns-3 c =
-    let s = c .before .before .before .before .before .before .before .before .before .before .before .before .before .before .before .before .before .before .before .before .before .before .before .before .before .before .before .before .before .before .before .before .before in
+    let after-draw-u = c .before .before .before .before .before in
+    let else1 = after-draw-u .before .before .before in
+    let after-draw-v = else1 .before .before .before .before .before in
+    let after-shape-of = after-draw-v .before .before .before in
+    let s = start-from-shape-of after-shape-of in
     let a = s .args in
     let o = s .pre .1 .1 .0 in
     let m = s .pre .1 .1 .1 .1 .0 in
-    let v = rw (c .before .before .before .before .before .before .before .before .before .before .before .before .before .before .before .before .shape-of .ensures) at (c .before .before .before .before .before .before .before .before .before .before .before .before .before .draw-v .ensures) in
-    let u = rw (c .before .before .before .before .before .before .before .before .before .before .before .before .before .before .before .before .shape-of .ensures) at (c .before .before .before .before .before .draw-u .ensures) in
-    let passed-v = not-false (c .before .before .before .before .before .before .before .before .before .before .before .before .before .draw-v .result) (c .before .before .before .before .before .before .before .before .if1 .left) in
-    let passed-u = not-false (c .before .before .before .before .before .draw-u .result) (c .if2 .left) in (
-      rw (sym (test-v (a .z) (a .l) (secret s) (chosen s) (o .0 .size)) ∙ sym (v .0) ∙ passed-v, sym (test-u (a .z) (a .l) (secret s) (chosen s) (o .1 .size)) ∙ sym (u .0) ∙ passed-u),
+    let v = rw (after-shape-of .shape-of .ensures) at (after-draw-v .draw-v .ensures) in
+    let u = rw (after-shape-of .shape-of .ensures) at (after-draw-u .draw-u .ensures) in
+    let passed-v = not-false (after-draw-v .draw-v .result) (else1 .if1 .left) in
+    let passed-u = not-false (after-draw-u .draw-u .result) (c .if2 .left) in (
+      rw (
+        sym (test-v (a .z) (a .l) (secret s) (chosen s) (o .0 .size)) ∙ sym (v .0) ∙ passed-v,
+        sym (test-u (a .z) (a .l) (secret s) (chosen s) (o .1 .size)) ∙ sym (u .0) ∙ passed-u,
+      ),
       u .1 .0,
       halves-solved (a .z) (a .l) (secret s) (chosen s) (o .0 .size) (v .1 .1 .solved passed-v) (m .1) (o .1 .size) (m .0) (u .1 .1 .solved passed-u),
     )

@@ -11,13 +11,25 @@ use Prim.Native.Nat.{_-_}
 use Rattle.elimination.proofs.rank.count_column.Statement.{statement}
 use Rattle.elimination.proofs.rank.count_column.Tie as tie
 
+-- The places that the answers look back to, each from a later one.
+abbrev step-from-then1 : tie.Then1 → tie.After-step
+step-from-then1 c = c .before .before .before .before .before
+
+abbrev start-from-step : tie.After-step → tie.Start
+start-from-step c = c .before .before .before .before .before
+
+abbrev step-from-else1 : tie.Else1 → tie.After-step
+step-from-else1 c = c .before .before .before .before .before
+
 step-requires : tie.Need-step-requires
 step-requires c κs = search needs
 
 add-result : tie.Need-add-result
 add-result c =
-    let a = c .before .before .before .before .before .before .before .before .before .before .args in
-    let e = c .before .before .before .before .before .step .ensures in
+    let after-step = step-from-then1 c in
+    let start = start-from-step after-step in
+    let a = start .args in
+    let e = after-step .step .ensures in
     let h = has-row (a .rows) (a .at) (a .c) (matrixAt (a .w) (now (a .ones)) (now (a .twos))) (sym (e .0) ∙ c .if1 .taken) in
     omega (arith, h .0, h .1)
 
@@ -29,8 +41,10 @@ same-length-2 c = search needs
 
 returns : tie.Need-returns
 returns c =
-    let e = c .before .before .before .before .before .step .ensures in
-    (yes-count (c .before .before .before .before .before .before .before .before .before .before .args .at) (sym (e .0) ∙ c .if1 .taken), e .1)
+    let after-step = step-from-then1 c in
+    let start = start-from-step after-step in
+    let e = after-step .step .ensures in
+    (yes-count (start .args .at) (sym (e .0) ∙ c .if1 .taken), e .1)
 
 same-length-3 : tie.Need-same-length-3
 same-length-3 c = search needs
@@ -40,8 +54,10 @@ same-length-4 c = search needs
 
 returns-2 : tie.Need-returns-2
 returns-2 c =
-    let e = c .before .before .before .before .before .step .ensures in
-    (no-count (c .before .before .before .before .before .before .before .before .before .before .args .at) (sym (e .0) ∙ c .if1 .left), e .1)
+    let after-step = step-from-else1 c in
+    let start = start-from-step after-step in
+    let e = after-step .step .ensures in
+    (no-count (start .args .at) (sym (e .0) ∙ c .if1 .left), e .1)
 
 pub count-column-spec : {M : Type 1} → statement M
 count-column-spec =

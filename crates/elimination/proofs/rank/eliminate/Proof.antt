@@ -22,8 +22,10 @@ loop-holds c =
     (omega arith, went-none (c .before .before .pre .0))
 
 count-column-requires : tie.Need-count-column-requires Inv-loop μ-loop
-count-column-requires c κs =
-    (c .before .before .before .loop .inv .1 .grid .rows, (omega (arith, c .before .before .before .loop .inv .1 .grid .rows .size), omega arith, c .before .before .before .loop .inv .1 .room))
+count-column-requires c κs = (
+  c .before .before .before .loop .inv .1 .grid .rows,
+  (omega (arith, c .before .before .before .loop .inv .1 .grid .rows .size), omega arith, c .before .before .before .loop .inv .1 .room),
+)
 
 add-i : tie.Need-add-i Inv-loop μ-loop
 add-i c = omega arith
@@ -33,8 +35,10 @@ loop-less c = omega arith
 
 loop-again : tie.Need-loop-again Inv-loop μ-loop
 loop-again c =
-    let l = c .before .before .before .before .before .before .before .before .loop in
-    let e = c .before .before .before .before .count-column .ensures in
+    let after-count-column = c .before .before .before .before in
+    let at-loop = after-count-column .before .before .before .before in
+    let l = at-loop .loop in
+    let e = after-count-column .count-column .ensures in
     (omega arith, went-turn (l .i) (l .inv .1) (range-next (l .i)) (e .0) (e .1))
 
 same-length : tie.Need-same-length Inv-loop μ-loop
@@ -45,10 +49,11 @@ same-length-2 c = omega arith
 
 returns : tie.Need-returns Inv-loop μ-loop
 returns c =
+    let start = c .before .before .before .before in
     let l = c .before .loop in
-    let e : l .i ≡ c .before .before .before .before .args .n = omega arith in
+    let e : l .i ≡ start .args .n = omega arith in
     let g = rw e at (l .inv .1) in
-    let n = c .before .before .before .before .args .n in
+    let n = start .args .n in
     (went-count n g (order-good n (range n) (range-order n) .1), went-grid g)
 
 pub eliminate-spec : {M : Type 1} → statement M

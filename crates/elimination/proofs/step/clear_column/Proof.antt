@@ -7,6 +7,19 @@ use Rattle.elimination.proofs.Clears.{column-done}
 use Rattle.elimination.proofs.step.clear_column.Statement.{statement}
 use Rattle.elimination.proofs.step.clear_column.Tie as tie
 
+-- The places that the answers look back to, each from a later one.
+abbrev clear-rows-from-clear-rows-arg4 : tie.After-clear-rows-arg4 → tie.After-clear-rows
+clear-rows-from-clear-rows-arg4 c = c .before .before .before .before .before .before
+
+abbrev start-from-clear-rows : tie.After-clear-rows → tie.Start
+start-from-clear-rows c = c .before .before .before .before .before
+
+abbrev start-from-clear-rows-arg4 : tie.After-clear-rows-arg4 → tie.Start
+start-from-clear-rows-arg4 c = start-from-clear-rows (clear-rows-from-clear-rows-arg4 c)
+
+abbrev clear-rows-from-clear-rows2 : tie.After-clear-rows2 → tie.After-clear-rows
+clear-rows-from-clear-rows2 c = c .before .before .before .before .before .before .before
+
 clear-rows-requires : tie.Need-clear-rows-requires
 clear-rows-requires c κs =
     let s = c .before .before .before .before in
@@ -14,12 +27,13 @@ clear-rows-requires c κs =
 
 add-clear-rows : tie.Need-add-clear-rows
 add-clear-rows c =
-    omega (arith, c .before .before .before .before .before .before .before .before .before .before .before .pre .1 .2)
+    omega (arith, start-from-clear-rows-arg4 c .pre .1 .2)
 
 clear-rows-requires-2 : tie.Need-clear-rows-requires-2
 clear-rows-requires-2 c κs =
-    let s = c .before .before .before .before .before .before .before .before .before .before .before in
-    let g = c .before .before .before .before .before .before .clear-rows .ensures .rows in
+    let after-clear-rows = clear-rows-from-clear-rows-arg4 c in
+    let s = start-from-clear-rows after-clear-rows in
+    let g = after-clear-rows .clear-rows .ensures .rows in
     (g, ((omega (arith, g .size, s .pre .0 .size), s .pre .1 .1, s .pre .1 .2, omega arith, omega arith), inr (omega arith)))
 
 same-length : tie.Need-same-length
@@ -30,8 +44,10 @@ same-length-2 c = search needs
 
 returns : tie.Need-returns
 returns c =
-    let s = c .before .before .before .before .before .before .before .before .before .before .before .before .before .before .before .before in
-    column-done (s .args .at) (s .args .c) (s .pre .0) (c .before .before .before .before .before .before .before .before .before .before .before .clear-rows .ensures) (c .before .before .before .before .clear-rows2 .ensures)
+    let after-clear-rows2 = c .before .before .before .before in
+    let after-clear-rows = clear-rows-from-clear-rows2 after-clear-rows2 in
+    let s = start-from-clear-rows after-clear-rows in
+    column-done (s .args .at) (s .args .c) (s .pre .0) (after-clear-rows .clear-rows .ensures) (after-clear-rows2 .clear-rows2 .ensures)
 
 pub clear-column-spec : {M : Type 1} → statement M
 clear-column-spec =

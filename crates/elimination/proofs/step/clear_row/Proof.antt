@@ -15,6 +15,16 @@ use Rattle.grid.proofs.two_rows.add_rows.Reads as add-rows-reads
 use Rattle.grid.proofs.two_rows.sub_rows.Reads as sub-rows-reads
 use Rattle.planes.proofs.places.trit_at.Reads as trit-at-reads
 
+-- The places that the answers look back to, each from a later one.
+abbrev start-from-trit-at : tie.After-trit-at → tie.Start
+start-from-trit-at c = c .before .before .before .before .before
+
+abbrev start-from-else1 : tie.Else1 → tie.Start
+start-from-else1 c = c .before .before .before .before .before .before
+
+abbrev start-from-else2 : tie.Else2 → tie.Start
+start-from-else2 c = start-from-else1 (c .before)
+
 mul-trit-at : tie.Need-mul-trit-at
 mul-trit-at c =
     let s = c .before .before .before .before in
@@ -54,10 +64,13 @@ same-length-2 c = search needs
 
 returns : tie.Need-returns
 returns c =
-    let s = c .before .before .before .before .before .before .before .before .before .before .before .before .before in
+    let after-sub-rows = c .before .before .before .before in
+    let then1 = after-sub-rows .before .before .before in
+    let after-trit-at = then1 .before in
+    let s = start-from-trit-at after-trit-at in
     let a = s .args in
-    let e = read-one (a .w) (now (a .ones)) (now (a .twos)) (a .i) (a .c) _ (s .pre .1 .1) (c .before .before .before .before .before .before .before .before .trit-at .ensures) (c .before .before .before .before .before .before .before .if1 .taken) in
-    grid-to (c .before .before .before .before .sub-rows .ensures) (clear-one (a .i) (a .at) (a .c) (matrixAt (a .w) (now (a .ones)) (now (a .twos))) e)
+    let e = read-one (a .w) (now (a .ones)) (now (a .twos)) (a .i) (a .c) _ (s .pre .1 .1) (after-trit-at .trit-at .ensures) (then1 .if1 .taken) in
+    grid-to (after-sub-rows .sub-rows .ensures) (clear-one (a .i) (a .at) (a .c) (matrixAt (a .w) (now (a .ones)) (now (a .twos))) e)
 
 same-length-3 : tie.Need-same-length-3
 same-length-3 c = search needs
@@ -67,10 +80,13 @@ same-length-4 c = search needs
 
 returns-2 : tie.Need-returns-2
 returns-2 c =
-    let s = c .before .before .before .before .before .before .before .before .before .before .before .before .before .before in
+    let after-add-rows = c .before .before .before .before in
+    let then2 = after-add-rows .before .before .before in
+    let after-trit-at = then2 .before .before in
+    let s = start-from-trit-at after-trit-at in
     let a = s .args in
-    let e = read-two (a .w) (now (a .ones)) (now (a .twos)) (a .i) (a .c) _ (s .pre .1 .1) (c .before .before .before .before .before .before .before .before .before .trit-at .ensures) (c .before .before .before .before .before .before .before .if2 .taken) in
-    grid-to (c .before .before .before .before .add-rows .ensures) (clear-two (a .i) (a .at) (a .c) (matrixAt (a .w) (now (a .ones)) (now (a .twos))) e)
+    let e = read-two (a .w) (now (a .ones)) (now (a .twos)) (a .i) (a .c) _ (s .pre .1 .1) (after-trit-at .trit-at .ensures) (then2 .if2 .taken) in
+    grid-to (after-add-rows .add-rows .ensures) (clear-two (a .i) (a .at) (a .c) (matrixAt (a .w) (now (a .ones)) (now (a .twos))) e)
 
 same-length-5 : tie.Need-same-length-5
 same-length-5 c = search needs
@@ -80,9 +96,10 @@ same-length-6 c = search needs
 
 returns-3 : tie.Need-returns-3
 returns-3 c =
-    let s = c .before .before .before .before .before .before .before in
+    let s = start-from-else2 c in
     let a = s .args in
-    let e = read-none (a .w) (now (a .ones)) (now (a .twos)) (a .i) (a .c) _ (s .pre .1 .1) (c .before .before .trit-at .ensures) (c .before .if1 .left) (c .if2 .left) in
+    let e = read-none (a .w) (now (a .ones)) (now (a .twos)) (a .i) (a .c) _ (s .pre .1 .1) (c .before .before .trit-at .ensures) (c .before .if1 .left)
+    (c .if2 .left) in
     grid-of (s .pre .0) (clear-none (a .i) (a .at) (a .c) (matrixAt (a .w) (now (a .ones)) (now (a .twos))) e)
 
 pub clear-row-spec : {M : Type 1} → statement M

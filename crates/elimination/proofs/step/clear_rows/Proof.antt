@@ -41,10 +41,15 @@ loop-less c = omega arith
 
 loop-again : tie.Need-loop-again Inv-loop μ-loop
 loop-again c =
-    let s = c .before .before .before .before .before .before .before .before .before .before .before in
+    let after-clear-row = c .before .before .before .before in
+    let at-loop = after-clear-row .before .before .before .before in
+    let s = at-loop .before .before .before in
     let a = s .args in
-    let l = c .before .before .before .before .before .before .before .before .loop in
-    ((omega arith, omega arith), rows-turn (a .at) (a .c) (matrixAt (a .w) (now (a .ones)) (now (a .twos))) (a .from) (l .inv .1) (l .inv .0 .0) (apart-from (s .pre .1 .1) (l .inv .0 .0) (omega arith)) (c .before .before .before .before .clear-row .ensures))
+    let l = at-loop .loop in (
+      (omega arith, omega arith),
+      rows-turn (a .at) (a .c) (matrixAt (a .w) (now (a .ones)) (now (a .twos))) (a .from) (l .inv .1) (l .inv .0 .0)
+          (apart-from (s .pre .1 .1) (l .inv .0 .0) (omega arith)) (after-clear-row .clear-row .ensures),
+    )
 
 same-length : tie.Need-same-length Inv-loop μ-loop
 same-length c =
@@ -52,7 +57,8 @@ same-length c =
 
 same-length-2 : tie.Need-same-length-2 Inv-loop μ-loop
 same-length-2 c =
-    omega (arith, c .before .loop .inv .1 .rows .size, c .before .before .before .before .pre .0 .size, c .before .loop .inv .1 .rows .row .same, c .before .before .before .before .pre .0 .row .same)
+    let start = c .before .before .before .before in
+    omega (arith, c .before .loop .inv .1 .rows .size, start .pre .0 .size, c .before .loop .inv .1 .rows .row .same, start .pre .0 .row .same)
 
 returns : tie.Need-returns Inv-loop μ-loop
 returns c =

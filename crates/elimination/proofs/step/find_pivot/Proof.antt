@@ -18,6 +18,13 @@ Inv-loop ones twos rows w c at i₀ i = (i ≤ rows) × (pivotRow rows (matrixAt
 abbrev μ-loop : tie.MeasureT-loop
 μ-loop ones twos rows w c at i₀ i = rows - i
 
+-- The places that the answers look back to, each from a later one.
+abbrev start-from-then1 : tie.Then1 Inv-loop μ-loop → tie.Start Inv-loop μ-loop
+start-from-then1 c = c .before .before .before .before .before .before
+
+abbrev start-from-else1 : tie.Else1 Inv-loop μ-loop → tie.Start Inv-loop μ-loop
+start-from-else1 c = c .before .before .before .before .before .before
+
 loop-holds : tie.Need-loop-holds Inv-loop μ-loop
 loop-holds c =
     (omega arith, refl)
@@ -48,9 +55,10 @@ trit-at-requires c κs =
 
 returns : tie.Need-returns Inv-loop μ-loop
 returns c =
-    let a = c .before .before .before .before .before .before .args in
+    let a = start-from-then1 c .args in
     let l = c .before .before .before .loop in
-    first-here _ (a .c) (a .rows) (l .i) (omega arith) (read-set (a .w) (now (a .ones)) (now (a .twos)) (l .i) (a .c) _ (omega arith) (c .before .trit-at .ensures) (c .if1 .taken))
+    first-here _ (a .c) (a .rows) (l .i) (omega arith) (read-set (a .w) (now (a .ones)) (now (a .twos)) (l .i) (a .c) _ (omega arith)
+    (c .before .trit-at .ensures) (c .if1 .taken))
     ∙ sym (l .inv .1)
 
 add-i : tie.Need-add-i Inv-loop μ-loop
@@ -61,9 +69,12 @@ loop-less c = omega arith
 
 loop-again : tie.Need-loop-again Inv-loop μ-loop
 loop-again c =
-    let a = c .before .before .before .before .before .before .args in
-    let l = c .before .before .before .loop in
-    (omega arith, l .inv .1 ∙ first-next _ (a .c) (a .rows) (l .i) (omega arith) (read-unset (a .w) (now (a .ones)) (now (a .twos)) (l .i) (a .c) _ (omega arith) (c .before .trit-at .ensures) (c .if1 .left)))
+    let a = start-from-else1 c .args in
+    let l = c .before .before .before .loop in (
+      omega arith,
+      l .inv .1 ∙ first-next _ (a .c) (a .rows) (l .i) (omega arith)
+          (read-unset (a .w) (now (a .ones)) (now (a .twos)) (l .i) (a .c) _ (omega arith) (c .before .trit-at .ensures) (c .if1 .left)),
+    )
 
 returns-2 : tie.Need-returns-2 Inv-loop μ-loop
 returns-2 c =

@@ -14,6 +14,16 @@ use Rattle.elimination.proofs.step.scale_row.Lts as lts
 use Rattle.grid.proofs.one_row.negate.Reads as negate-reads
 use Rattle.planes.proofs.places.trit_at.Reads as trit-at-reads
 
+-- The places that the answers look back to, each from a later one.
+abbrev start-from-then1 : tie.Then1 → tie.Start
+start-from-then1 c = c .before .before .before .before .before .before
+
+abbrev start-from-trit-at : tie.After-trit-at → tie.Start
+start-from-trit-at c = c .before .before .before .before .before
+
+abbrev start-from-else1 : tie.Else1 → tie.Start
+start-from-else1 c = c .before .before .before .before .before .before
+
 mul-trit-at : tie.Need-mul-trit-at
 mul-trit-at c =
     let s = c .before .before .before .before in
@@ -41,7 +51,8 @@ trit-at-requires c κs =
 
 negate-requires : tie.Need-negate-requires
 negate-requires c κs =
-    (c .before .before .before .before .before .before .before .before .pre .0, c .before .before .before .before .before .before .before .before .pre .1 .0 .2)
+    let start = start-from-then1 (c .before .before) in
+    (start .pre .0, start .pre .1 .0 .2)
 
 same-length : tie.Need-same-length
 same-length c = search needs
@@ -51,10 +62,13 @@ same-length-2 c = search needs
 
 returns : tie.Need-returns
 returns c =
-    let s = c .before .before .before .before .before .before .before .before .before .before .before .before .before in
+    let after-negate = c .before .before .before .before in
+    let then1 = after-negate .before .before .before in
+    let after-trit-at = then1 .before in
+    let s = start-from-trit-at after-trit-at in
     let a = s .args in
-    let e = read-two (a .w) (now (a .ones)) (now (a .twos)) (a .at) (a .c) _ (s .pre .1 .0 .1) (c .before .before .before .before .before .before .before .before .trit-at .ensures) (c .before .before .before .before .before .before .before .if1 .taken) in
-    grid-to (c .before .before .before .before .negate .ensures) (scaled-two (a .at) (a .c) (matrixAt (a .w) (now (a .ones)) (now (a .twos))) e)
+    let e = read-two (a .w) (now (a .ones)) (now (a .twos)) (a .at) (a .c) _ (s .pre .1 .0 .1) (after-trit-at .trit-at .ensures) (then1 .if1 .taken) in
+    grid-to (after-negate .negate .ensures) (scaled-two (a .at) (a .c) (matrixAt (a .w) (now (a .ones)) (now (a .twos))) e)
 
 same-length-3 : tie.Need-same-length-3
 same-length-3 c = search needs
@@ -64,7 +78,7 @@ same-length-4 c = search needs
 
 returns-2 : tie.Need-returns-2
 returns-2 c =
-    let s = c .before .before .before .before .before .before in
+    let s = start-from-else1 c in
     let a = s .args in
     let e = read-unit (a .w) (now (a .ones)) (now (a .twos)) (a .at) (a .c) _ (s .pre .1 .0 .1) (c .before .trit-at .ensures) (s .pre .1 .1) (c .if1 .left) in
     grid-of (s .pre .0) (scaled-one (a .at) (a .c) (matrixAt (a .w) (now (a .ones)) (now (a .twos))) e)

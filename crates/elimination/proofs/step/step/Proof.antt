@@ -12,6 +12,31 @@ use Prim.Native.Nat.{_-_}
 use Rattle.elimination.proofs.step.step.Statement.{statement}
 use Rattle.elimination.proofs.step.step.Tie as tie
 
+-- The places that the answers look back to, each from a later one.
+abbrev start-from-then1 : tie.Then1 → tie.Start
+start-from-then1 c = c .before .before .before .before .before .before
+
+abbrev start-from-else1 : tie.Else1 → tie.Start
+start-from-else1 c = c .before .before .before .before .before .before
+
+abbrev swap-rows-from-scale-row-arg2 : tie.After-scale-row-arg2 → tie.After-swap-rows
+swap-rows-from-scale-row-arg2 c = c .before .before .before .before .before .before
+
+abbrev start-from-find-pivot : tie.After-find-pivot → tie.Start
+start-from-find-pivot c = c .before .before .before .before .before
+
+abbrev scale-row-from-clear-column-arg2 : tie.After-clear-column-arg2 → tie.After-scale-row
+scale-row-from-clear-column-arg2 c = c .before .before .before .before .before .before
+
+abbrev swap-rows-from-scale-row : tie.After-scale-row → tie.After-swap-rows
+swap-rows-from-scale-row c = c .before .before .before .before .before .before .before
+
+abbrev else1-from-scale-row : tie.After-scale-row → tie.Else1
+else1-from-scale-row c = swap-rows-from-scale-row c .before .before .before
+
+abbrev scale-row-from-clear-column : tie.After-clear-column → tie.After-scale-row
+scale-row-from-clear-column c = c .before .before .before .before .before .before .before
+
 find-pivot-requires : tie.Need-find-pivot-requires
 find-pivot-requires c κs = search needs
 
@@ -23,14 +48,14 @@ same-length-2 c = search needs
 
 returns : tie.Need-returns
 returns c =
-    let s = c .before .before .before .before .before .before in
+    let s = start-from-then1 c in
     let a = s .args in
     let n = no-pivot (a .rows) (a .at) (a .c) (matrixAt (a .w) (now (a .ones)) (now (a .twos))) (sym (c .before .find-pivot .ensures) ∙ c .if1 .taken) in
     (n .0, grid-of (s .pre .0) (n .1))
 
 swap-rows-requires : tie.Need-swap-rows-requires
 swap-rows-requires c κs =
-    let s = c .before .before .before .before .before .before .before .before in
+    let s = start-from-else1 (c .before .before) in
     let a = s .args in
     let f = c .before .before .before .find-pivot .ensures in
     let h = chosen (a .rows) (a .at) (a .c) _ (matrixAt (a .w) (now (a .ones)) (now (a .twos))) (s .pre .1 .2) f (c .before .before .if1 .left) in
@@ -38,20 +63,31 @@ swap-rows-requires c κs =
 
 scale-row-requires : tie.Need-scale-row-requires
 scale-row-requires c κs =
-    let s = c .before .before .before .before .before .before .before .before .before .before .before .before .before .before .before in
+    let after-swap-rows = swap-rows-from-scale-row-arg2 c in
+    let else1 = after-swap-rows .before .before .before in
+    let after-find-pivot = else1 .before in
+    let s = start-from-find-pivot after-find-pivot in
     let a = s .args in
-    let f = c .before .before .before .before .before .before .before .before .before .before .find-pivot .ensures in
-    let g = c .before .before .before .before .before .before .swap-rows .ensures in
-    let h = chosen (a .rows) (a .at) (a .c) _ (matrixAt (a .w) (now (a .ones)) (now (a .twos))) (s .pre .1 .2) f (c .before .before .before .before .before .before .before .before .before .if1 .left) in
-    (g .rows, ((omega arith, s .pre .1 .1, omega arith), moved-set (a .rows) (a .at) (a .c) _ (matrixAt (a .w) (now (a .ones)) (now (a .twos))) (s .pre .1 .2) f (c .before .before .before .before .before .before .before .before .before .if1 .left) g))
+    let f = after-find-pivot .find-pivot .ensures in
+    let g = after-swap-rows .swap-rows .ensures in
+    let h = chosen (a .rows) (a .at) (a .c) _ (matrixAt (a .w) (now (a .ones)) (now (a .twos))) (s .pre .1 .2) f (else1 .if1 .left) in (
+      g .rows,
+      (
+        (omega arith, s .pre .1 .1, omega arith),
+        moved-set (a .rows) (a .at) (a .c) _ (matrixAt (a .w) (now (a .ones)) (now (a .twos))) (s .pre .1 .2) f (else1 .if1 .left) g,
+      ),
+    )
 
 clear-column-requires : tie.Need-clear-column-requires
 clear-column-requires c κs =
-    let s = c .before .before .before .before .before .before .before .before .before .before .before .before .before .before .before .before .before .before .before .before .before .before in
+    let after-scale-row = scale-row-from-clear-column-arg2 c in
+    let else1 = else1-from-scale-row after-scale-row in
+    let after-find-pivot = else1 .before in
+    let s = start-from-find-pivot after-find-pivot in
     let a = s .args in
-    let f = c .before .before .before .before .before .before .before .before .before .before .before .before .before .before .before .before .before .find-pivot .ensures in
-    let g = c .before .before .before .before .before .before .scale-row .ensures in
-    let h = chosen (a .rows) (a .at) (a .c) _ (matrixAt (a .w) (now (a .ones)) (now (a .twos))) (s .pre .1 .2) f (c .before .before .before .before .before .before .before .before .before .before .before .before .before .before .before .before .if1 .left) in
+    let f = after-find-pivot .find-pivot .ensures in
+    let g = after-scale-row .scale-row .ensures in
+    let h = chosen (a .rows) (a .at) (a .c) _ (matrixAt (a .w) (now (a .ones)) (now (a .twos))) (s .pre .1 .2) f (else1 .if1 .left) in
     (g .rows, (omega (arith, g .rows .size, s .pre .0 .size), s .pre .1 .1, omega (arith, h .0, h .1)))
 
 same-length-3 : tie.Need-same-length-3
@@ -62,11 +98,17 @@ same-length-4 c = search needs
 
 returns-2 : tie.Need-returns-2
 returns-2 c =
-    let s = c .before .before .before .before .before .before .before .before .before .before .before .before .before .before .before .before .before .before .before .before .before .before .before .before .before .before .before in
+    let after-clear-column = c .before .before .before .before in
+    let after-scale-row = scale-row-from-clear-column after-clear-column in
+    let after-swap-rows = swap-rows-from-scale-row after-scale-row in
+    let else1 = after-swap-rows .before .before .before in
+    let after-find-pivot = else1 .before in
+    let s = start-from-find-pivot after-find-pivot in
     let a = s .args in
-    let f = c .before .before .before .before .before .before .before .before .before .before .before .before .before .before .before .before .before .before .before .before .before .before .find-pivot .ensures in
-    step-done (a .rows) (a .at) (a .c) _ (matrixAt (a .w) (now (a .ones)) (now (a .twos))) (s .pre .1 .2) f (c .before .before .before .before .before .before .before .before .before .before .before .before .before .before .before .before .before .before .before .before .before .if1 .left) (c .before .before .before .before .before .before .before .before .before .before .before .before .before .before .before .before .before .before .swap-rows .ensures)
-    (c .before .before .before .before .before .before .before .before .before .before .before .scale-row .ensures) (c .before .before .before .before .clear-column .ensures)
+    let f = after-find-pivot .find-pivot .ensures in
+    step-done (a .rows) (a .at) (a .c) _ (matrixAt (a .w) (now (a .ones)) (now (a .twos))) (s .pre .1 .2) f (else1 .if1 .left)
+    (after-swap-rows .swap-rows .ensures)
+    (after-scale-row .scale-row .ensures) (after-clear-column .clear-column .ensures)
 
 pub step-spec : {M : Type 1} → statement M
 step-spec =

@@ -13,6 +13,10 @@ use Rattle.grid.proofs.one_row.negate.Reads as reads
 use Rattle.grid.proofs.one_row.negate.Lts as lts
 use Rattle.rows.proofs.negate_row.Reads as negate-row-reads
 
+-- The places that the answers look back to, each from a later one.
+abbrev start-from-negate-row : tie.After-negate-row → tie.Start
+start-from-negate-row c = c .before .before .before .before .before
+
 mul-a : tie.Need-mul-a
 mul-a c =
     let s = c .before .before in
@@ -77,11 +81,13 @@ same-length-2 c = search needs
 
 returns : tie.Need-returns
 returns c =
-    let s = c .before .before .before .before .before .before .before .before .before in
+    let after-negate-row = c .before .before .before .before in
+    let s = start-from-negate-row after-negate-row in
     let a = s .args in
     let k = a .i * a .w + a .w - a .i * a .w in
     let h = row-le (a .w) {i = a .i} {m = a .rows} (s .pre .1) in
-    negated-grid (a .w) (a .i) (s .pre .0) (s .pre .1) k (omega arith) (length-mid (a .i * a .w) k (now (a .ones)) (omega (arith, h, s .pre .0 .size))) (c .before .before .before .before .negate-row .ensures)
+    negated-grid (a .w) (a .i) (s .pre .0) (s .pre .1) k (omega arith) (length-mid (a .i * a .w) k (now (a .ones)) (omega (arith, h, s .pre .0 .size)))
+    (after-negate-row .negate-row .ensures)
 
 pub negate-spec : {M : Type 1} → statement M
 negate-spec =

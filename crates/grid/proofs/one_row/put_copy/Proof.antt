@@ -13,6 +13,13 @@ use Rattle.grid.proofs.RowParts.{put-grid, past-words, copied-row}
 use Rattle.grid.proofs.one_row.put_copy.Statement.{statement}
 use Rattle.grid.proofs.one_row.put_copy.Tie as tie
 
+-- The places that the answers look back to, each from a later one.
+abbrev start-from-copy-words-arg : tie.After-copy-words-arg → tie.Start
+start-from-copy-words-arg c = c .before .before .before .before .before
+
+abbrev start-from-copy-words : tie.After-copy-words → tie.Start
+start-from-copy-words c = c .before .before .before .before .before .before
+
 mul-a : tie.Need-mul-a
 mul-a c =
     let s = c .before .before .before .before in
@@ -45,7 +52,7 @@ part-copy-words-end c =
 
 copy-words-requires : tie.Need-copy-words-requires
 copy-words-requires c κs =
-    let s = c .before .before .before .before .before in
+    let s = start-from-copy-words-arg c in
     let a = s .args in
     let k = a .j * a .w + a .w - a .j * a .w in
     let h = row-le (a .w) {i = a .j} {m = a .rows} (s .pre .1 .1 .0) in
@@ -55,7 +62,7 @@ copy-words-requires c κs =
 
 mul-copy-words-2 : tie.Need-mul-copy-words-2
 mul-copy-words-2 c =
-    let s = c .before .before .before .before .before .before .before .before in
+    let s = start-from-copy-words (c .before .before) in
     let a = s .args in
     omega (arith, row-le (a .w) {i = a .j} {m = a .rows} (s .pre .1 .1 .0), s .pre .0 .size, s .pre .0 .row .same)
 
@@ -67,13 +74,13 @@ part-copy-words-start-2 c = search needs
 
 part-copy-words-end-2 : tie.Need-part-copy-words-end-2
 part-copy-words-end-2 c =
-    let s = c .before .before .before .before .before .before .before .before in
+    let s = start-from-copy-words (c .before .before) in
     let a = s .args in
     omega (arith, row-le (a .w) {i = a .j} {m = a .rows} (s .pre .1 .1 .0), s .pre .0 .size, s .pre .0 .row .same)
 
 copy-words-requires-2 : tie.Need-copy-words-requires-2
 copy-words-requires-2 c κs =
-    let s = c .before .before .before .before .before .before .before .before .before in
+    let s = start-from-copy-words (c .before .before .before) in
     let a = s .args in
     let k = a .j * a .w + a .w - a .j * a .w in
     let h = row-le (a .w) {i = a .j} {m = a .rows} (s .pre .1 .1 .0) in
@@ -89,11 +96,16 @@ same-length-2 c = search needs
 
 returns : tie.Need-returns
 returns c =
-    let s = c .before .before .before .before .before .before .before .before .before .before .before .before in
+    let after-copy-words = c .before .before .before .before .before .before in
+    let s = start-from-copy-words after-copy-words in
     let a = s .args in
     let k = a .j * a .w + a .w - a .j * a .w in
     put-grid (a .w) (a .j) (s .pre .0) (s .pre .1 .1 .0) k (omega arith) (s .pre .1 .1 .1 ∙ omega arith)
-    (record { row = copied-row (c .before .before .before .before .before .before .copy-words .ensures) (c .before .before .copy-words2 .ensures) (s .pre .1 .0); size = ap length (c .before .before .before .before .before .before .copy-words .ensures); trits = ap₂ tritAt (c .before .before .before .before .before .before .copy-words .ensures) (c .before .before .copy-words2 .ensures) })
+    (record {
+      row = copied-row (after-copy-words .copy-words .ensures) (c .before .before .copy-words2 .ensures) (s .pre .1 .0);
+      size = ap length (after-copy-words .copy-words .ensures);
+      trits = ap₂ tritAt (after-copy-words .copy-words .ensures) (c .before .before .copy-words2 .ensures);
+    })
     (λ q l. sym (past-words (a .w) (s .pre .1 .0) (s .pre .1 .1 .1) q l))
 
 pub put-copy-spec : {M : Type 1} → statement M

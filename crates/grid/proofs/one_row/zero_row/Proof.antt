@@ -80,13 +80,14 @@ same-length-2 c =
 
 returns : tie.Need-returns
 returns c =
-    let s = c .before .before .before .before .before .before .before .before .before .before in
+    let after-zero-words = c .before .before .before .before .before .before in
+    let s = after-zero-words .before .before .before .before in
     let a = s .args in
     let k = a .i * a .w + a .w - a .i * a .w in
     let h = row-le (a .w) {i = a .i} {m = a .rows} (s .pre .1) in
     let lo = length-mid (a .i * a .w) k (now (a .ones)) (omega (arith, h, s .pre .0 .size)) in
     let lt = length-mid (a .i * a .w) k (now (a .twos)) (omega (arith, h, s .pre .0 .size, s .pre .0 .row .same)) in
-    zero-grid (a .w) (a .i) (s .pre .0) (s .pre .1) k (omega arith) lo lt (c .before .before .before .before .before .before .zero-words .ensures) (c .before .before .zero-words2 .ensures)
+    zero-grid (a .w) (a .i) (s .pre .0) (s .pre .1) k (omega arith) lo lt (after-zero-words .zero-words .ensures) (c .before .before .zero-words2 .ensures)
 
 pub zero-row-spec : {M : Type 1} → statement M
 zero-row-spec =

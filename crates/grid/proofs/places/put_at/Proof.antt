@@ -8,6 +8,10 @@ use Rattle.grid.proofs.RowParts.{put-cell}
 use Rattle.grid.proofs.places.put_at.Statement.{statement}
 use Rattle.grid.proofs.places.put_at.Tie as tie
 
+-- The places that the answers look back to, each from a later one.
+abbrev start-from-put-trit : tie.After-put-trit → tie.Start
+start-from-put-trit c = c .before .before .before .before .before
+
 mul-put-trit : tie.Need-mul-put-trit
 mul-put-trit c =
     let s = c .before .before .before .before in
@@ -46,9 +50,10 @@ same-length-2 c =
 
 returns : tie.Need-returns
 returns c =
-    let s = c .before .before .before .before .before .before .before .before .before in
+    let after-put-trit = c .before .before .before .before in
+    let s = start-from-put-trit after-put-trit in
     let a = s .args in
-    put-cell (a .i) (a .q) (tritOf (a .t)) (s .pre .0) (s .pre .1 .2) (c .before .before .before .before .put-trit .ensures)
+    put-cell (a .i) (a .q) (tritOf (a .t)) (s .pre .0) (s .pre .1 .2) (after-put-trit .put-trit .ensures)
 
 pub put-at-spec : {M : Type 1} → statement M
 put-at-spec =

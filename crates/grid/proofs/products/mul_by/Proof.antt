@@ -11,6 +11,16 @@ use Rattle.grid.proofs.RowProducts.{mul-grid}
 use Rattle.grid.proofs.products.mul_by.Statement.{statement}
 use Rattle.grid.proofs.products.mul_by.Tie as tie
 
+-- The places that the answers look back to, each from a later one.
+abbrev start-from-mul-row-arg : tie.After-mul-row-arg → tie.Start
+start-from-mul-row-arg c = c .before .before .before .before .before
+
+abbrev start-from-mul-row-arg2 : tie.After-mul-row-arg2 → tie.Start
+start-from-mul-row-arg2 c = c .before .before .before .before .before .before
+
+abbrev start-from-mul-row : tie.After-mul-row → tie.Start
+start-from-mul-row c = c .before .before .before .before .before .before .before
+
 mul-a : tie.Need-mul-a
 mul-a c =
     let s = c .before .before .before .before in
@@ -45,7 +55,7 @@ part-mul-row-end c =
 
 mul-mul-row-2 : tie.Need-mul-mul-row-2
 mul-mul-row-2 c =
-    let s = c .before .before .before .before .before in
+    let s = start-from-mul-row-arg c in
     let a = s .args in
     omega (arith, row-le (a .w) {i = a .i} {m = a .rows} (s .pre .1 .1 .0), s .pre .0 .size, s .pre .0 .row .same)
 
@@ -59,13 +69,13 @@ part-mul-row-start-2 c =
 
 part-mul-row-end-2 : tie.Need-part-mul-row-end-2
 part-mul-row-end-2 c =
-    let s = c .before .before .before .before .before in
+    let s = start-from-mul-row-arg c in
     let a = s .args in
     omega (arith, row-le (a .w) {i = a .i} {m = a .rows} (s .pre .1 .1 .0), s .pre .0 .size, s .pre .0 .row .same)
 
 mul-row-requires : tie.Need-mul-row-requires
 mul-row-requires c κs =
-    let s = c .before .before .before .before .before .before in
+    let s = start-from-mul-row-arg2 c in
     let a = s .args in
     let k = a .i * a .w + a .w - a .i * a .w in
     let h = row-le (a .w) {i = a .i} {m = a .rows} (s .pre .1 .1 .0) in
@@ -82,12 +92,13 @@ same-length-2 c =
 
 returns : tie.Need-returns
 returns c =
-    let s = c .before .before .before .before .before .before .before .before .before .before .before in
+    let after-mul-row = c .before .before .before .before in
+    let s = start-from-mul-row after-mul-row in
     let a = s .args in
     let k = a .i * a .w + a .w - a .i * a .w in
     let h = row-le (a .w) {i = a .i} {m = a .rows} (s .pre .1 .1 .0) in
     let lo = length-mid (a .i * a .w) k (now (a .ones)) (omega (arith, h, s .pre .0 .size)) in
-    mul-grid (a .w) (a .i) (s .pre .0) (s .pre .1 .1 .0) k (tritAt (now (a .so)) (now (a .st))) (omega arith) lo (c .before .before .before .before .mul-row .ensures)
+    mul-grid (a .w) (a .i) (s .pre .0) (s .pre .1 .1 .0) k (tritAt (now (a .so)) (now (a .st))) (omega arith) lo (after-mul-row .mul-row .ensures)
 
 pub mul-by-spec : {M : Type 1} → statement M
 mul-by-spec =

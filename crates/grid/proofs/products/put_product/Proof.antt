@@ -7,20 +7,44 @@ use Rattle.grid.proofs.RowProducts.{made-grid}
 use Rattle.grid.proofs.products.put_product.Statement.{statement}
 use Rattle.grid.proofs.products.put_product.Tie as tie
 
+-- The places that the answers look back to, each from a later one.
+abbrev start-from-zero-row-arg2 : tie.After-zero-row-arg2 → tie.Start
+start-from-zero-row-arg2 c = c .before .before .before .before .before .before
+
+abbrev zero-row-from-add-rows-arg2 : tie.After-add-rows-arg2 → tie.After-zero-row
+zero-row-from-add-rows-arg2 c = c .before .before .before .before .before .before
+
+abbrev start-from-zero-row : tie.After-zero-row → tie.Start
+start-from-zero-row c = c .before .before .before .before .before .before .before
+
+abbrev add-rows-from-mul-by-arg2 : tie.After-mul-by-arg2 → tie.After-add-rows
+add-rows-from-mul-by-arg2 c = c .before .before .before .before .before .before
+
+abbrev zero-row-from-add-rows : tie.After-add-rows → tie.After-zero-row
+zero-row-from-add-rows c = c .before .before .before .before .before .before .before
+
+abbrev start-from-add-rows : tie.After-add-rows → tie.Start
+start-from-add-rows c = start-from-zero-row (zero-row-from-add-rows c)
+
+abbrev add-rows-from-mul-by : tie.After-mul-by → tie.After-add-rows
+add-rows-from-mul-by c = c .before .before .before .before .before .before .before
+
 zero-row-requires : tie.Need-zero-row-requires
 zero-row-requires c κs =
-    let s = c .before .before .before .before .before .before in
+    let s = start-from-zero-row-arg2 c in
     (s .pre .0, s .pre .1 .1 .0)
 
 add-rows-requires : tie.Need-add-rows-requires
 add-rows-requires c κs =
-    let s = c .before .before .before .before .before .before .before .before .before .before .before .before .before in
-    (c .before .before .before .before .before .before .zero-row .ensures .rows, (s .pre .1 .1 .0, s .pre .1 .1 .1, s .pre .1 .1 .2))
+    let after-zero-row = zero-row-from-add-rows-arg2 c in
+    let s = start-from-zero-row after-zero-row in
+    (after-zero-row .zero-row .ensures .rows, (s .pre .1 .1 .0, s .pre .1 .1 .1, s .pre .1 .1 .2))
 
 mul-by-requires : tie.Need-mul-by-requires
 mul-by-requires c κs =
-    let s = c .before .before .before .before .before .before .before .before .before .before .before .before .before .before .before .before .before .before .before .before in
-    (c .before .before .before .before .before .before .add-rows .ensures .rows, (s .pre .1 .0, (s .pre .1 .1 .0, s .pre .1 .1 .3)))
+    let after-add-rows = add-rows-from-mul-by-arg2 c in
+    let s = start-from-add-rows after-add-rows in
+    (after-add-rows .add-rows .ensures .rows, (s .pre .1 .0, (s .pre .1 .1 .0, s .pre .1 .1 .3)))
 
 same-length : tie.Need-same-length
 same-length c =
@@ -32,9 +56,13 @@ same-length-2 c =
 
 returns : tie.Need-returns
 returns c =
-    let s = c .before .before .before .before .before .before .before .before .before .before .before .before .before .before .before .before .before .before .before .before .before .before .before .before .before in
+    let after-mul-by = c .before .before .before .before in
+    let after-add-rows = add-rows-from-mul-by after-mul-by in
+    let after-zero-row = zero-row-from-add-rows after-add-rows in
+    let s = start-from-zero-row after-zero-row in
     let a = s .args in
-    made-grid (a .w) (now (a .ones)) (now (a .twos)) (a .t) (a .i) (tritAt (now (a .so)) (now (a .st))) (s .pre .1 .1 .2) (c .before .before .before .before .before .before .before .before .before .before .before .before .before .before .before .before .before .before .zero-row .ensures) (c .before .before .before .before .before .before .before .before .before .before .before .add-rows .ensures) (c .before .before .before .before .mul-by .ensures)
+    made-grid (a .w) (now (a .ones)) (now (a .twos)) (a .t) (a .i) (tritAt (now (a .so)) (now (a .st))) (s .pre .1 .1 .2) (after-zero-row .zero-row .ensures)
+    (after-add-rows .add-rows .ensures) (after-mul-by .mul-by .ensures)
 
 pub put-product-spec : {M : Type 1} → statement M
 put-product-spec =

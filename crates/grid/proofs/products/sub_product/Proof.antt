@@ -8,15 +8,29 @@ use Rattle.grid.proofs.RowProducts.{joined-grid}
 use Rattle.grid.proofs.products.sub_product.Statement.{statement}
 use Rattle.grid.proofs.products.sub_product.Tie as tie
 
+-- The places that the answers look back to, each from a later one.
+abbrev start-from-put-product-arg2 : tie.After-put-product-arg2 → tie.Start
+start-from-put-product-arg2 c = c .before .before .before .before .before .before
+
+abbrev put-product-from-sub-rows-arg2 : tie.After-sub-rows-arg2 → tie.After-put-product
+put-product-from-sub-rows-arg2 c = c .before .before .before .before .before .before
+
+abbrev start-from-put-product : tie.After-put-product → tie.Start
+start-from-put-product c = c .before .before .before .before .before .before .before
+
+abbrev put-product-from-sub-rows : tie.After-sub-rows → tie.After-put-product
+put-product-from-sub-rows c = c .before .before .before .before .before .before .before
+
 put-product-requires : tie.Need-put-product-requires
 put-product-requires c κs =
-    let s = c .before .before .before .before .before .before in
+    let s = start-from-put-product-arg2 c in
     (s .pre .0, (s .pre .1 .0, (s .pre .1 .1 .2, s .pre .1 .1 .1, s .pre .1 .1 .3, s .pre .1 .1 .5)))
 
 sub-rows-requires : tie.Need-sub-rows-requires
 sub-rows-requires c κs =
-    let s = c .before .before .before .before .before .before .before .before .before .before .before .before .before in
-    (c .before .before .before .before .before .before .put-product .ensures .rows, (s .pre .1 .1 .0, s .pre .1 .1 .2, s .pre .1 .1 .4))
+    let after-put-product = put-product-from-sub-rows-arg2 c in
+    let s = start-from-put-product after-put-product in
+    (after-put-product .put-product .ensures .rows, (s .pre .1 .1 .0, s .pre .1 .1 .2, s .pre .1 .1 .4))
 
 same-length : tie.Need-same-length
 same-length c =
@@ -28,9 +42,12 @@ same-length-2 c =
 
 returns : tie.Need-returns
 returns c =
-    let s = c .before .before .before .before .before .before .before .before .before .before .before .before .before .before .before .before .before .before in
+    let after-sub-rows = c .before .before .before .before in
+    let after-put-product = put-product-from-sub-rows after-sub-rows in
+    let s = start-from-put-product after-put-product in
     let n = s .args in
-    joined-grid (n .w) (now (n .ones)) (now (n .twos)) subT (n .a) (n .i) (n .t) (tritAt (now (n .so)) (now (n .st))) (s .pre .1 .1 .4) (c .before .before .before .before .before .before .before .before .before .before .before .put-product .ensures) (c .before .before .before .before .sub-rows .ensures)
+    joined-grid (n .w) (now (n .ones)) (now (n .twos)) subT (n .a) (n .i) (n .t) (tritAt (now (n .so)) (now (n .st))) (s .pre .1 .1 .4)
+    (after-put-product .put-product .ensures) (after-sub-rows .sub-rows .ensures)
 
 pub sub-product-spec : {M : Type 1} → statement M
 sub-product-spec =

@@ -9,6 +9,16 @@ use Prim.Native.Nat.{_+_, _-_, _*_}
 use Rattle.grid.proofs.two_rows.row_dot.Statement.{statement}
 use Rattle.grid.proofs.two_rows.row_dot.Tie as tie
 
+-- The places that the answers look back to, each from a later one.
+abbrev start-from-dot-arg3 : tie.After-dot-arg3 → tie.Start
+start-from-dot-arg3 c = c .before .before .before .before .before
+
+abbrev start-from-dot-arg4 : tie.After-dot-arg4 → tie.Start
+start-from-dot-arg4 c = c .before .before .before .before .before .before
+
+abbrev start-from-dot : tie.After-dot → tie.Start
+start-from-dot c = c .before .before .before .before .before .before .before
+
 mul-a : tie.Need-mul-a
 mul-a c =
     let s = c .before .before in
@@ -109,7 +119,7 @@ part-dot-end-3 c =
 
 mul-dot-4 : tie.Need-mul-dot-4
 mul-dot-4 c =
-    let s = c .before .before .before .before .before in
+    let s = start-from-dot-arg3 c in
     let a = s .args in
     let h = row-le (a .w) {i = a .i} {m = a .rows} (omega arith) in
     let k = row-le (a .w) {i = a .j} {m = a .rows} (omega arith) in
@@ -123,7 +133,7 @@ part-dot-start-4 c = search needs
 
 part-dot-end-4 : tie.Need-part-dot-end-4
 part-dot-end-4 c =
-    let s = c .before .before .before .before .before in
+    let s = start-from-dot-arg3 c in
     let a = s .args in
     let h = row-le (a .w) {i = a .i} {m = a .rows} (omega arith) in
     let k = row-le (a .w) {i = a .j} {m = a .rows} (omega arith) in
@@ -131,7 +141,7 @@ part-dot-end-4 c =
 
 dot-requires : tie.Need-dot-requires
 dot-requires c κs =
-    let s = c .before .before .before .before .before .before in
+    let s = start-from-dot-arg4 c in
     let a = s .args in
     let x = lent-part (s .pre .0) (a .i) (omega arith) (a .i * a .w + a .w - a .i * a .w) (omega arith) in
     let y = lent-part (s .pre .0) (a .j) (omega arith) (a .j * a .w + a .w - a .j * a .w) (omega arith) in
@@ -139,9 +149,10 @@ dot-requires c κs =
 
 returns : tie.Need-returns
 returns c =
-    let s = c .before .before .before .before .before .before .before in
+    let s = start-from-dot c in
     let a = s .args in
-    rows-product (lent-part (s .pre .0) (a .i) (omega arith) (a .i * a .w + a .w - a .i * a .w) (omega arith)) (lent-part (s .pre .0) (a .j) (omega arith) (a .j * a .w + a .w - a .j * a .w) (omega arith)) (c .dot .ensures)
+    rows-product (lent-part (s .pre .0) (a .i) (omega arith) (a .i * a .w + a .w - a .i * a .w) (omega arith))
+    (lent-part (s .pre .0) (a .j) (omega arith) (a .j * a .w + a .w - a .j * a .w) (omega arith)) (c .dot .ensures)
 
 pub row-dot-spec : {M : Type 1} → statement M
 row-dot-spec =

@@ -20,7 +20,9 @@ same-length-2 c = search needs
 
 returns : tie.Need-returns
 returns c =
-    swapped-grid (c .before .before .before .before .before .before .before .before .before .before .pre .0) (c .before .before .before .before .before .before .swap-plane .ensures) (c .before .before .swap-plane2 .ensures)
+    let after-swap-plane = c .before .before .before .before .before .before in
+    let start = after-swap-plane .before .before .before .before in
+    swapped-grid (start .pre .0) (after-swap-plane .swap-plane .ensures) (c .before .before .swap-plane2 .ensures)
 
 pub swap-rows-spec : {M : Type 1} → statement M
 swap-rows-spec =

@@ -9,6 +9,10 @@ use Rattle.grid.proofs.RowParts.{handed-row, handed-size, handed-trits}
 use Rattle.grid.proofs.weights.row_weight.Statement.{statement}
 use Rattle.grid.proofs.weights.row_weight.Tie as tie
 
+-- The places that the answers look back to, each from a later one.
+abbrev start-from-weight : tie.After-weight → tie.Start
+start-from-weight c = c .before .before .before .before .before
+
 row-part-requires : tie.Need-row-part-requires
 row-part-requires c κs =
     let s = c .before .before in
@@ -28,10 +32,11 @@ weight-requires c κs =
 
 returns : tie.Need-returns
 returns c =
-    let s = c .before .before .before .before .before in
+    let s = start-from-weight c in
     let a = s .args in
     c .weight .ensures
-    ∙ ap₂ (λ (v : Vector) (n : ℕ). weightV v (64 * n)) (handed-trits (a .rows) (a .w) (a .i) (s .pre .0) (s .pre .1 .2) (c .before .before .row-part .ensures) (c .before .row-part2 .ensures))
+    ∙ ap₂ (λ (v : Vector) (n : ℕ). weightV v (64 * n)) (handed-trits (a .rows) (a .w) (a .i) (s .pre .0) (s .pre .1 .2) (c .before .before .row-part .ensures)
+    (c .before .row-part2 .ensures))
     (handed-size (a .rows) (a .w) (a .i) (s .pre .0) (s .pre .1 .2) (c .before .before .row-part .ensures) (c .before .row-part2 .ensures))
 
 pub row-weight-spec : {M : Type 1} → statement M

@@ -11,6 +11,10 @@ use Rattle.trits.specs.Rows.{rowPart}
 use Rattle.held_key.proofs.key.held_row.Statement.{statement}
 use Rattle.held_key.proofs.key.held_row.Tie as tie
 
+-- The places that the answers look back to, each from a later one.
+abbrev start-from-row-words : tie.After-row-words → tie.Start
+start-from-row-words c = c .before .before .before .before .before
+
 is-sound-requires : tie.Need-is-sound-requires
 is-sound-requires c κs = search needs
 
@@ -29,13 +33,15 @@ row-words-requires c κs =
 
 row-part-requires : tie.Need-row-part-requires
 row-part-requires c κs =
-    let z = sizes (c .before .before .before .before .before .args .held) (sym (c .before .before .before .is-sound .ensures) ∙ c .before .before .if1 .taken) in
+    let z = sizes (start-from-row-words c .args .held) (sym (c .before .before .before .is-sound .ensures) ∙ c .before .before .if1 .taken) in
     omega (arith, c .row-words .ensures)
 
 returns-2 : tie.Need-returns-2
 returns-2 c =
-    let a = c .before .before .before .before .before .before .args in
-    let s = sym (c .before .before .before .before .is-sound .ensures) ∙ c .before .before .before .if1 .taken in
+    let after-is-sound = c .before .before .before .before in
+    let start = after-is-sound .before .before in
+    let a = start .args in
+    let s = sym (after-is-sound .is-sound .ensures) ∙ c .before .before .before .if1 .taken in
     c .row-part .ensures
     ∙ ap (λ (w : ℕ). rowPart (now (a .plane)) (a .held .k) w (a .i)) (c .before .row-words .ensures)
     ∙ row-stored (a .held) (now (a .plane)) (a .i) s (omega arith)
@@ -45,7 +51,9 @@ slice-aggregate-result-2 c = search needs
 
 returns-3 : tie.Need-returns-3
 returns-3 c =
-    row-unsound (c .before .before .before .before .args .held) (now (c .before .before .before .before .args .plane)) (c .before .before .before .before .args .i) (sym (c .before .before .is-sound .ensures) ∙ c .before .if1 .left)
+    let start = c .before .before .before .before in
+    let a = start .args in
+    row-unsound (a .held) (now (a .plane)) (a .i) (sym (c .before .before .is-sound .ensures) ∙ c .before .if1 .left)
 
 pub held-row-spec : {M : Type 1} → statement M
 held-row-spec =

@@ -16,7 +16,8 @@ row-words-requires c κs = search needs
 mul-result : tie.Need-mul-result
 mul-result c =
     let s = sizes (c .before .args .held) (c .before .pre) in
-    let e : c .before .args .held .k * c .row-words .result ≡ keyWords (c .before .args .held) = ap (λ (x : ℕ). c .before .args .held .k * x) (c .row-words .ensures) in
+    let e : c .before .args .held .k * c .row-words .result ≡ keyWords (c .before .args .held) = ap (λ (x : ℕ). c .before .args .held .k * x)
+    (c .row-words .ensures) in
     omega (arith, s .room, e)
 
 returns : tie.Need-returns

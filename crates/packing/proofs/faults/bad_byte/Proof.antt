@@ -39,8 +39,11 @@ loop-less c =
     omega arith
 
 loop-again : tie.Need-loop-again Inv-loop μ-loop
-loop-again c =
-    (omega arith, big-passed (now (c .before .before .before .before .args .bytes)) (c .before .before .before .loop .i) (c .before .before .before .loop .inv .1) (omega arith))
+loop-again c = (
+  omega arith,
+  big-passed (now (c .before .before .before .before .args .bytes)) (c .before .before .before .loop .i) (c .before .before .before .loop .inv .1)
+      (omega arith),
+)
 
 returns-2 : tie.Need-returns-2 Inv-loop μ-loop
 returns-2 c =

@@ -25,7 +25,8 @@ loop-holds c =
 
 returns : tie.Need-returns Inv-loop μ-loop
 returns c =
-    long-enough (c .before .before .before .before .args .m) (now (c .before .before .before .before .args .bytes)) (c .before .before .loop .i) (c .before .before .loop .inv .1) (c .if1 .taken)
+    let start = c .before .before .before .before in
+    long-enough (start .args .m) (now (start .args .bytes)) (c .before .before .loop .i) (c .before .before .loop .inv .1) (c .if1 .taken)
 
 shared-slice-read-count-byte : tie.Need-shared-slice-read-count-byte Inv-loop μ-loop
 shared-slice-read-count-byte c = search needs
@@ -42,8 +43,10 @@ loop-less c =
 
 loop-again : tie.Need-loop-again Inv-loop μ-loop
 loop-again c =
-    let s = c .before .before .before .before in
-    (omega arith, missing-turn (s .before .before .args .m) (now (s .before .before .args .bytes)) (s .loop .i) (omega arith) (s .loop .inv .1) (c .count-byte .ensures))
+    let s = c .before .before .before .before in (
+      omega arith,
+      missing-turn (s .before .before .args .m) (now (s .before .before .args .bytes)) (s .loop .i) (omega arith) (s .loop .inv .1) (c .count-byte .ensures),
+    )
 
 returns-2 : tie.Need-returns-2 Inv-loop μ-loop
 returns-2 c =

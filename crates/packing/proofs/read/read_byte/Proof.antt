@@ -43,12 +43,15 @@ trit-below-requires-5 c κs = search needs
 
 -- each of the five is below 3
 small : (c : tie.After-trit-below5)
-    → (c .before .before .before .before .trit-below .result < 3) × (c .before .before .before .trit-below2 .result < 3) × (c .before .before .trit-below3 .result < 3) × (c .before .trit-below4 .result < 3) × (c .trit-below5 .result < 3)
+    → (c .before .before .before .before .trit-below .result < 3) × (c .before .before .before .trit-below2 .result < 3) ×
+    (c .before .before .trit-below3 .result < 3) × (c .before .trit-below4 .result < 3) × (c .trit-below5 .result < 3)
 small c =
-    let a = c .before .before .before .before .before .before .before .args in
+    let after-trit-below = c .before .before .before .before in
+    let start = after-trit-below .before .before .before in
+    let a = start .args in
     let v = upTo (a .m) (tritAt (now (a .ones)) (now (a .twos))) in
     let p = 5 * a .j in (
-      omega (arith, c .before .before .before .before .trit-below .ensures, number-lt (v p)),
+      omega (arith, after-trit-below .trit-below .ensures, number-lt (v p)),
       omega (arith, c .before .before .before .trit-below2 .ensures, number-lt (v (p + 1))),
       omega (arith, c .before .before .trit-below3 .ensures, number-lt (v (p + 2))),
       omega (arith, c .before .trit-below4 .ensures, number-lt (v (p + 3))),
@@ -98,7 +101,14 @@ add-result-4 c =
 returns : tie.Need-returns
 unfolding byteOf
 returns c =
-    omega (arith, c .before .before .before .before .trit-below .ensures, c .before .before .before .trit-below2 .ensures, c .before .before .trit-below3 .ensures, c .before .trit-below4 .ensures, c .trit-below5 .ensures)
+    omega (
+      arith,
+      c .before .before .before .before .trit-below .ensures,
+      c .before .before .before .trit-below2 .ensures,
+      c .before .before .trit-below3 .ensures,
+      c .before .trit-below4 .ensures,
+      c .trit-below5 .ensures,
+    )
 
 pub read-byte-spec : {M : Type 1} → statement M
 read-byte-spec =

@@ -17,6 +17,10 @@ Inv-loop m ones twos bytes₀ j₀ bytes j =
 abbrev μ-loop : tie.MeasureT-loop
 μ-loop m ones twos bytes₀ j₀ bytes j = length bytes₀ - j
 
+-- The places that the answers look back to, each from a later one.
+abbrev start-from-after-loop : tie.After-loop Inv-loop μ-loop → tie.Start Inv-loop μ-loop
+start-from-after-loop c = c .before .before .before .before .before
+
 loop-holds : tie.Need-loop-holds Inv-loop μ-loop
 loop-holds c =
     (omega arith, patch-none _ _ _)
@@ -49,7 +53,7 @@ same-length c =
 returns : tie.Need-returns Inv-loop μ-loop
 unfolding packedBytes
 returns c =
-    patched-all _ (c .before .loop .inv .1) (c .before .before .before .before .before .pre .3) (omega arith)
+    patched-all _ (c .before .loop .inv .1) (start-from-after-loop c .pre .3) (omega arith)
 
 pub read-bytes-spec : {M : Type 1} → statement M
 read-bytes-spec =

@@ -47,9 +47,11 @@ loop-less c =
 
 loop-again : tie.Need-loop-again Inv-loop μ-loop
 loop-again c =
-    let s = c .before .before .before .before .before .before .before .before .before in
+    let after-put-trit = c .before .before .before .before in
+    let after-trit = after-put-trit .before in
+    let s = after-trit .before .before .before .before in
     let a = s .before .before .before .args in
-    (omega arith, put-turn _ (a .b) (a .at) (s .loop .k) (s .loop .inv .1) (c .before .before .before .before .before .trit .ensures) (c .before .before .before .before .put-trit .ensures))
+    (omega arith, put-turn _ (a .b) (a .at) (s .loop .k) (s .loop .inv .1) (after-trit .trit .ensures) (after-put-trit .put-trit .ensures))
 
 same-length : tie.Need-same-length Inv-loop μ-loop
 same-length c =

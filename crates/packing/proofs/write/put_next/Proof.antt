@@ -39,9 +39,12 @@ same-length-2 c = search needs
 
 returns-2 : tie.Need-returns-2
 returns-2 c =
-    let a = c .before .before .before .before .before .before .before .before .before .before .before .args in
-    let z = gives-few (a .m) (a .at) (a .b) (omega arith) (c .before .before .before .before .before .before .before .if2 .taken) in
-    (omega arith, reads-to (c .before .before .before .before .put-byte .ensures) (ap (withByte (tritAt (now (a .ones)) (now (a .twos))) (a .b) (a .at)) (sym z)))
+    let after-put-byte = c .before .before .before .before in
+    let then2 = after-put-byte .before .before .before in
+    let start = then2 .before .before .before .before in
+    let a = start .args in
+    let z = gives-few (a .m) (a .at) (a .b) (omega arith) (then2 .if2 .taken) in
+    (omega arith, reads-to (after-put-byte .put-byte .ensures) (ap (withByte (tritAt (now (a .ones)) (now (a .twos))) (a .b) (a .at)) (sym z)))
 
 put-byte-requires-2 : tie.Need-put-byte-requires-2
 put-byte-requires-2 c κs =
@@ -60,9 +63,12 @@ same-length-4 c = search needs
 
 returns-3 : tie.Need-returns-3
 returns-3 c =
-    let a = c .before .before .before .before .before .before .before .before .before .before .before .args in
-    let z = gives-five (a .m) (a .at) (a .b) (omega arith) (c .before .before .before .before .before .before .before .if2 .left) in
-    (omega arith, reads-to (c .before .before .before .before .put-byte2 .ensures) (ap (withByte (tritAt (now (a .ones)) (now (a .twos))) (a .b) (a .at)) (sym z)))
+    let after-put-byte2 = c .before .before .before .before in
+    let else2 = after-put-byte2 .before .before .before in
+    let start = else2 .before .before .before .before in
+    let a = start .args in
+    let z = gives-five (a .m) (a .at) (a .b) (omega arith) (else2 .if2 .left) in
+    (omega arith, reads-to (after-put-byte2 .put-byte2 .ensures) (ap (withByte (tritAt (now (a .ones)) (now (a .twos))) (a .b) (a .at)) (sym z)))
 
 pub put-next-spec : {M : Type 1} → statement M
 put-next-spec =

@@ -18,13 +18,23 @@ Inv-loop table m bytes ones₀ twos₀ at₀ i₀ ones twos at i =
 abbrev μ-loop : tie.MeasureT-loop
 μ-loop table m bytes ones₀ twos₀ at₀ i₀ ones twos at i = length bytes - i
 
+-- The places that the answers look back to, each from a later one.
+abbrev start-from-in-loop : tie.In-loop Inv-loop μ-loop → tie.Start Inv-loop μ-loop
+start-from-in-loop c = c .before .before .before .before .before
+
+abbrev in-loop-from-put-next : tie.After-put-next Inv-loop μ-loop → tie.In-loop Inv-loop μ-loop
+in-loop-from-put-next c = c .before .before .before .before
+
+abbrev start-from-after-loop : tie.After-loop Inv-loop μ-loop → tie.Start Inv-loop μ-loop
+start-from-after-loop c = c .before .before .before .before .before
+
 loop-holds : tie.Need-loop-holds Inv-loop μ-loop
 loop-holds c =
     (stands-none _ _, c .before .before .before .pre .1 .0)
 
 -- there is a byte to read
 more : (c : tie.In-loop Inv-loop μ-loop) → c .before .loop .i < length (now (c .before .before .before .before .before .args .bytes))
-more c = stands-more (c .before .loop .inv .0) (c .loop-test .taken) (c .before .before .before .before .before .pre .1 .1 .0)
+more c = stands-more (c .before .loop .inv .0) (c .loop-test .taken) (start-from-in-loop c .pre .1 .1 .0)
 
 shared-slice-read-put-next : tie.Need-shared-slice-read-put-next Inv-loop μ-loop
 shared-slice-read-put-next c =
@@ -33,23 +43,26 @@ shared-slice-read-put-next c =
 put-next-requires : tie.Need-put-next-requires Inv-loop μ-loop
 put-next-requires c κs =
     let s = c .before .before .before .before in
+    let start = s .before .before .before .before in
     let r = s .loop .inv .1 in
-    (s .before .before .before .before .pre .0, (r .row, omega (arith, s .loop .inv .0 .within, r .size)))
+    (start .pre .0, (r .row, omega (arith, s .loop .inv .0 .within, r .size)))
 
 add-i : tie.Need-add-i Inv-loop μ-loop
 add-i c =
-    omega (arith, more (c .before .before .before .before .before .before .before .before))
+    omega (arith, more (in-loop-from-put-next (c .before .before .before .before)))
 
 loop-less : tie.Need-loop-less Inv-loop μ-loop
 loop-less c =
-    omega (arith, more (c .before .before .before .before .before .before .before .before))
+    omega (arith, more (in-loop-from-put-next (c .before .before .before .before)))
 
 loop-again : tie.Need-loop-again Inv-loop μ-loop
 loop-again c =
-    let s = c .before .before .before .before .before .before .before .before .before in
-    let e = c .before .before .before .before .put-next .ensures in (
-      stands-next (s .loop .inv .0) (c .before .before .before .before .before .before .before .before .loop-test .taken) (more (c .before .before .before .before .before .before .before .before)) (e .0),
-      reads-next (s .loop .inv .0) (c .before .before .before .before .before .before .before .before .loop-test .taken) (more (c .before .before .before .before .before .before .before .before)) (s .loop .inv .1) (e .0) (e .1),
+    let after-put-next = c .before .before .before .before in
+    let in-loop = after-put-next .before .before .before .before in
+    let s = in-loop .before in
+    let e = after-put-next .put-next .ensures in (
+      stands-next (s .loop .inv .0) (in-loop .loop-test .taken) (more (in-loop)) (e .0),
+      reads-next (s .loop .inv .0) (in-loop .loop-test .taken) (more (in-loop)) (s .loop .inv .1) (e .0) (e .1),
     )
 
 same-length : tie.Need-same-length Inv-loop μ-loop
@@ -58,7 +71,7 @@ same-length c =
 
 same-length-2 : tie.Need-same-length-2 Inv-loop μ-loop
 same-length-2 c =
-    c .before .loop .inv .1 .row .same ∙ c .before .loop .inv .1 .size ∙ sym (c .before .before .before .before .before .pre .1 .0 .row .same)
+    c .before .loop .inv .1 .row .same ∙ c .before .loop .inv .1 .size ∙ sym (start-from-after-loop c .pre .1 .0 .row .same)
 
 returns : tie.Need-returns Inv-loop μ-loop
 returns c =

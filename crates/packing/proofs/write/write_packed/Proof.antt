@@ -8,9 +8,16 @@ use Rattle.packed.proofs.Turned.{bytes-passed}
 use Rattle.packing.proofs.write.write_packed.Statement.{statement}
 use Rattle.packing.proofs.write.write_packed.Tie as tie
 
+-- The places that the answers look back to, each from a later one.
+abbrev start-from-write-stream-arg2 : tie.After-write-stream-arg2 → tie.Start
+start-from-write-stream-arg2 c = c .before .before .before .before .before
+
+abbrev start-from-write-stream : tie.After-write-stream → tie.Start
+start-from-write-stream c = c .before .before .before .before .before .before
+
 write-stream-requires : tie.Need-write-stream-requires
 write-stream-requires c κs =
-    let s = c .before .before .before .before .before in
+    let s = start-from-write-stream-arg2 c in
     let e = bytes-passed (now (s .args .bytes)) (s .pre .1) in
     (s .pre .0 .0, kept-enough _ _ e (s .pre .0 .1), s .pre .0 .2, s .pre .0 .3)
 
@@ -22,8 +29,9 @@ same-length-2 c = search needs
 
 returns : tie.Need-returns
 returns c =
-    let s = c .before .before .before .before .before .before .before .before .before .before in
-    reads-to (c .before .before .before .before .write-stream .ensures) (kept-row (s .args .m) _ (bytes-passed _ (s .pre .1)))
+    let after-write-stream = c .before .before .before .before in
+    let s = start-from-write-stream after-write-stream in
+    reads-to (after-write-stream .write-stream .ensures) (kept-row (s .args .m) _ (bytes-passed _ (s .pre .1)))
 
 pub write-packed-spec : {M : Type 1} → statement M
 write-packed-spec = tie.close (tie.spec write-stream-requires same-length same-length-2 returns)

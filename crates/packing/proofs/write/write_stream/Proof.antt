@@ -12,6 +12,16 @@ use Rattle.packed.specs.Packed.{packedAt}
 use Rattle.packing.proofs.write.write_stream.Statement.{statement}
 use Rattle.packing.proofs.write.write_stream.Tie as tie
 
+-- The places that the answers look back to, each from a later one.
+abbrev start-from-zero-words : tie.After-zero-words → tie.Start
+start-from-zero-words c = c .before .before .before .before .before
+
+abbrev zero-words-from-byte-table : tie.After-byte-table → tie.After-zero-words
+zero-words-from-byte-table c = c .before .before .before .before .before .before .before
+
+abbrev zero-words-from-put-stream : tie.After-put-stream → tie.After-zero-words
+zero-words-from-put-stream c = zero-words-from-byte-table (c .before .before .before .before)
+
 zero-words-requires : tie.Need-zero-words-requires
 zero-words-requires c κs = search needs
 
@@ -24,9 +34,11 @@ byte-table-requires c κs = search needs
 put-stream-requires : tie.Need-put-stream-requires
 unfolding streamRow
 put-stream-requires c κs =
-    let s = c .before .before .before .before .before .before .before .before .before .before .before .before .before .before .before in
-    let eo = c .before .before .before .before .before .before .before .before .before .before .zero-words .ensures in
-    let et = c .before .before .before .before .before .before .zero-words2 .ensures in
+    let after-zero-words2 = c .before .before .before .before .before .before in
+    let after-zero-words = after-zero-words2 .before .before .before .before in
+    let s = start-from-zero-words after-zero-words in
+    let eo = after-zero-words .zero-words .ensures in
+    let et = after-zero-words2 .zero-words2 .ensures in
     let l = ap length eo ∙ length-zeros (length (now (s .args .ones))) in
     (c .before .before .before .byte-table .ensures, (zeros-hold (packedAt (kept (now (s .args .bytes)))) eo et (s .pre .0), omega (arith, l)))
 
@@ -38,9 +50,11 @@ same-length-2 c = search needs
 
 returns : tie.Need-returns
 returns c =
-    let s = c .before .before .before .before .before .before .before .before .before .before .before .before .before .before .before .before .before .before .before .before in
-    let l = ap length (c .before .before .before .before .before .before .before .before .before .before .before .before .before .before .before .zero-words .ensures) ∙ length-zeros (length (now (s .args .ones))) in
-    rw l at (c .before .before .before .before .put-stream .ensures)
+    let after-put-stream = c .before .before .before .before in
+    let after-zero-words = zero-words-from-put-stream after-put-stream in
+    let s = start-from-zero-words after-zero-words in
+    let l = ap length (after-zero-words .zero-words .ensures) ∙ length-zeros (length (now (s .args .ones))) in
+    rw l at (after-put-stream .put-stream .ensures)
 
 pub write-stream-spec : {M : Type 1} → statement M
 write-stream-spec =

@@ -1,4 +1,5 @@
--- Only the last word of a row has places past the length; the bits of the last words are gathered row by row (`gather-turn`), and one is set from bit m % 64 on where some row has it.
+-- Only the last word of a row has places past the length; the bits of the last words are gathered row
+-- by row (`gather-turn`), and one is set from bit m % 64 on where some row has it.
 -- Assumes nothing.
 use Prim.Native.Nat.{ℕ, _+_, _-_, _*_, _/_, _%_, _≤_, _<_, _^_}
 use mathlib.Core.Path.{_≡_, ap, _∙_}
@@ -39,7 +40,8 @@ within : (c : tie.In-loop Inv-loop μ-loop) → c .before .loop .last < c .befor
 within c =
     let l = c .before .loop in
     let a = c .before .before .before .args in
-    last-within (now (a .ones)) (now (a .twos)) (a .rows) (a .m) (l .i) (c .before .before .before .pre .0) (c .before .before .before .pre .1) (c .loop-test .taken) (c .before .before .if1 .left) (l .inv .1)
+    last-within (now (a .ones)) (now (a .twos)) (a .rows) (a .m) (l .i) (c .before .before .before .pre .0) (c .before .before .before .pre .1)
+    (c .loop-test .taken) (c .before .before .if1 .left) (l .inv .1)
 
 -- a row has one word more than those that its length fills
 words : (c : tie.In-loop Inv-loop μ-loop) → c .before .before .before .args .m / 64 + 1 ≡ wordsFor (c .before .before .before .args .m)
@@ -81,7 +83,8 @@ loop-again c =
     let w = ap (λ (n : ℕ). l .last + n) (words (c .before .before)) in (
       omega arith,
       w ∙ last-next (l .i) (wordsFor (a .m)) (l .last) (a .m / 64) (l .inv .1),
-      gather-turn (now (a .ones)) (now (a .twos)) (a .rows) (a .m) (l .i) (p .0) (p .1) (c .before .before .loop-test .taken) (s .before .if1 .left) (l .past) (l .inv .1)
+      gather-turn (now (a .ones)) (now (a .twos)) (a .rows) (a .m) (l .i) (p .0) (p .1) (c .before .before .loop-test .taken) (s .before .if1 .left) (l .past)
+          (l .inv .1)
           (c .before .shared-slice-known .given (l .last)) (c .shared-slice-known2 .given (l .last)) (l .inv .2),
     )
 

@@ -5,6 +5,10 @@ use Rattle.trits.proofs.Put.{put-words}
 use Rattle.planes.proofs.places.put_trit.Statement.{statement}
 use Rattle.planes.proofs.places.put_trit.Tie as tie
 
+-- The places that the answers look back to, each from a later one.
+abbrev start-from-with-bit2 : tie.After-with-bit2 → tie.Start
+start-from-with-bit2 c = c .before .before .before .before .before .before
+
 mul-with-bit : tie.Need-mul-with-bit
 mul-with-bit c = search needs
 
@@ -43,7 +47,7 @@ same-length-2 c = search needs
 
 returns : tie.Need-returns
 returns c =
-    let s = c .before .before .before .before .before .before in
+    let s = start-from-with-bit2 c in
     let a = s .args in
     put-words (a .i) (a .t) (s .pre .0) (s .pre .1 .0) (s .pre .1 .1) (c .before .before .with-bit .ensures) (c .with-bit2 .ensures)
 

@@ -26,7 +26,9 @@ same-length c = search needs
 
 returns : tie.Need-returns
 returns c =
-    put-front (c .before .before .before .before .before .before .args .start) (now (c .before .before .before .before .before .before .args .row)) (now (c .before .before .before .before .before .before .args .plane)) _ (c .before .before .before .before .before .before .pre) (c .before .before .write-row .ensures)
+    let start′ = c .before .before .before .before .before .before in
+    let a = start′ .args in
+    put-front (a .start) (now (a .row)) (now (a .plane)) _ (start′ .pre) (c .before .before .write-row .ensures)
 
 pub put-row-spec : {M : Type 1} → statement M
 put-row-spec =

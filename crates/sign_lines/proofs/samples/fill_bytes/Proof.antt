@@ -18,6 +18,10 @@ Inv-loop bytes₀ x state₀ j₀ bytes state j =
 abbrev μ-loop : tie.MeasureT-loop
 μ-loop bytes₀ x state₀ j₀ bytes state j = length bytes₀ - j
 
+-- The places that the answers look back to, each from a later one.
+abbrev start-from-packed : tie.After-packed Inv-loop μ-loop → tie.Start Inv-loop μ-loop
+start-from-packed c = c .before .before .before .before .before
+
 loop-holds : tie.Need-loop-holds Inv-loop μ-loop
 unfolding numberAfter packedAfter
 loop-holds c = (refl, omega arith, refl, refl)
@@ -40,7 +44,7 @@ loop-less c = search needs
 loop-again : tie.Need-loop-again Inv-loop μ-loop
 loop-again c =
     let l = c .before .before .before .loop in
-    let x = c .before .before .before .before .before .args .x in
+    let x = start-from-packed c .args .x in
     let e = c .before .next .ensures ∙ number-next (l .j) x (l .state) (l .inv .2) in
     let r = ap (λ (v : ℕ). take (l .j + 1) (set (l .bytes) (l .j) v)) (c .packed .ensures) in
     (length-set (l .bytes) (l .j) _ ∙ l .inv .0, omega arith, e, r ∙ packed-next (l .bytes) (l .j) x (c .before .next .result) (omega arith) (l .inv .3) e)

@@ -18,6 +18,10 @@ Inv-loop order₀ a b n q₀ j₀ order q j =
 abbrev μ-loop : tie.MeasureT-loop
 μ-loop order₀ a b n q₀ j₀ order q j = n - j
 
+-- The places that the answers look back to, each from a later one.
+abbrev start-from-turn : tie.After-turn Inv-loop μ-loop → tie.Start Inv-loop μ-loop
+start-from-turn c = c .before .before .before .before .before
+
 loop-holds : tie.Need-loop-holds Inv-loop μ-loop
 unfolding ringPlace ringOrder
 loop-holds c = (refl, omega arith, omega arith, refl, refl)
@@ -43,7 +47,7 @@ loop-less c = search needs
 loop-again : tie.Need-loop-again Inv-loop μ-loop
 loop-again c =
     let l = c .before .before .before .loop in
-    let s = c .before .before .before .before .before .args in
+    let s = start-from-turn c .args in
     let n = length (now (s .order)) in
     let v : c .before .place .result ≡ ringPlace n (s .a) (s .b) (l .j) = omega (arith, c .before .place .ensures, l .inv .3) in
     let q = c .turn .ensures .0 ∙ place-next n (s .a) (s .b) (l .j) (l .q) (l .inv .3) in

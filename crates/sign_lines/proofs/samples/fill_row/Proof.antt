@@ -11,6 +11,13 @@ use Rattle.sign_lines.proofs.Made.{part-length}
 use Rattle.sign_lines.proofs.samples.fill_row.Statement.{statement}
 use Rattle.sign_lines.proofs.samples.fill_row.Tie as tie
 
+-- The places that the answers look back to, each from a later one.
+abbrev unpack-row-from-slice-known4 : tie.After-slice-known4 → tie.After-unpack-row
+unpack-row-from-slice-known4 c = c .before .before .before .before .before
+
+abbrev start-from-unpack-row : tie.After-unpack-row → tie.Start
+start-from-unpack-row c = c .before .before .before .before .before .before
+
 add-b : tie.Need-add-b
 add-b c = search needs
 
@@ -34,9 +41,11 @@ same-length-2 c = search needs
 
 returns : tie.Need-returns
 returns c =
-    let a = c .before .before .before .before .before .before .before .before .before .before .before .args in
-    let h : (a .m + 4) / 5 ≤ 3277 = omega (arith, c .before .before .before .before .before .before .before .before .before .before .before .pre) in
-    let u = c .before .before .before .before .before .unpack-row .ensures in
+    let after-unpack-row = unpack-row-from-slice-known4 c in
+    let start = start-from-unpack-row after-unpack-row in
+    let a = start .args in
+    let h : (a .m + 4) / 5 ≤ 3277 = omega (arith, start .pre) in
+    let u = after-unpack-row .unpack-row .ensures in
     let o = now (a .ones) in
     let t = now (a .twos) in (
       u .0 ∙ ap (λ (n : ℕ). unpackRefusal (unpackOf (a .m) (packedAfter n (a .x)) o t)) (part-length _ _ 3277 refl h),

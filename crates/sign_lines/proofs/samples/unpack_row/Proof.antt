@@ -9,6 +9,16 @@ use Rattle.packed.specs.Calls.{unpackOf, unpackRefusal, unpackOnes, unpackTwos}
 use Rattle.sign_lines.proofs.samples.unpack_row.Statement.{statement}
 use Rattle.sign_lines.proofs.samples.unpack_row.Tie as tie
 
+-- The places that the answers look back to, each from a later one.
+abbrev unpack-from-code : tie.After-code → tie.After-unpack
+unpack-from-code c = c .before .before .before .before .before
+
+abbrev fill-bytes-from-unpack : tie.After-unpack → tie.After-fill-bytes
+fill-bytes-from-unpack c = c .before .before .before .before .before .before
+
+abbrev start-from-fill-bytes : tie.After-fill-bytes → tie.Start
+start-from-fill-bytes c = c .before .before .before .before .before
+
 fill-bytes-requires : tie.Need-fill-bytes-requires
 fill-bytes-requires c κs = search needs
 
@@ -29,9 +39,12 @@ same-length-3 c = search needs
 
 returns : tie.Need-returns
 returns c =
-    let a = c .before .before .before .before .before .before .before .before .before .before .before .before .before .before .before .before .args in
-    let f = c .before .before .before .before .before .before .before .before .before .before .before .fill-bytes .ensures in
-    let u = c .before .before .before .before .before .unpack .ensures in
+    let after-unpack = unpack-from-code c in
+    let after-fill-bytes = fill-bytes-from-unpack after-unpack in
+    let start = start-from-fill-bytes after-fill-bytes in
+    let a = start .args in
+    let f = after-fill-bytes .fill-bytes .ensures in
+    let u = after-unpack .unpack .ensures in
     let o = now (a .ones) in
     let t = now (a .twos) in (
       c .code .ensures ∙ u .0 ∙ ap (λ (b : List ℕ). unpackRefusal (unpackOf (a .m) b o t)) (f .1),

@@ -116,7 +116,13 @@ put-decimal-put-byte-requires-2 : (t : ℕ) → put-decimal-lts.Need-put-byte-re
 ) (put-decimal-at t) put-decimal.Post
 put-decimal-put-byte-requires-2 t c κs =
     let s = c .before .before .before .before .before .before .before in
-    omega (arith, s .pre .1, length-more (s .args .n) (c .before .before .before .before .before .if1 .left), c .before .before .before .put-decimal .ensures .0, c .before .before .before .put-decimal .kept .0)
+    omega (
+      arith,
+      s .pre .1,
+      length-more (s .args .n) (c .before .before .before .before .before .if1 .left),
+      c .before .before .before .put-decimal .ensures .0,
+      c .before .before .before .put-decimal .kept .0,
+    )
 
 put-decimal-same-length-2 : (t : ℕ) → put-decimal-lts.Need-same-length-2 (
   put-byte-reads.Asked,
@@ -139,7 +145,8 @@ put-decimal-returns-2 t c =
     let h = c .before .before .before .before .before .before .before .before .if1 .left in
     let d = c .before .before .before .before .before .before .put-decimal .ensures in
     let p = c .before .before .put-byte2 .ensures in
-    let g = put-then (now (s .args .out)) (s .args .at) (decimal (n / 10)) _ ((48 + n % 10) ∷ []) (omega (arith, s .pre .1, length-more n h)) (d .0) (d .1) (p .1) in
+    let g = put-then (now (s .args .out)) (s .args .at) (decimal (n / 10)) _ ((48 + n % 10) ∷ []) (omega (arith, s .pre .1, length-more n h)) (d .0) (d .1)
+    (p .1) in
     (omega (arith, p .0, d .0, length-more n h), g ∙ ap (putWords (s .args .at) (now (s .args .out))) (decimal-more n h))
 
 pub +put-decimal-spec : {M : Type 1} → statement M

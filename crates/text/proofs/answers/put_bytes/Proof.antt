@@ -28,7 +28,9 @@ same-length c = search needs
 
 returns : tie.Need-returns
 returns c =
-    (refl, put-front (c .before .before .before .before .before .before .args .at) (now (c .before .before .before .before .before .before .args .bytes)) (now (c .before .before .before .before .before .before .args .out)) _ (c .before .before .before .before .before .before .pre) (c .before .before .write-bytes .ensures))
+    let start = c .before .before .before .before .before .before in
+    let a = start .args in
+    (refl, put-front (a .at) (now (a .bytes)) (now (a .out)) _ (start .pre) (c .before .before .write-bytes .ensures))
 
 pub put-bytes-spec : {M : Type 1} → statement M
 put-bytes-spec =

@@ -21,8 +21,10 @@ same-length c = search needs
 
 returns : tie.Need-returns
 returns c =
-    let s = c .before .before .before .before .before .before .before .before .before .before in
-    line-wrote (now (s .args .out)) (s .pre) (s .args .refusal) (twenty-digits _ (s .fits .refusal .fits)) (c .before .before .before .before .before .before .put-bytes .ensures) (c .before .before .put-refused .ensures)
+    let after-put-bytes = c .before .before .before .before .before .before in
+    let s = after-put-bytes .before .before .before .before in
+    line-wrote (now (s .args .out)) (s .pre) (s .args .refusal) (twenty-digits _ (s .fits .refusal .fits)) (after-put-bytes .put-bytes .ensures)
+    (c .before .before .put-refused .ensures)
 
 pub put-line-refused-spec : {M : Type 1} → statement M
 put-line-refused-spec =

@@ -18,8 +18,11 @@ same-length c = search needs
 
 returns : tie.Need-returns
 returns c =
-    let s = c .before .before .before .before .before .before .before .before .before in
-    sign-wrote (now (s .args .out)) (s .pre) (s .args .key) (s .args .formula) (s .args .refusal) (twenty-digits _ (s .fits .refusal .fits)) (c .before .before .before .before .before .before .put-pair .ensures) (c .before .before .put-refused .ensures)
+    let after-put-pair = c .before .before .before .before .before .before in
+    let s = after-put-pair .before .before .before in
+    let a = s .args in
+    sign-wrote (now (a .out)) (s .pre) (a .key) (a .formula) (a .refusal) (twenty-digits _ (s .fits .refusal .fits)) (after-put-pair .put-pair .ensures)
+    (c .before .before .put-refused .ensures)
 
 pub put-sign-refused-spec : {M : Type 1} → statement M
 put-sign-refused-spec =

@@ -17,8 +17,10 @@ same-length c = search needs
 
 returns : tie.Need-returns
 returns c =
-    let a = c .before .before .before .before .before .before .before .args in
-    rw (eq-eqb (a .yes) 1 (c .before .before .before .before .before .if1 .taken)) (c .before .before .put-bytes .ensures)
+    let then1 = c .before .before .before .before .before in
+    let start = then1 .before .before in
+    let a = start .args in
+    rw (eq-eqb (a .yes) 1 (then1 .if1 .taken)) (c .before .before .put-bytes .ensures)
 
 slice-aggregate-put-bytes-2 : tie.Need-slice-aggregate-put-bytes-2
 slice-aggregate-put-bytes-2 c = search needs
@@ -31,8 +33,10 @@ same-length-2 c = search needs
 
 returns-2 : tie.Need-returns-2
 returns-2 c =
-    let a = c .before .before .before .before .before .before .before .args in
-    rw (ne-eqb (a .yes) 1 (c .before .before .before .before .before .if1 .left)) (c .before .before .put-bytes2 .ensures)
+    let else1 = c .before .before .before .before .before in
+    let start = else1 .before .before in
+    let a = start .args in
+    rw (ne-eqb (a .yes) 1 (else1 .if1 .left)) (c .before .before .put-bytes2 .ensures)
 
 pub put-word-spec : {M : Type 1} → statement M
 put-word-spec =

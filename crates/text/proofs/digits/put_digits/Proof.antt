@@ -22,6 +22,13 @@ Inv-loop field ones₀ twos₀ i₀ ones twos i =
 abbrev μ-loop : tie.MeasureT-loop
 μ-loop field ones₀ twos₀ i₀ ones twos i = length field - i
 
+-- The places that the answers look back to, each from a later one.
+abbrev at-loop-from-put-trit : tie.After-put-trit Inv-loop μ-loop → tie.At-loop Inv-loop μ-loop
+at-loop-from-put-trit c = c .before .before .before .before .before
+
+abbrev start-from-after-loop : tie.After-loop Inv-loop μ-loop → tie.Start Inv-loop μ-loop
+start-from-after-loop c = c .before .before .before .before .before
+
 loop-holds : tie.Need-loop-holds Inv-loop μ-loop
 loop-holds c =
     let p = c .before .before .before .pre in
@@ -32,13 +39,15 @@ shared-slice-read-put-trit c = search needs
 
 sub-put-trit : tie.Need-sub-put-trit Inv-loop μ-loop
 sub-put-trit c =
-    let s = c .before .before .before .before .before .before .before .before in
-    omega (arith, digit-range (now (s .args .field)) (s .pre .0) (c .before .before .before .before .loop .i) (omega arith))
+    let at-loop = c .before .before .before .before in
+    let s = at-loop .before .before .before .before in
+    omega (arith, digit-range (now (s .args .field)) (s .pre .0) (at-loop .loop .i) (omega arith))
 
 put-trit-requires : tie.Need-put-trit-requires Inv-loop μ-loop
 put-trit-requires c κs =
-    let s = c .before .before .before .before .before .before .before .before in
-    (c .before .before .before .before .loop .inv .3 .row, (omega arith, omega (arith, digit-range (now (s .args .field)) (s .pre .0) (c .before .before .before .before .loop .i) (omega arith))))
+    let at-loop = c .before .before .before .before in
+    let s = at-loop .before .before .before .before in
+    (at-loop .loop .inv .3 .row, (omega arith, omega (arith, digit-range (now (s .args .field)) (s .pre .0) (at-loop .loop .i) (omega arith))))
 
 add-i : tie.Need-add-i Inv-loop μ-loop
 add-i c = search needs
@@ -49,8 +58,15 @@ loop-less c =
 
 loop-again : tie.Need-loop-again Inv-loop μ-loop
 loop-again c =
-    let l = c .before .before .before .before .before .before .before .before .before .loop in
-    (omega arith, c .before .before .before .before .put-trit .kept .0 ∙ l .inv .1, c .before .before .before .before .put-trit .kept .1 .0 ∙ l .inv .2, digit-put (now (c .before .before .before .before .before .before .before .before .before .before .before .before .before .args .field)) (l .i) (l .inv .3) (l .inv .1) (c .before .before .before .before .put-trit .ensures))
+    let after-put-trit = c .before .before .before .before in
+    let at-loop = at-loop-from-put-trit after-put-trit in
+    let start = at-loop .before .before .before .before in
+    let l = at-loop .loop in (
+      omega arith,
+      after-put-trit .put-trit .kept .0 ∙ l .inv .1,
+      after-put-trit .put-trit .kept .1 .0 ∙ l .inv .2,
+      digit-put (now (start .args .field)) (l .i) (l .inv .3) (l .inv .1) (after-put-trit .put-trit .ensures),
+    )
 
 same-length : tie.Need-same-length Inv-loop μ-loop
 same-length c =
@@ -64,7 +80,7 @@ returns : tie.Need-returns Inv-loop μ-loop
 unfolding digitRow
 returns c =
     let l = c .before .loop in
-    let e : l .i ≡ length (now (c .before .before .before .before .before .args .field)) = omega arith in
+    let e : l .i ≡ length (now (start-from-after-loop c .args .field)) = omega arith in
     rw (← e) (l .inv .3)
 
 pub put-digits-spec : {M : Type 1} → statement M

@@ -19,6 +19,13 @@ Inv-loop field low high i₀ i =
 abbrev μ-loop : tie.MeasureT-loop
 μ-loop field low high i₀ i = length field - i
 
+-- The places that the answers look back to, each from a later one.
+abbrev at-loop-from-then2 : tie.Then2 Inv-loop μ-loop → tie.At-loop Inv-loop μ-loop
+at-loop-from-then2 c = c .before .before .before .before .before
+
+abbrev at-loop-from-else2 : tie.Else2 Inv-loop μ-loop → tie.At-loop Inv-loop μ-loop
+at-loop-from-else2 c = c .before .before .before .before .before
+
 loop-holds : tie.Need-loop-holds Inv-loop μ-loop
 loop-holds c =
     (omega arith, refl)
@@ -37,8 +44,10 @@ shared-slice-read-if2 c = search needs
 
 returns-2 : tie.Need-returns-2 Inv-loop μ-loop
 returns-2 c =
-    let l = c .before .before .before .before .before .loop in
-    let a = c .before .before .before .before .before .before .args in
+    let at-loop = at-loop-from-then2 c in
+    let start = at-loop .before in
+    let l = at-loop .loop in
+    let a = start .args in
     sym (all-above (now (a .field)) (l .i) (a .low) (a .high) (omega arith) (c .before .before .if1 .left) (c .if2 .taken)) ∙ l .inv .1
 
 add-i : tie.Need-add-i Inv-loop μ-loop
@@ -49,8 +58,10 @@ loop-less c = search needs
 
 loop-again : tie.Need-loop-again Inv-loop μ-loop
 loop-again c =
-    let l = c .before .before .before .before .before .loop in
-    let a = c .before .before .before .before .before .before .args in
+    let at-loop = at-loop-from-else2 c in
+    let start = at-loop .before in
+    let l = at-loop .loop in
+    let a = start .args in
     (omega arith, sym (all-next (now (a .field)) (l .i) (a .low) (a .high) (omega arith) (c .before .before .if1 .left) (c .if2 .left)) ∙ l .inv .1)
 
 returns-3 : tie.Need-returns-3 Inv-loop μ-loop

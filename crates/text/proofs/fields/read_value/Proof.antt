@@ -39,8 +39,10 @@ add-v c = search needs
 returns : tie.Need-returns Inv-loop μ-loop
 unfolding value
 returns c =
-    let l = c .before .before .before .before .loop in
-    let f = now (c .before .before .before .before .before .before .args .field) in
+    let at-loop = c .before .before .before .before in
+    let start = at-loop .before .before in
+    let l = at-loop .loop in
+    let f = now (start .args .field) in
     let e = c .before .digit .ensures .0 in
     let v = 10 * l .v + (getD f (l .i) 0 - 48) in
     let n = sym (value-next f (l .i) (l .v) (omega arith)) ∙ l .inv .2 in
@@ -54,8 +56,10 @@ loop-less c = search needs
 
 loop-again : tie.Need-loop-again Inv-loop μ-loop
 loop-again c =
-    let l = c .before .before .before .before .loop in
-    let f = now (c .before .before .before .before .before .before .args .field) in
+    let at-loop = c .before .before .before .before in
+    let start = at-loop .before .before in
+    let l = at-loop .loop in
+    let f = now (start .args .field) in
     let e = c .before .digit .ensures .0 in
     (omega arith, c .if1 .left, ap (λ (x : ℕ). valueFrom (10 * l .v + x) (drop (l .i + 1) f)) e ∙ sym (value-next f (l .i) (l .v) (omega arith)) ∙ l .inv .2)
 

@@ -12,6 +12,19 @@ use Rattle.text.proofs.Told.{one-field, two-fields, three-fields, more-
 use Rattle.text.proofs.forms.four_fields.Statement.{statement}
 use Rattle.text.proofs.forms.four_fields.Tie as tie
 
+-- The places that the answers look back to, each from a later one.
+abbrev start-from-else2 : tie.Else2 → tie.Start
+start-from-else2 c = c .before .before .before .before .before
+
+abbrev start-from-find-tab3 : tie.After-find-tab3 → tie.Start
+start-from-find-tab3 c = c .before .before .before .before .before .before
+
+abbrev start-from-else3 : tie.Else3 → tie.Start
+start-from-else3 c = start-from-find-tab3 (c .before)
+
+abbrev start-from-then2 : tie.Then2 → tie.Start
+start-from-then2 c = c .before .before .before .before .before
+
 find-tab-requires : tie.Need-find-tab-requires
 find-tab-requires c κs = search needs
 
@@ -24,10 +37,10 @@ room-1 : (c : tie.Else1) → c .before .find-tab .result + 1 ≤ length (now (c 
 room-1 c = field-room (now (c .before .before .before .args .line)) 2 _ (c .before .find-tab .ensures) (c .before .before .before .pre) (c .if1 .left)
 
 room-2 : (c : tie.Else2) → c .before .find-tab2 .result + 1 ≤ length (now (c .before .before .before .before .before .args .line))
-room-2 c = field-room (now (c .before .before .before .before .before .args .line)) _ _ (c .before .find-tab2 .ensures) (room-1 (c .before .before)) (c .if2 .left)
+room-2 c = field-room (now (start-from-else2 c .args .line)) _ _ (c .before .find-tab2 .ensures) (room-1 (c .before .before)) (c .if2 .left)
 
 room-3 : (c : tie.Else3) → c .before .find-tab3 .result + 1 ≤ length (now (c .before .before .before .before .before .before .before .args .line))
-room-3 c = field-room (now (c .before .before .before .before .before .before .before .args .line)) _ _ (c .before .find-tab3 .ensures) (room-2 (c .before .before)) (c .if3 .left)
+room-3 c = field-room (now (start-from-else3 c .args .line)) _ _ (c .before .find-tab3 .ensures) (room-2 (c .before .before)) (c .if3 .left)
 
 add-find-tab : tie.Need-add-find-tab
 add-find-tab c =
@@ -39,8 +52,12 @@ find-tab-requires-2 c κs =
 
 returns-2 : tie.Need-returns-2
 returns-2 c =
-    let l = now (c .before .before .before .before .before .args .line) in
-    (λ z. two-fields l _ _ 0 0 (c .before .before .before .before .before .pre) (c .before .before .before .find-tab .ensures) (c .before .before .if1 .left) (c .before .find-tab2 .ensures) (c .if2 .taken), λ f. absurd (f refl))
+    let start = start-from-then2 c in
+    let l = now (start .args .line) in (
+      λ z. two-fields l _ _ 0 0 (start .pre) (c .before .before .before .find-tab .ensures) (c .before .before .if1 .left) (c .before .find-tab2 .ensures)
+          (c .if2 .taken),
+      λ f. absurd (f refl),
+    )
 
 add-find-tab-2 : tie.Need-add-find-tab-2
 add-find-tab-2 c =
@@ -52,8 +69,14 @@ find-tab-requires-3 c κs =
 
 returns-3 : tie.Need-returns-3
 returns-3 c =
-    let l = now (c .before .before .before .before .before .before .before .args .line) in
-    (λ z. three-fields l _ _ _ 0 (c .before .before .before .before .before .before .before .pre) (c .before .before .before .before .before .find-tab .ensures) (c .before .before .before .before .if1 .left) (c .before .before .before .find-tab2 .ensures) (c .before .before .if2 .left) (c .before .find-tab3 .ensures) (c .if3 .taken), λ f. absurd (f refl))
+    let else1 = c .before .before .before .before in
+    let after-find-tab = else1 .before in
+    let start = after-find-tab .before .before in
+    let l = now (start .args .line) in (
+      λ z. three-fields l _ _ _ 0 (start .pre) (after-find-tab .find-tab .ensures) (else1 .if1 .left) (c .before .before .before .find-tab2 .ensures)
+          (c .before .before .if2 .left) (c .before .find-tab3 .ensures) (c .if3 .taken),
+      λ f. absurd (f refl),
+    )
 
 add-find-tab-3 : tie.Need-add-find-tab-3
 add-find-tab-3 c =
@@ -65,13 +88,29 @@ find-tab-requires-4 c κs =
 
 returns-4 : tie.Need-returns-4
 returns-4 c =
-    let l = now (c .before .before .before .before .before .before .before .before .before .args .line) in
-    (λ z. more-fields l _ _ _ _ (c .before .before .before .before .before .before .before .before .before .pre) (c .before .before .before .before .before .before .before .find-tab .ensures) (c .before .before .before .before .before .before .if1 .left) (c .before .before .before .before .before .find-tab2 .ensures) (c .before .before .before .before .if2 .left) (c .before .before .before .find-tab3 .ensures) (c .before .before .if3 .left) (c .before .find-tab4 .ensures) (c .if4 .taken), λ f. absurd (f refl))
+    let else2 = c .before .before .before .before in
+    let after-find-tab2 = else2 .before in
+    let else1 = after-find-tab2 .before in
+    let after-find-tab = else1 .before in
+    let start = after-find-tab .before .before in
+    let l = now (start .args .line) in (
+      λ z. more-fields l _ _ _ _ (start .pre) (after-find-tab .find-tab .ensures) (else1 .if1 .left) (after-find-tab2 .find-tab2 .ensures) (else2 .if2 .left)
+          (c .before .before .before .find-tab3 .ensures) (c .before .before .if3 .left) (c .before .find-tab4 .ensures) (c .if4 .taken),
+      λ f. absurd (f refl),
+    )
 
 returns-5 : tie.Need-returns-5
 returns-5 c =
-    let l = now (c .before .before .before .before .before .before .before .before .before .args .line) in
-    (λ z. absurd (omega (arith, z)), λ f. four-fields l _ _ _ _ (c .before .before .before .before .before .before .before .before .before .pre) (c .before .before .before .before .before .before .before .find-tab .ensures) (c .before .before .before .before .before .before .if1 .left) (c .before .before .before .before .before .find-tab2 .ensures) (c .before .before .before .before .if2 .left) (c .before .before .before .find-tab3 .ensures) (c .before .before .if3 .left) (c .before .find-tab4 .ensures) (c .if4 .left))
+    let else2 = c .before .before .before .before in
+    let after-find-tab2 = else2 .before in
+    let else1 = after-find-tab2 .before in
+    let after-find-tab = else1 .before in
+    let start = after-find-tab .before .before in
+    let l = now (start .args .line) in (
+      λ z. absurd (omega (arith, z)),
+      λ f. four-fields l _ _ _ _ (start .pre) (after-find-tab .find-tab .ensures) (else1 .if1 .left) (after-find-tab2 .find-tab2 .ensures) (else2 .if2 .left)
+          (c .before .before .before .find-tab3 .ensures) (c .before .before .if3 .left) (c .before .find-tab4 .ensures) (c .if4 .left),
+    )
 
 pub four-fields-spec : {M : Type 1} → statement M
 four-fields-spec =

@@ -9,6 +9,10 @@ use Rattle.text.proofs.Told.{form-length, form-alone, long, form-key, f
 use Rattle.text.proofs.forms.read_form.Statement.{statement}
 use Rattle.text.proofs.forms.read_form.Tie as tie
 
+-- The places that the answers look back to, each from a later one.
+abbrev else2-from-read-sign : tie.After-read-sign → tie.Else2
+else2-from-read-sign c = c .before .before .before .before .before
+
 find-tab-requires : tie.Need-find-tab-requires
 find-tab-requires c κs = search needs
 
@@ -18,43 +22,83 @@ returns c =
 
 returns-2 : tie.Need-returns-2
 returns-2 c =
-    (form-alone (c .before .before .before .before .args .most-key) (now (c .before .before .before .before .args .line)) _ (c .before .before .find-tab .ensures) (c .before .if1 .left) (c .if2 .taken), tt)
+    let start = c .before .before .before .before in
+    (form-alone (start .args .most-key) (now (start .args .line)) _ (c .before .before .find-tab .ensures) (c .before .if1 .left) (c .if2 .taken), tt)
 
 shared-slice-read-letter : tie.Need-shared-slice-read-letter
 shared-slice-read-letter c =
     let s = c .before .before .before .before .before in
-    omega (arith, long (s .args .most-key) (now (s .args .line)) _ (c .before .before .before .find-tab .ensures) (c .before .before .if1 .left) (c .before .if2 .left))
+    omega (
+      arith,
+      long (s .args .most-key) (now (s .args .line)) _ (c .before .before .before .find-tab .ensures) (c .before .before .if1 .left) (c .before .if2 .left),
+    )
 
 read-key-requires : tie.Need-read-key-requires
 read-key-requires c κs =
-    let s = c .before .before .before .before .before .before in
-    (long (s .args .most-key) (now (s .args .line)) _ (c .before .before .before .before .find-tab .ensures) (c .before .before .before .if1 .left) (c .before .before .if2 .left), s .pre)
+    let after-find-tab = c .before .before .before .before in
+    let s = after-find-tab .before .before in (
+      long (s .args .most-key) (now (s .args .line)) _ (after-find-tab .find-tab .ensures) (c .before .before .before .if1 .left)
+          (c .before .before .if2 .left),
+      s .pre,
+    )
 
 returns-3 : tie.Need-returns-3
 returns-3 c =
-    (c .read-key .ensures .0 ∙ form-key (c .before .before .before .before .before .before .before .args .most-key) (now (c .before .before .before .before .before .before .before .args .line)) _ (c .before .before .before .before .before .find-tab .ensures) (c .before .before .before .before .if1 .left) (c .before .before .before .if2 .left) (c .before .if3 .taken), c .read-key .ensures .1)
+    let else1 = c .before .before .before .before in
+    let after-find-tab = else1 .before in
+    let start = after-find-tab .before .before in (
+      c .read-key .ensures .0 ∙ form-key (start .args .most-key) (now (start .args .line)) _ (after-find-tab .find-tab .ensures) (else1 .if1 .left)
+          (c .before .before .before .if2 .left) (c .before .if3 .taken),
+      c .read-key .ensures .1,
+    )
 
 read-row-requires : tie.Need-read-row-requires
 read-row-requires c κs =
-    let s = c .before .before .before .before .before .before .before in
-    long (s .args .most-key) (now (s .args .line)) _ (c .before .before .before .before .before .find-tab .ensures) (c .before .before .before .before .if1 .left) (c .before .before .before .if2 .left)
+    let else1 = c .before .before .before .before in
+    let after-find-tab = else1 .before in
+    let s = after-find-tab .before .before in
+    long (s .args .most-key) (now (s .args .line)) _ (after-find-tab .find-tab .ensures) (else1 .if1 .left) (c .before .before .before .if2 .left)
 
 returns-4 : tie.Need-returns-4
 returns-4 c =
-    (c .read-row .ensures .0 ∙ form-row (c .before .before .before .before .before .before .before .before .args .most-key) (now (c .before .before .before .before .before .before .before .before .args .line)) _ (c .before .before .before .before .before .before .find-tab .ensures) (c .before .before .before .before .before .if1 .left) (c .before .before .before .before .if2 .left) (c .before .before .if3 .left) (c .before .if4 .taken), c .read-row .ensures .1)
+    let else2 = c .before .before .before .before in
+    let else1 = else2 .before in
+    let after-find-tab = else1 .before in
+    let start = after-find-tab .before .before in (
+      c .read-row .ensures .0 ∙ form-row (start .args .most-key) (now (start .args .line)) _ (after-find-tab .find-tab .ensures) (else1 .if1 .left)
+          (else2 .if2 .left) (c .before .before .if3 .left) (c .before .if4 .taken),
+      c .read-row .ensures .1,
+    )
 
 read-sign-requires : tie.Need-read-sign-requires
 read-sign-requires c κs =
-    let s = c .before .before .before .before .before .before .before .before in
-    (long (s .args .most-key) (now (s .args .line)) _ (c .before .before .before .before .before .before .find-tab .ensures) (c .before .before .before .before .before .if1 .left) (c .before .before .before .before .if2 .left), s .pre)
+    let else2 = c .before .before .before .before in
+    let else1 = else2 .before in
+    let after-find-tab = else1 .before in
+    let s = after-find-tab .before .before in
+    (long (s .args .most-key) (now (s .args .line)) _ (after-find-tab .find-tab .ensures) (else1 .if1 .left) (else2 .if2 .left), s .pre)
 
 returns-5 : tie.Need-returns-5
 returns-5 c =
-    (c .read-sign .ensures .0 ∙ form-sign (c .before .before .before .before .before .before .before .before .before .args .most-key) (now (c .before .before .before .before .before .before .before .before .before .args .line)) _ (c .before .before .before .before .before .before .before .find-tab .ensures) (c .before .before .before .before .before .before .if1 .left) (c .before .before .before .before .before .if2 .left) (c .before .before .before .if3 .left) (c .before .before .if4 .left) (c .before .if5 .taken), c .read-sign .ensures .1)
+    let else2 = else2-from-read-sign c in
+    let else1 = else2 .before in
+    let after-find-tab = else1 .before in
+    let start = after-find-tab .before .before in (
+      c .read-sign .ensures .0 ∙ form-sign (start .args .most-key) (now (start .args .line)) _ (after-find-tab .find-tab .ensures) (else1 .if1 .left)
+          (else2 .if2 .left) (c .before .before .before .if3 .left) (c .before .before .if4 .left) (c .before .if5 .taken),
+      c .read-sign .ensures .1,
+    )
 
 returns-6 : tie.Need-returns-6
 returns-6 c =
-    (form-none (c .before .before .before .before .before .before .before .before .args .most-key) (now (c .before .before .before .before .before .before .before .before .args .line)) _ (c .before .before .before .before .before .before .find-tab .ensures) (c .before .before .before .before .before .if1 .left) (c .before .before .before .before .if2 .left) (c .before .before .if3 .left) (c .before .if4 .left) (c .if5 .left), tt)
+    let else2 = c .before .before .before .before in
+    let else1 = else2 .before in
+    let after-find-tab = else1 .before in
+    let start = after-find-tab .before .before in (
+      form-none (start .args .most-key) (now (start .args .line)) _ (after-find-tab .find-tab .ensures) (else1 .if1 .left) (else2 .if2 .left)
+          (c .before .before .if3 .left) (c .before .if4 .left) (c .if5 .left),
+      tt,
+    )
 
 pub read-form-spec : {M : Type 1} → statement M
 read-form-spec =

@@ -16,8 +16,10 @@ read-form-requires : tie.Need-read-form-requires
 read-form-requires c κs = search needs
 
 returns-2 : tie.Need-returns-2
-returns-2 c =
-    (c .read-form .ensures .0 ∙ line-form (c .before .before .before .args .most-key) (now (c .before .before .before .args .line)) (c .before .if1 .left), c .read-form .ensures .1)
+returns-2 c = (
+  c .read-form .ensures .0 ∙ line-form (c .before .before .before .args .most-key) (now (c .before .before .before .args .line)) (c .before .if1 .left),
+  c .read-form .ensures .1,
+)
 
 pub read-line-spec : {M : Type 1} → statement M
 read-line-spec = tie.close (tie.spec returns read-form-requires returns-2)

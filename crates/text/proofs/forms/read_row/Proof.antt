@@ -29,11 +29,21 @@ is-digits-requires c κs = search needs
 
 returns-2 : tie.Need-returns-2
 returns-2 c =
-    (row-told (now (c .before .before .before .before .before .before .args .line)) _ (c .before .before .before .before .before .before .pre) (c .before .before .before .before .find-tab .ensures) (c .before .before .before .if1 .left) (sym (c .before .is-digits .ensures) ∙ c .if2 .taken), (c .before .before .before .before .before .before .pre, sym (c .before .is-digits .ensures) ∙ c .if2 .taken))
+    let after-find-tab = c .before .before .before .before in
+    let start = after-find-tab .before .before in (
+      row-told (now (start .args .line)) _ (start .pre) (after-find-tab .find-tab .ensures) (c .before .before .before .if1 .left)
+          (sym (c .before .is-digits .ensures) ∙ c .if2 .taken),
+      (start .pre, sym (c .before .is-digits .ensures) ∙ c .if2 .taken),
+    )
 
 returns-3 : tie.Need-returns-3
 returns-3 c =
-    (row-not (now (c .before .before .before .before .before .before .args .line)) _ (c .before .before .before .before .before .before .pre) (c .before .before .before .before .find-tab .ensures) (c .before .before .before .if1 .left) (sym (c .before .is-digits .ensures) ∙ c .if2 .left), tt)
+    let after-find-tab = c .before .before .before .before in
+    let start = after-find-tab .before .before in (
+      row-not (now (start .args .line)) _ (start .pre) (after-find-tab .find-tab .ensures) (c .before .before .before .if1 .left)
+          (sym (c .before .is-digits .ensures) ∙ c .if2 .left),
+      tt,
+    )
 
 pub read-row-spec : {M : Type 1} → statement M
 read-row-spec =

@@ -9,6 +9,31 @@ use borrow.Author.Tests.{not-true, not-false}
 use Rattle.text.proofs.forms.read_signed.Statement.{statement}
 use Rattle.text.proofs.forms.read_signed.Tie as tie
 
+-- The places that the answers look back to, each from a later one.
+abbrev start-from-read-number2 : tie.After-read-number2 → tie.Start
+start-from-read-number2 c = c .before .before .before .before .before .before
+
+abbrev start-from-then2 : tie.Then2 → tie.Start
+start-from-then2 c = start-from-read-number2 (c .before)
+
+abbrev start-from-else2 : tie.Else2 → tie.Start
+start-from-else2 c = start-from-read-number2 (c .before)
+
+abbrev start-from-is-digits : tie.After-is-digits → tie.Start
+start-from-is-digits c = start-from-else2 (c .before .before)
+
+abbrev start-from-then3 : tie.Then3 → tie.Start
+start-from-then3 c = start-from-is-digits (c .before)
+
+abbrev start-from-else3 : tie.Else3 → tie.Start
+start-from-else3 c = start-from-is-digits (c .before)
+
+abbrev start-from-is-digits2 : tie.After-is-digits2 → tie.Start
+start-from-is-digits2 c = start-from-else3 (c .before .before)
+
+abbrev start-from-then4 : tie.Then4 → tie.Start
+start-from-then4 c = start-from-is-digits2 (c .before)
+
 sub-read-number : tie.Need-sub-read-number
 sub-read-number c = search needs
 
@@ -43,7 +68,7 @@ read-number-requires-2 c κs = search needs
 
 returns-2 : tie.Need-returns-2
 returns-2 c =
-    let s = c .before .before .before .before .before .before .before in
+    let s = start-from-then2 c in
     (sign-not-2 (s .pre .0) (s .args .most-key) (range-out _ (c .before .read-number2 .ensures) 65535 (omega arith) (omega (arith, c .if2 .taken))), tt)
 
 add-c1 : tie.Need-add-c1
@@ -63,7 +88,7 @@ is-digits-requires c κs = search needs
 
 returns-3 : tie.Need-returns-3
 returns-3 c =
-    let s = c .before .before .before .before .before .before .before .before .before .before in
+    let s = start-from-then3 c in
     (sign-not-3 (s .pre .0) (s .args .most-key) (sym (c .before .is-digits .ensures) ∙ not-true (c .before .is-digits .result) (c .if3 .taken)), tt)
 
 add-d1 : tie.Need-add-d1
@@ -83,15 +108,20 @@ is-digits-requires-2 c κs = search needs
 
 returns-4 : tie.Need-returns-4
 returns-4 c =
-    let s = c .before .before .before .before .before .before .before .before .before .before .before .before .before in
+    let s = start-from-then4 c in
     (sign-not-4 (s .pre .0) (s .args .most-key) (sym (c .before .is-digits2 .ensures) ∙ not-true (c .before .is-digits2 .result) (c .if4 .taken)), tt)
 
 returns-5 : tie.Need-returns-5
 returns-5 c =
-    let s = c .before .before .before .before .before .before .before .before .before .before .before .before .before in
-    let p = range-in _ (c .before .before .before .before .before .before .before .before .before .before .read-number .ensures) (s .args .most-key) (s .pre .1) (c .before .before .before .before .before .before .before .before .before .if1 .left) in
-    let q = range-in _ (c .before .before .before .before .before .before .before .read-number2 .ensures) 65535 (omega arith) (c .before .before .before .before .before .before .if2 .left) in
-    let r = sym (c .before .before .before .before .is-digits .ensures) ∙ not-false (c .before .before .before .before .is-digits .result) (c .before .before .before .if3 .left) in
+    let after-is-digits = c .before .before .before .before in
+    let else2 = after-is-digits .before .before in
+    let after-read-number2 = else2 .before in
+    let else1 = after-read-number2 .before .before in
+    let after-read-number = else1 .before in
+    let s = after-read-number .before .before .before in
+    let p = range-in _ (after-read-number .read-number .ensures) (s .args .most-key) (s .pre .1) (else1 .if1 .left) in
+    let q = range-in _ (after-read-number2 .read-number2 .ensures) 65535 (omega arith) (else2 .if2 .left) in
+    let r = sym (after-is-digits .is-digits .ensures) ∙ not-false (after-is-digits .is-digits .result) (c .before .before .before .if3 .left) in
     let t = sym (c .before .is-digits2 .ensures) ∙ not-false (c .before .is-digits2 .result) (c .if4 .left) in
     (sign-told (s .pre .0) (s .args .most-key) (p .0) (q .0) r t (p .1) (q .1), (s .pre .0 .c-d, s .pre .0 .d-end, r, t))
 

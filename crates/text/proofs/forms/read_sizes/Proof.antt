@@ -40,8 +40,9 @@ read-number-requires-2 c κs = search needs
 
 returns-2 : tie.Need-returns-2
 returns-2 c =
-    let s = c .before .before .before .before .before .before .before in
-    let p = range-in _ (c .before .before .before .before .read-number .ensures) (s .args .most-key) (s .pre .1) (c .before .before .before .if1 .left) in
+    let after-read-number = c .before .before .before .before in
+    let s = after-read-number .before .before .before in
+    let p = range-in _ (after-read-number .read-number .ensures) (s .args .most-key) (s .pre .1) (c .before .before .before .if1 .left) in
     (key-not-2 (s .pre .0) (s .args .most-key) (p .0) (number-out _ (c .before .read-number2 .ensures) (c .if2 .taken)), tt)
 
 add-c1 : tie.Need-add-c1
@@ -61,9 +62,12 @@ read-number-requires-3 c κs = search needs
 
 returns-3 : tie.Need-returns-3
 returns-3 c =
-    let s = c .before .before .before .before .before .before .before .before .before .before in
-    let p = range-in _ (c .before .before .before .before .before .before .before .read-number .ensures) (s .args .most-key) (s .pre .1) (c .before .before .before .before .before .before .if1 .left) in
-    let q = number-in _ (c .before .before .before .before .read-number2 .ensures) (c .before .before .before .if2 .left) in
+    let after-read-number2 = c .before .before .before .before in
+    let else1 = after-read-number2 .before .before in
+    let after-read-number = else1 .before in
+    let s = after-read-number .before .before .before in
+    let p = range-in _ (after-read-number .read-number .ensures) (s .args .most-key) (s .pre .1) (else1 .if1 .left) in
+    let q = number-in _ (after-read-number2 .read-number2 .ensures) (c .before .before .before .if2 .left) in
     (key-not-3 (s .pre .0) (s .args .most-key) (p .0) (q .0) (number-out _ (c .before .read-number3 .ensures) (c .if3 .taken)), tt)
 
 add-d1 : tie.Need-add-d1
@@ -83,18 +87,28 @@ read-number-requires-4 c κs = search needs
 
 returns-4 : tie.Need-returns-4
 returns-4 c =
-    let s = c .before .before .before .before .before .before .before .before .before .before .before .before .before in
-    let p = range-in _ (c .before .before .before .before .before .before .before .before .before .before .read-number .ensures) (s .args .most-key) (s .pre .1) (c .before .before .before .before .before .before .before .before .before .if1 .left) in
-    let q = number-in _ (c .before .before .before .before .before .before .before .read-number2 .ensures) (c .before .before .before .before .before .before .if2 .left) in
-    let r = number-in _ (c .before .before .before .before .read-number3 .ensures) (c .before .before .before .if3 .left) in
+    let after-read-number3 = c .before .before .before .before in
+    let else2 = after-read-number3 .before .before in
+    let after-read-number2 = else2 .before in
+    let else1 = after-read-number2 .before .before in
+    let after-read-number = else1 .before in
+    let s = after-read-number .before .before .before in
+    let p = range-in _ (after-read-number .read-number .ensures) (s .args .most-key) (s .pre .1) (else1 .if1 .left) in
+    let q = number-in _ (after-read-number2 .read-number2 .ensures) (else2 .if2 .left) in
+    let r = number-in _ (after-read-number3 .read-number3 .ensures) (c .before .before .before .if3 .left) in
     (key-not-4 (s .pre .0) (s .args .most-key) (p .0) (q .0) (r .0) (number-out _ (c .before .read-number4 .ensures) (c .if4 .taken)), tt)
 
 returns-5 : tie.Need-returns-5
 returns-5 c =
-    let s = c .before .before .before .before .before .before .before .before .before .before .before .before .before in
-    let p = range-in _ (c .before .before .before .before .before .before .before .before .before .before .read-number .ensures) (s .args .most-key) (s .pre .1) (c .before .before .before .before .before .before .before .before .before .if1 .left) in
-    let q = number-in _ (c .before .before .before .before .before .before .before .read-number2 .ensures) (c .before .before .before .before .before .before .if2 .left) in
-    let r = number-in _ (c .before .before .before .before .read-number3 .ensures) (c .before .before .before .if3 .left) in
+    let after-read-number3 = c .before .before .before .before in
+    let else2 = after-read-number3 .before .before in
+    let after-read-number2 = else2 .before in
+    let else1 = after-read-number2 .before .before in
+    let after-read-number = else1 .before in
+    let s = after-read-number .before .before .before in
+    let p = range-in _ (after-read-number .read-number .ensures) (s .args .most-key) (s .pre .1) (else1 .if1 .left) in
+    let q = number-in _ (after-read-number2 .read-number2 .ensures) (else2 .if2 .left) in
+    let r = number-in _ (after-read-number3 .read-number3 .ensures) (c .before .before .before .if3 .left) in
     let t = number-in _ (c .before .read-number4 .ensures) (c .if4 .left) in
     (key-told (s .pre .0) (s .args .most-key) (p .0) (q .0) (r .0) (t .0) (p .1) (q .1) (r .1) (t .1), tt)
 

@@ -10,6 +10,22 @@ use Rattle.trits.specs.Planes.{zeroWords, tabulate}
 use Rattle.text_line.proofs.handle.check_digits.Statement.{statement}
 use Rattle.text_line.proofs.handle.check_digits.Tie as tie
 
+-- The places that the answers look back to, each from a later one.
+abbrev start-from-row-trits : tie.After-row-trits → tie.Start
+start-from-row-trits c = c .before .before .before .before .before
+
+abbrev start-from-offer : tie.After-offer → tie.Start
+start-from-offer c = start-from-row-trits (c .before .before .before)
+
+abbrev key-words-from-check : tie.After-check → tie.After-key-words
+key-words-from-check c = c .before .before .before .before .before .before .before .before .before .before .before .before .before
+
+abbrev key-words-from-tell : tie.After-tell → tie.After-key-words
+key-words-from-tell c = key-words-from-check (c .before .before .before)
+
+abbrev offer-from-offer2 : tie.After-offer2 → tie.After-offer
+offer-from-offer2 c = c .before .before .before .before .before
+
 row-trits-requires : tie.Need-row-trits-requires
 row-trits-requires c κs = search needs
 
@@ -22,7 +38,7 @@ slice-aggregate-offer-2 c = search needs
 offer-requires : tie.Need-offer-requires
 unfolding zeroWords tabulate
 offer-requires c κs =
-    let s = c .before .before .before .before .before .before .before in
+    let s = start-from-row-trits (c .before .before) in
     (s .pre .0, (s .pre .1 .1 .0, refl, refl))
 
 slice-aggregate-offer-3 : tie.Need-slice-aggregate-offer-3
@@ -34,7 +50,7 @@ slice-aggregate-offer-4 c = search needs
 offer-requires-2 : tie.Need-offer-requires-2
 unfolding zeroWords tabulate
 offer-requires-2 c κs =
-    let s = c .before .before .before .before .before .before .before .before .before .before .before .before in
+    let s = start-from-offer (c .before .before .before .before) in
     (s .pre .1 .0, (s .pre .1 .1 .1, refl, refl))
 
 row-words-requires : tie.Need-row-words-requires
@@ -124,18 +140,29 @@ tell-requires c κs = search needs
 returns : tie.Need-returns
 unfolding zeroWords tabulate
 returns c =
-    let s = c .before .before .before .before .before .before .before .before .before .before .before .before .before .before .before .before .before .before .before .before .before .before .before .before .before .before .before .before .before .before .before .before .before in
-    let h = s .args .held in
-    let ones = now (s .args .ones) in
-    let twos = now (s .args .twos) in
-    let y = now (s .args .y) in
-    let w = c .before .before .before .before .before .before .before .before .before .before .before .before .before .before .before .before .key-words .ensures .0 in
-    let r = c .before .before .before .before .before .before .before .before .before .before .before .before .before .before .before .before .before .row-words .ensures in
-    let m = c .before .before .before .before .before .before .before .before .before .before .before .before .before .before .before .before .before .before .before .before .before .before .before .before .before .before .before .before .row-trits .ensures in
-    let o = c .before .before .before .before .before .before .before .before .before .before .before .before .before .before .before .before .before .before .before .before .before .before .before .before .before .offer .ensures in
-    let q = c .before .before .before .before .before .before .before .before .before .before .before .before .before .before .before .before .before .before .before .before .offer2 .ensures in
-    let z = front-part (c .before .before .before .before .before .before .before .before .before .before .before .before .before .before .before .before .before .row-words .result) (zeroWords 16) ∙ take-zeros (c .before .before .before .before .before .before .before .before .before .before .before .before .before .before .before .before .before .row-words .result) 16 (r .1) ∙ ap zeroWords (r .0) in
-    c .tell .ensures ∙ c .before .before .before .check .ensures .0 ∙ sign-answer h ones twos (part-key h ones w) (part-key h twos w) (s .args .number) y (now (s .args .s)) (front-part (c .before .before .before .before .before .before .before .before .before .before .before .before .before .before .before .before .before .before .before .before .before .before .before .before .before .offer .result) (c .before .before .before .before .before .before .before .before .before .before .before .before .before .before .before .before .before .before .before .before .before .before .before .before .before .offer .last .1 .1 .0) ∙ o .1 .0 ∙ ap (λ (x : ℕ). offeredOnes x y) m) (front-part (c .before .before .before .before .before .before .before .before .before .before .before .before .before .before .before .before .before .before .before .before .before .before .before .before .before .offer .result) (c .before .before .before .before .before .before .before .before .before .before .before .before .before .before .before .before .before .before .before .before .before .before .before .before .before .offer .last .1 .1 .1 .0) ∙ o .1 .1 ∙ ap (λ (x : ℕ). offeredTwos x y) m) (front-part (c .before .before .before .before .before .before .before .before .before .before .before .before .before .before .before .before .before .before .before .before .offer2 .result) (c .before .before .before .before .before .before .before .before .before .before .before .before .before .before .before .before .before .before .before .before .offer2 .last .1 .1 .0) ∙ q .1 .0) (front-part (c .before .before .before .before .before .before .before .before .before .before .before .before .before .before .before .before .before .before .before .before .offer2 .result) (c .before .before .before .before .before .before .before .before .before .before .before .before .before .before .before .before .before .before .before .before .offer2 .last .1 .1 .1 .0) ∙ q .1 .1) z z
+    let after-key-words = key-words-from-tell c in
+    let after-row-words = after-key-words .before in
+    let after-offer2 = after-row-words .before .before .before in
+    let after-offer = offer-from-offer2 after-offer2 in
+    let after-row-trits = after-offer .before .before .before in
+    let s = start-from-row-trits after-row-trits in
+    let a = s .args in
+    let h = a .held in
+    let ones = now (a .ones) in
+    let twos = now (a .twos) in
+    let y = now (a .y) in
+    let w = after-key-words .key-words .ensures .0 in
+    let r = after-row-words .row-words .ensures in
+    let m = after-row-trits .row-trits .ensures in
+    let o = after-offer .offer .ensures in
+    let q = after-offer2 .offer2 .ensures in
+    let z = front-part (after-row-words .row-words .result) (zeroWords 16) ∙ take-zeros (after-row-words .row-words .result) 16 (r .1) ∙ ap zeroWords (r .0) in
+    c .tell .ensures ∙ c .before .before .before .check .ensures .0 ∙
+    sign-answer h ones twos (part-key h ones w) (part-key h twos w) (a .number) y (now (a .s))
+    (front-part (after-offer .offer .result) (after-offer .offer .last .1 .1 .0) ∙ o .1 .0 ∙ ap (λ (x : ℕ). offeredOnes x y) m)
+    (front-part (after-offer .offer .result) (after-offer .offer .last .1 .1 .1 .0) ∙ o .1 .1 ∙ ap (λ (x : ℕ). offeredTwos x y) m)
+    (front-part (after-offer2 .offer2 .result) (after-offer2 .offer2 .last .1 .1 .0) ∙ q .1 .0)
+    (front-part (after-offer2 .offer2 .result) (after-offer2 .offer2 .last .1 .1 .1 .0) ∙ q .1 .1) z z
 
 pub check-digits-spec : {M : Type 1} → statement M
 check-digits-spec =

@@ -16,6 +16,28 @@ use Rattle.text.specs.declared.forms.Form.the-variants.{Sign, Row}
 use Rattle.text_line.proofs.handle.handle.Statement.{statement}
 use Rattle.text_line.proofs.handle.handle.Tie as tie
 
+-- The places that the answers look back to, each from a later one.
+abbrev start-from-at-match-keys3 : tie.At-match-keys3 → tie.Start
+start-from-at-match-keys3 c = c .before .before .before .before .before .before
+
+abbrev known-told2-from-handle-sign-arg5 : tie.After-handle-sign-arg5 → tie.After-known-told2
+known-told2-from-handle-sign-arg5 c = c .before .before .before .before .before
+
+abbrev start-from-at-match-keys4 : tie.At-match-keys4 → tie.Start
+start-from-at-match-keys4 c = c .before .before .before .before .before .before
+
+abbrev start-from-read-line : tie.After-read-line → tie.Start
+start-from-read-line c = c .before .before .before .before .before
+
+abbrev handle-row-from-slice-known8 : tie.After-slice-known8 → tie.After-handle-row
+handle-row-from-slice-known8 c = c .before .before .before .before .before .before
+
+abbrev enum-told2-from-handle-row : tie.After-handle-row → tie.After-enum-told2
+enum-told2-from-handle-row c = c .before .before .before .before .before
+
+abbrev form2-from-handle-sign : tie.After-handle-sign → tie.After-form2
+form2-from-handle-sign c = c .before .before .before .before .before .before .before
+
 read-line-requires : tie.Need-read-line-requires
 read-line-requires c κs = search needs
 
@@ -36,7 +58,7 @@ enum-told-2 c = search needs
 
 -- where the digits stand
 row-place : (c : tie.After-enum-told2) → Placed (now (c .before .before .before .before .before .before .before .args .line)) Row
-row-place c = subst (λ (f : Form). Placed (now (c .before .before .before .before .before .before .before .args .line)) f) (c .enum-told2 .given .1) (c .before .before .read-line .ensures .1)
+row-place c = subst (λ (f : Form). Placed (now (start-from-at-match-keys3 (c .before) .args .line)) f) (c .enum-told2 .given .1) (c .before .before .read-line .ensures .1)
 
 sign-place : (c : tie.After-known-told2) → let g = c .before .form2 .given .0 in Placed (now (c .before .before .before .before .before .before .before .before .args .line)) (Sign (g .0) (g .1 .0) (g .1 .1 .0) (g .1 .1 .1 .0))
 sign-place c = subst (λ (f : Form). Placed (now (c .before .before .before .before .before .before .before .before .args .line)) f) (c .before .form2 .given .1) (c .before .before .before .read-line .ensures .1)
@@ -54,8 +76,9 @@ part-handle-row-end c = search needs
 
 handle-row-requires : tie.Need-handle-row-requires
 handle-row-requires c κs =
-    let s = c .before .before .before .before .before .before .before .before .before .before .before in
-    (row-place (c .before .before .before .before) .1, (omega (arith, part-short (length (now (s .args .line)) - 2) 2 (now (s .args .line)), s .pre .0), s .pre .1, s .pre .2, s .pre .3))
+    let after-enum-told2 = c .before .before .before .before in
+    let s = start-from-at-match-keys3 (after-enum-told2 .before) in
+    (row-place (after-enum-told2) .1, (omega (arith, part-short (length (now (s .args .line)) - 2) 2 (now (s .args .line)), s .pre .0), s .pre .1, s .pre .2, s .pre .3))
 
 enum-known-form-2 : tie.Need-enum-known-form-2
 enum-known-form-2 c = search needs
@@ -93,9 +116,11 @@ part-handle-sign-end-2 c = search needs
 
 handle-sign-requires : tie.Need-handle-sign-requires
 handle-sign-requires c κs =
-    let s = c .before .before .before .before .before .before .before .before .before .before .before .before .before in
-    let p = sign-place (c .before .before .before .before .before) in
-    let g = c .before .before .before .before .before .before .form2 .given .0 in
+    let after-known-told2 = known-told2-from-handle-sign-arg5 c in
+    let after-form2 = after-known-told2 .before in
+    let s = start-from-at-match-keys4 (after-form2 .before) in
+    let p = sign-place (after-known-told2) in
+    let g = after-form2 .form2 .given .0 in
     let l = now (s .args .line) in
     (p .2, (p .3, (omega (arith, part-short (g .1 .1 .1 .0 - (g .1 .1 .0 + 1)) (g .1 .1 .0 + 1) l, s .pre .0), omega (arith, part-short (length l - (g .1 .1 .1 .0 + 1)) (g .1 .1 .1 .0 + 1) l, s .pre .0), s .pre .1, s .pre .2, s .pre .3)))
 
@@ -105,13 +130,16 @@ same-length c = search needs
 returns : tie.Need-returns
 unfolding lineKept linePrints refusalPrints
 returns c =
-    let s = c .before .before .before .before .before .before .before .before .before .before .before in
-    let l = now (s .args .line) in
-    let k = holding (s .args .held) (now (s .args .ones)) (now (s .args .twos)) in
-    let e = ap (says l) (sym (c .before .before .before .before .enum-told .given .1)) ∙ c .before .before .before .before .before .before .read-line .ensures .0 in
+    let after-enum-told = c .before .before .before .before in
+    let after-read-line = after-enum-told .before .before in
+    let s = start-from-read-line after-read-line in
+    let a = s .args in
+    let l = now (a .line) in
+    let k = holding (a .held) (now (a .ones)) (now (a .twos)) in
+    let e = ap (says l) (sym (after-enum-told .enum-told .given .1)) ∙ after-read-line .read-line .ensures .0 in
     let z = line-prints k (readLine l) e in
     let q = c .before .before .print-refusal .ensures in
-    (line-kept k (readLine l) e, (q .0 ∙ ap length z, q .1 ∙ ap (putWords 0 (now (s .args .out))) z))
+    (line-kept k (readLine l) e, (q .0 ∙ ap length z, q .1 ∙ ap (putWords 0 (now (a .out))) z))
 
 same-length-2 : tie.Need-same-length-2
 same-length-2 c = search needs
@@ -119,13 +147,16 @@ same-length-2 c = search needs
 returns-2 : tie.Need-returns-2
 unfolding lineKept linePrints
 returns-2 c =
-    let s = c .before .before .before .before .before .before .before .before .before .before .before .before in
-    let l = now (s .args .line) in
-    let k = holding (s .args .held) (now (s .args .ones)) (now (s .args .twos)) in
-    let e = ap (says l) (sym (c .before .before .before .before .before .form .given .1)) ∙ c .before .before .before .before .before .before .before .read-line .ensures .0 in
+    let after-form = c .before .before .before .before .before in
+    let after-read-line = after-form .before .before in
+    let s = start-from-read-line after-read-line in
+    let a = s .args in
+    let l = now (a .line) in
+    let k = holding (a .held) (now (a .ones)) (now (a .twos)) in
+    let e = ap (says l) (sym (after-form .form .given .1)) ∙ after-read-line .read-line .ensures .0 in
     let z = line-prints k (readLine l) e in
     let p = c .before .before .handle-key .ensures in
-    ((λ i. holding (p .0 i) (now (s .args .ones)) (now (s .args .twos))) ∙ line-kept k (readLine l) e, (p .1 .0 ∙ ap length z, p .1 .1 ∙ ap (putWords 0 (now (s .args .out))) z))
+    ((λ i. holding (p .0 i) (now (a .ones)) (now (a .twos))) ∙ line-kept k (readLine l) e, (p .1 .0 ∙ ap length z, p .1 .1 ∙ ap (putWords 0 (now (a .out))) z))
 
 same-length-3 : tie.Need-same-length-3
 same-length-3 c = search needs
@@ -139,13 +170,17 @@ same-length-5 c = search needs
 returns-3 : tie.Need-returns-3
 unfolding lineKept linePrints
 returns-3 c =
-    let s = c .before .before .before .before .before .before .before .before .before .before .before .before .before .before .before .before .before .before in
-    let l = now (s .args .line) in
-    let k = holding (s .args .held) (now (s .args .ones)) (now (s .args .twos)) in
-    let e = ap (says l) (sym (c .before .before .before .before .before .before .before .before .before .before .before .enum-told2 .given .1)) ∙ c .before .before .before .before .before .before .before .before .before .before .before .before .before .read-line .ensures .0 in
+    let after-handle-row = handle-row-from-slice-known8 c in
+    let after-enum-told2 = enum-told2-from-handle-row after-handle-row in
+    let after-read-line = after-enum-told2 .before .before in
+    let s = start-from-read-line after-read-line in
+    let a = s .args in
+    let l = now (a .line) in
+    let k = holding (a .held) (now (a .ones)) (now (a .twos)) in
+    let e = ap (says l) (sym (after-enum-told2 .enum-told2 .given .1)) ∙ after-read-line .read-line .ensures .0 in
     let z = line-prints k (readLine l) e in
-    let p = c .before .before .before .before .before .before .handle-row .ensures in
-    (p .0 ∙ line-kept k (readLine l) e, (p .1 .0 ∙ ap length z, p .1 .1 ∙ ap (putWords 0 (now (s .args .out))) z))
+    let p = after-handle-row .handle-row .ensures in
+    (p .0 ∙ line-kept k (readLine l) e, (p .1 .0 ∙ ap length z, p .1 .1 ∙ ap (putWords 0 (now (a .out))) z))
 
 same-length-6 : tie.Need-same-length-6
 same-length-6 c = search needs
@@ -159,13 +194,16 @@ same-length-8 c = search needs
 returns-4 : tie.Need-returns-4
 unfolding lineKept linePrints
 returns-4 c =
-    let s = c .before .before .before .before .before .before .before .before .before .before .before .before .before .before .before .before in
-    let l = now (s .args .line) in
-    let k = holding (s .args .held) (now (s .args .ones)) (now (s .args .twos)) in
-    let e = ap (says l) (sym (c .before .before .before .before .before .before .before .before .before .form2 .given .1)) ∙ c .before .before .before .before .before .before .before .before .before .before .before .read-line .ensures .0 in
+    let after-form2 = form2-from-handle-sign (c .before .before) in
+    let after-read-line = after-form2 .before .before in
+    let s = start-from-read-line after-read-line in
+    let a = s .args in
+    let l = now (a .line) in
+    let k = holding (a .held) (now (a .ones)) (now (a .twos)) in
+    let e = ap (says l) (sym (after-form2 .form2 .given .1)) ∙ after-read-line .read-line .ensures .0 in
     let z = line-prints k (readLine l) e in
     let p = c .before .before .handle-sign .ensures in
-    (line-kept k (readLine l) e, (p .0 ∙ ap length z, p .1 ∙ ap (putWords 0 (now (s .args .out))) z))
+    (line-kept k (readLine l) e, (p .0 ∙ ap length z, p .1 ∙ ap (putWords 0 (now (a .out))) z))
 
 pub handle-spec : {M : Type 1} → statement M
 handle-spec =

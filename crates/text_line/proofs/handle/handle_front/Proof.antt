@@ -12,6 +12,13 @@ use Rattle.trits.specs.Rows.{putWords}
 use Rattle.text_line.proofs.handle.handle_front.Statement.{statement}
 use Rattle.text_line.proofs.handle.handle_front.Tie as tie
 
+-- The places that the answers look back to, each from a later one.
+abbrev handle-from-slice-known6 : tie.After-slice-known6 → tie.After-handle
+handle-from-slice-known6 c = c .before .before .before .before .before .before
+
+abbrev start-from-handle : tie.After-handle → tie.Start
+start-from-handle c = c .before .before .before .before .before .before .before .before .before
+
 sub-handle : tie.Need-sub-handle
 sub-handle c = search needs
 
@@ -35,11 +42,18 @@ same-length-3 c = search needs
 
 returns : tie.Need-returns
 returns c =
-    let s = c .before .before .before .before .before .before .before .before .before .before .before .before .before .before .before in
-    let k = holding (s .args .held) (now (s .args .ones)) (now (s .args .twos)) in
-    let e = front-part (s .args .len) (now (s .args .buffer)) in
-    let p = c .before .before .before .before .before .before .handle .ensures in
-    (p .0 ∙ ap (λ (x : List ℕ). lineKept k (readLine x)) e, (p .1 .0 ∙ ap (λ (x : List ℕ). length (linePrints k (readLine x))) e, p .1 .1 ∙ ap (λ (x : List ℕ). putWords 0 (now (s .args .out)) (linePrints k (readLine x))) e))
+    let after-handle = handle-from-slice-known6 c in
+    let s = start-from-handle after-handle in
+    let a = s .args in
+    let k = holding (a .held) (now (a .ones)) (now (a .twos)) in
+    let e = front-part (a .len) (now (a .buffer)) in
+    let p = after-handle .handle .ensures in (
+      p .0 ∙ ap (λ (x : List ℕ). lineKept k (readLine x)) e,
+      (
+        p .1 .0 ∙ ap (λ (x : List ℕ). length (linePrints k (readLine x))) e,
+        p .1 .1 ∙ ap (λ (x : List ℕ). putWords 0 (now (a .out)) (linePrints k (readLine x))) e,
+      ),
+    )
 
 pub handle-front-spec : {M : Type 1} → statement M
 handle-front-spec =

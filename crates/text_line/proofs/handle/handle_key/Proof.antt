@@ -20,8 +20,9 @@ same-length c = search needs
 
 returns : tie.Need-returns
 returns c =
-    let s = c .before .before .before .before .before .before .before in
-    let p = c .before .before .before .before .before .begin-key .ensures in
+    let after-begin-key = c .before .before .before .before .before in
+    let s = after-begin-key .before .before in
+    let p = after-begin-key .begin-key .ensures in
     let q = c .before .before .print-refusal .ensures in
     let e = ap refusalPrints (p .0) in
     (p .1, (q .0 ∙ ap length e, q .1 ∙ ap (putWords 0 (now (s .args .out))) e))

@@ -9,6 +9,10 @@ use Rattle.trits.specs.Rows.{putWords}
 use Rattle.text_line.proofs.handle.handle_sign.Statement.{statement}
 use Rattle.text_line.proofs.handle.handle_sign.Tie as tie
 
+-- The places that the answers look back to, each from a later one.
+abbrev start-from-check-digits : tie.After-check-digits → tie.Start
+start-from-check-digits c = c .before .before .before .before .before .before
+
 check-digits-requires : tie.Need-check-digits-requires
 check-digits-requires c κs = search needs
 
@@ -20,10 +24,12 @@ same-length c = search needs
 
 returns : tie.Need-returns
 returns c =
-    let s = c .before .before .before .before .before .before .before .before .before .before in
-    let e = ap (signPrints (s .args .number) (s .args .formula)) (c .before .before .before .before .check-digits .ensures) in
+    let after-check-digits = c .before .before .before .before in
+    let s = start-from-check-digits after-check-digits in
+    let a = s .args in
+    let e = ap (signPrints (a .number) (a .formula)) (after-check-digits .check-digits .ensures) in
     let q = c .before .before .print-sign .ensures in
-    (q .0 ∙ ap length e, q .1 ∙ ap (putWords 0 (now (s .args .out))) e)
+    (q .0 ∙ ap length e, q .1 ∙ ap (putWords 0 (now (a .out))) e)
 
 pub handle-sign-spec : {M : Type 1} → statement M
 handle-sign-spec =

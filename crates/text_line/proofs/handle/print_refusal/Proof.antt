@@ -23,8 +23,9 @@ same-length c = search needs
 
 returns-2 : tie.Need-returns-2
 returns-2 c =
-    let s = c .before .before .before .before .before .before in
-    let e = printed-refusal (s .args .refusal) (c .before .before .before .before .if1 .left) in
+    let else1 = c .before .before .before .before in
+    let s = else1 .before .before in
+    let e = printed-refusal (s .args .refusal) (else1 .if1 .left) in
     let p = c .before .before .put-line-refused .ensures in
     (p .0 ∙ ap length e, p .1 ∙ ap (putWords 0 (now (s .args .out))) e)
 

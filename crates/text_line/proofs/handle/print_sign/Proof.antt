@@ -17,10 +17,12 @@ same-length c = search needs
 
 returns : tie.Need-returns
 returns c =
-    let s = c .before .before .before .before .before .before .before in
-    let e = sign-verdict (s .args .number) (s .args .formula) (s .args .checked) (c .before .before .before .before .if1 .taken) in
+    let then1 = c .before .before .before .before in
+    let s = then1 .before .before .before in
+    let a = s .args in
+    let e = sign-verdict (a .number) (a .formula) (a .checked) (then1 .if1 .taken) in
     let p = c .before .before .put-verdict .ensures in
-    (p .0 ∙ ap length e, p .1 ∙ ap (putWords 0 (now (s .args .out))) e)
+    (p .0 ∙ ap length e, p .1 ∙ ap (putWords 0 (now (a .out))) e)
 
 put-sign-refused-requires : tie.Need-put-sign-refused-requires
 put-sign-refused-requires c κs = search needs
@@ -30,10 +32,12 @@ same-length-2 c = search needs
 
 returns-2 : tie.Need-returns-2
 returns-2 c =
-    let s = c .before .before .before .before .before .before .before in
-    let e = sign-refused (s .args .number) (s .args .formula) (s .args .checked) (c .before .before .before .before .if1 .left) in
+    let else1 = c .before .before .before .before in
+    let s = else1 .before .before .before in
+    let a = s .args in
+    let e = sign-refused (a .number) (a .formula) (a .checked) (else1 .if1 .left) in
     let p = c .before .before .put-sign-refused .ensures in
-    (p .0 ∙ ap length e, p .1 ∙ ap (putWords 0 (now (s .args .out))) e)
+    (p .0 ∙ ap length e, p .1 ∙ ap (putWords 0 (now (a .out))) e)
 
 pub print-sign-spec : {M : Type 1} → statement M
 print-sign-spec =

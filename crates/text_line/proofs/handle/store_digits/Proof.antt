@@ -10,6 +10,13 @@ use Rattle.trits.specs.Planes.{zeroWords, tabulate}
 use Rattle.text_line.proofs.handle.store_digits.Statement.{statement}
 use Rattle.text_line.proofs.handle.store_digits.Tie as tie
 
+-- The places that the answers look back to, each from a later one.
+abbrev store-row-from-code : tie.After-code → tie.After-store-row
+store-row-from-code c = c .before .before .before .before .before .before
+
+abbrev key-words-from-store-row : tie.After-store-row → tie.After-key-words
+key-words-from-store-row c = c .before .before .before .before .before .before .before
+
 row-trits-requires : tie.Need-row-trits-requires
 row-trits-requires c κs = search needs
 
@@ -78,20 +85,27 @@ same-length-2 c = search needs
 
 returns : tie.Need-returns
 returns c =
-    let s = c .before .before .before .before .before .before .before .before .before .before .before .before .before .before .before .before .before .before .before .before .before .before .before in
-    let h = s .args .held in
-    let ones = now (s .args .ones) in
-    let twos = now (s .args .twos) in
-    let d = now (s .args .digits) in
-    let w = c .before .before .before .before .before .before .before .before .before .before .before .before .before .key-words .ensures .0 in
-    let o = c .before .before .before .before .before .before .before .before .before .before .before .before .before .before .before .before .offer .ensures in
-    let m = c .before .before .before .before .before .before .before .before .before .before .before .before .before .before .before .before .before .before .before .row-trits .ensures in
-    let ex = front-part (c .before .before .before .before .before .before .before .before .before .before .before .before .before .before .before .before .offer .result) (c .before .before .before .before .before .before .before .before .before .before .before .before .before .before .before .before .offer .last .1 .1 .0) ∙ o .1 .0 ∙ ap (λ (x : ℕ). offeredOnes x d) m in
-    let ey = front-part (c .before .before .before .before .before .before .before .before .before .before .before .before .before .before .before .before .offer .result) (c .before .before .before .before .before .before .before .before .before .before .before .before .before .before .before .before .offer .last .1 .1 .1 .0) ∙ o .1 .1 ∙ ap (λ (x : ℕ). offeredTwos x d) m in
-    let e = c .before .before .before .before .before .before .store-row .ensures in
+    let after-store-row = store-row-from-code c in
+    let after-key-words = key-words-from-store-row after-store-row in
+    let after-offer = after-key-words .before .before .before in
+    let after-row-trits = after-offer .before .before .before in
+    let s = after-row-trits .before .before .before .before in
+    let a = s .args in
+    let h = a .held in
+    let ones = now (a .ones) in
+    let twos = now (a .twos) in
+    let d = now (a .digits) in
+    let w = after-key-words .key-words .ensures .0 in
+    let o = after-offer .offer .ensures in
+    let m = after-row-trits .row-trits .ensures in
+    let ex = front-part (after-offer .offer .result) (after-offer .offer .last .1 .1 .0) ∙ o .1 .0 ∙ ap (λ (x : ℕ). offeredOnes x d) m in
+    let ey = front-part (after-offer .offer .result) (after-offer .offer .last .1 .1 .1 .0) ∙ o .1 .1 ∙ ap (λ (x : ℕ). offeredTwos x d) m in
+    let e = after-store-row .store-row .ensures in
     let p = part-key h ones w in
-    let q = part-key h twos w in
-    (c .code .ensures ∙ e .0 ∙ row-refusal h ones twos p q d ex ey, row-kept h ones twos p q d ex ey (e .1) (e .2) (e .3) (part-after h ones w) (part-after h twos w))
+    let q = part-key h twos w in (
+      c .code .ensures ∙ e .0 ∙ row-refusal h ones twos p q d ex ey,
+      row-kept h ones twos p q d ex ey (e .1) (e .2) (e .3) (part-after h ones w) (part-after h twos w),
+    )
 
 pub store-digits-spec : {M : Type 1} → statement M
 store-digits-spec =

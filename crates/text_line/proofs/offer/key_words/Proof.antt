@@ -20,13 +20,17 @@ add-result c = search needs
 
 mul-result : tie.Need-mul-result
 mul-result c =
-    let h = c .before .before .before .before .before .before .args .held in
-    omega (arith, most-words (h .n) (h .k) (c .before .before .before .before .if1 .left) (c .before .before .if2 .left))
+    let else1 = c .before .before .before .before in
+    let start = else1 .before .before in
+    let h = start .args .held in
+    omega (arith, most-words (h .n) (h .k) (else1 .if1 .left) (c .before .before .if2 .left))
 
 returns-3 : tie.Need-returns-3
 returns-3 c =
-    let h = c .before .before .before .before .before .before .args .held in
-    (asked-all h (keyWords h) (c .before .before .before .before .if1 .left) (c .before .before .if2 .left), most-words (h .n) (h .k) (c .before .before .before .before .if1 .left) (c .before .before .if2 .left))
+    let else1 = c .before .before .before .before in
+    let start = else1 .before .before in
+    let h = start .args .held in
+    (asked-all h (keyWords h) (else1 .if1 .left) (c .before .before .if2 .left), most-words (h .n) (h .k) (else1 .if1 .left) (c .before .before .if2 .left))
 
 pub key-words-spec : {M : Type 1} → statement M
 key-words-spec = tie.close (tie.spec returns returns-2 add-result mul-result returns-3)

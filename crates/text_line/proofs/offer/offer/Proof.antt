@@ -35,10 +35,14 @@ same-length-2 c = search needs
 
 returns-2 : tie.Need-returns-2
 returns-2 c =
-    let s = c .before .before .before .before .before .before .before .before .before .before .before in
-    let e : length (now (s .args .ones)) ≡ 16 = ap length (s .pre .1 .1) ∙ length-zeros 16 in
-    let d = now (s .args .digits) in
-    let p = offered (s .args .m) d ((length d + 63) / 64) (c .before .before .before .before .before .before .before .if1 .left) refl (omega (arith, s .pre .1 .0)) (rw e at (c .before .before .before .before .put-digits .ensures)) (λ j. c .before .before .slice-known3 .given j .fits) (λ j. c .slice-known4 .given j .fits) in
+    let after-put-digits = c .before .before .before .before in
+    let else1 = after-put-digits .before .before .before in
+    let s = else1 .before .before .before .before in
+    let a = s .args in
+    let e : length (now (a .ones)) ≡ 16 = ap length (s .pre .1 .1) ∙ length-zeros 16 in
+    let d = now (a .digits) in
+    let p = offered (a .m) d ((length d + 63) / 64) (else1 .if1 .left) refl (omega (arith, s .pre .1 .0)) (rw e at (after-put-digits .put-digits .ensures))
+    (λ j. c .before .before .slice-known3 .given j .fits) (λ j. c .slice-known4 .given j .fits) in
     (omega (arith, s .pre .1 .0), (p .0, p .1))
 
 pub offer-spec : {M : Type 1} → statement M

@@ -20,7 +20,8 @@ add-result c = search needs
 
 returns-3 : tie.Need-returns-3
 returns-3 c =
-    (asked-all (c .before .before .before .before .before .args .held) (rowWords (c .before .before .before .before .before .args .held)) (c .before .before .before .if1 .left) (c .before .if2 .left), omega arith)
+    let start = c .before .before .before .before .before in
+    (asked-all (start .args .held) (rowWords (start .args .held)) (c .before .before .before .if1 .left) (c .before .if2 .left), omega arith)
 
 pub row-words-spec : {M : Type 1} → statement M
 row-words-spec = tie.close (tie.spec returns returns-2 add-result returns-3)

@@ -1,14 +1,13 @@
 // Row functions exported for the benchmark in C, and for nothing else.
 ghost use mathlib.Core.Path.{_≡_};
 ghost use lib.ListN.{length};
-ghost use Rattle.trits.specs.Planes.{tritAt, Row, Reads};
+ghost use Rattle.trits.specs.Planes.{tritAt, Reads};
 ghost use Rattle.bench.specs.{addedTo, flag, sumRefusal, sumOnes, sumTwos, weightOf, bothOf, pastOf};
+ghost use Rattle.rows.specs.Steps.{ForRowPair};
 
 // The source is added to the row so many times.
 fn add_times(ones: &mut [u64], twos: &mut [u64], so: &[u64], st: &[u64], times: usize)
-    requires { ⌜ Row (now ones) (now twos) ⌝ }
-    requires { ⌜ Row (now so) (now st) ⌝ }
-    requires { ⌜ length (now so) ≡ length (now ones) ⌝ }
+    requires { ⌜ ForRowPair (now ones) (now twos) (now so) (now st) ⌝ }
     ensures { λ _. ⌜ Reads (now (ones .exit)) (now (twos .exit)) (length (now (ones .entry)))
         (addedTo times (tritAt (now (ones .entry)) (now (twos .entry))) (tritAt (now (so .entry)) (now (st .entry)))) ⌝ }
 {

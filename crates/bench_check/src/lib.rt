@@ -1,14 +1,13 @@
 // The check in planes, and the weights of both checks with their tests made once: exported for the benchmark in C, and for nothing else.
 ghost use mathlib.Core.Path.{_≡_};
-ghost use lib.ListN.{length};
 ghost use Rattle.trits.specs.Planes.{tritAt};
 ghost use Rattle.packed.specs.Packed.{packedRow};
-ghost use Rattle.held_key.specs.Held.{rowTrits, rowWords};
-ghost use Rattle.check_tests.specs.Check.{planesLengths, planesContents, packedLengths, packedContents, heldWeight, answered};
+ghost use Rattle.held_key.specs.Held.{rowTrits};
+ghost use Rattle.check_tests.specs.Check.{heldWeight, answered};
 ghost use Rattle.check_tests.specs.Check.{checkOf, checkRefusal, checkWeight, checkAnswer, checkWorkOnes, checkWorkTwos};
 ghost use Rattle.check_tests.specs.Check.{packedCheckOf, checkPackedRefusal, checkPackedWeight, checkPackedWorkOnes, checkPackedWorkTwos};
-ghost use Rattle.held_key.specs.Steps.{Whole};
 ghost use Rattle.bench_check.specs.{after};
+ghost use Rattle.checker.specs.Steps.{ForWeigh, ForWeighPacked};
 use check_tests::Checked;
 use held_key::state::Held;
 
@@ -58,10 +57,7 @@ fn weigh_times(
     work_twos: &mut [u64],
     times: usize,
 ) -> u64
-    requires { ⌜ Whole held (now ones) (now twos) ⌝ }
-    requires { ⌜ planesLengths held (length (now «y_ones»)) (length (now «y_twos»)) (length (now «s_ones»)) (length (now «s_twos»)) ≡ 0 ⌝ }
-    requires { ⌜ planesContents held (now ones) (now twos) (now «y_ones») (now «y_twos») (now «s_ones») (now «s_twos») ≡ 0 ⌝ }
-    requires { ⌜ (length (now «work_ones») ≡ rowWords held) × (length (now «work_twos») ≡ rowWords held) ⌝ }
+    requires { ⌜ ForWeigh held (now ones) (now twos) (now «y_ones») (now «y_twos») (now «s_ones») (now «s_twos») (now «work_ones») (now «work_twos») ⌝ }
     ensures { λ r. ⌜ r ≡ after times (heldWeight held (now (ones .entry)) (now (twos .entry)) (tritAt (now («y_ones» .entry)) (now («y_twos» .entry))) (tritAt (now («s_ones» .entry)) (now («s_twos» .entry)))) ⌝ }
 {
     let mut weight: u64 = 0;
@@ -146,10 +142,7 @@ fn weigh_packed_times(
     work_twos: &mut [u64],
     times: usize,
 ) -> u64
-    requires { ⌜ Whole held (now ones) (now twos) ⌝ }
-    requires { ⌜ packedLengths held (length (now y)) (length (now s)) ≡ 0 ⌝ }
-    requires { ⌜ packedContents held (now ones) (now twos) (now y) (now s) ≡ 0 ⌝ }
-    requires { ⌜ (length (now «work_ones») ≡ rowWords held) × (length (now «work_twos») ≡ rowWords held) ⌝ }
+    requires { ⌜ ForWeighPacked held (now ones) (now twos) (now y) (now s) (now «work_ones») (now «work_twos») ⌝ }
     ensures { λ r. ⌜ r ≡ after times (heldWeight held (now (ones .entry)) (now (twos .entry)) (packedRow (rowTrits held) (now (y .entry))) (packedRow (held .k) (now (s .entry)))) ⌝ }
 {
     let mut weight: u64 = 0;

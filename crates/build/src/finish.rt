@@ -1,15 +1,12 @@
 // The end of a build: the ranks, the key, and the working space made 0.
 ghost use mathlib.Core.Path.{_≡_};
-ghost use mathlib.Core.Bool.{true};
-ghost use Prim.Native.Nat.{_*_};
 ghost use lib.ListN.{length};
 ghost use Rattle.trits.specs.Planes.{zeroWords};
 ghost use Rattle.trits.specs.Refusal.{codeOf, atExit};
-ghost use Rattle.scheme.specs.Sizes.{sizesFit, places, dim};
 ghost use Rattle.scheme.specs.Build.{buildRefusal, keyOrder};
-ghost use Rattle.matrix.specs.Orders.{Order};
-ghost use Rattle.calls.specs.Lent.{planes, secretOf, Readable};
-ghost use Rattle.calls.specs.BuildCall.{keyRowWords, buildWorkWords, keyOnesOf, keyTwosOf};
+ghost use Rattle.calls.specs.Lent.{planes, secretOf};
+ghost use Rattle.calls.specs.BuildCall.{keyOnesOf, keyTwosOf};
+ghost use Rattle.build.specs.Steps.{ForFinishBuild};
 use build_ranks::ranks;
 use build_release::release;
 use scheme::sizes::Sizes;
@@ -33,11 +30,7 @@ pub fn finish(
     work_ones: &mut [u64],
     work_twos: &mut [u64],
 ) -> Outcome
-    requires { ⌜ sizesFit z ≡ true ⌝ }
-    requires { ⌜ Readable z (planes (now «hu_ones») (now «hu_twos») (now «hv_ones») (now «hv_twos») (now «b_ones») (now «b_twos») (now «c_ones») (now «c_twos»)) ⌝ }
-    requires { ⌜ Order (places z) (now start) ⌝ }
-    requires { ⌜ (length (now p) ≡ places z) × (length (now «key_ones») ≡ dim z * keyRowWords z) × (length (now «key_twos») ≡ dim z * keyRowWords z)
-        × (length (now «work_ones») ≡ buildWorkWords z) × (length (now «work_twos») ≡ buildWorkWords z) ⌝ }
+    requires { ⌜ ForFinishBuild z (now «hu_ones») (now «hu_twos») (now «hv_ones») (now «hv_twos») (now «b_ones») (now «b_twos») (now «c_ones») (now «c_twos») (now start) (now p) (now «key_ones») (now «key_twos») (now «work_ones») (now «work_twos») ⌝ }
     ensures { λ r. ⌜ (let s = secretOf z (planes (now («hu_ones» .entry)) (now («hu_twos» .entry)) (now («hv_ones» .entry)) (now («hv_twos» .entry))
         (now («b_ones» .entry)) (now («b_twos» .entry)) (now («c_ones» .entry)) (now («c_twos» .entry))) in
         (codeOf r ≡ buildRefusal z s)

@@ -1,14 +1,16 @@
 -- The key in the arranged work matrix, which stays in secret places. No rule of the paper: code is tied to it. Assumes nothing.
 use mathlib.Core.Path.{_≡_}
 use mathlib.Core.List.{List}
-use Prim.Native.Nat.{ℕ, _+_, _<_}
-use lib.ListN.{getD}
+use Prim.Native.Nat.{ℕ, _+_, _<_, _*_, _≤_}
+use lib.ListN.{getD, length}
 use Rattle.trits.specs.Trit.{upTo}
-use Rattle.trits.specs.Planes.{onesOf, twosOf}
-use Rattle.matrix.specs.Linear.{Vector, Matrix, column}
-use Rattle.trits.specs.Rows.{rowsOf}
+use Rattle.trits.specs.Planes.{onesOf, twosOf, Reads}
+use Rattle.matrix.specs.Linear.{Vector, Matrix, column, rank, range}
+use Rattle.trits.specs.Rows.{rowsOf, matrixAt}
 use Rattle.scheme.specs.Build.{rowOfR}
-use Rattle.build_matrix.specs.Steps.{colOf}
+use Rattle.build_matrix.specs.Steps.{colOf, placedAt}
+use Rattle.grid.specs.Steps.{Rows}
+use Rattle.matrix.specs.Orders.{Order}
 
 -- the key of the order p stands in the matrix A: row i of it in the column at place p(r + i)
 pub record Keyed (r n : ℕ) (H A : Matrix) (p : List ℕ) : Type 0 where
@@ -24,3 +26,59 @@ keyOnes k kw r N hw A p = rowsOf (λ i. onesOf (readDown r N hw A p i) kw) k
 
 unfoldable pub keyTwos : ℕ → ℕ → ℕ → ℕ → ℕ → Matrix → List ℕ → List ℕ
 keyTwos k kw r N hw A p = rowsOf (λ i. twosOf (readDown r N hw A p i) kw) k
+
+-- a half of so many places in so many words, and a place of both halves
+pub record ForColumn (q half hw : ℕ) : Type 0 where
+  pub half-fits : half ≤ 64 * hw
+  pub place : q < half + half
+  pub small : hw ≤ 4294967296
+
+-- a grid, one of its columns, the row that is next, and two places of the order
+pub record ForTryColumn (ones twos : List ℕ) (rows w c : ℕ) (order : List ℕ) (j l : ℕ) : Type 0 where
+  pub grid : Rows ones twos rows w
+  pub small : length ones ≤ 4294967296
+  pub column : c < 64 * w
+  pub row-next : j < rows
+  pub to : j < length order
+  pub from : l < length order
+
+-- the secret matrix in a grid of two halves, of full rank, and an order of its places
+pub record ForArrange (ones twos : List ℕ) (rows w half hw : ℕ) (order : List ℕ) : Type 0 where
+  pub grid : Rows ones twos rows w
+  pub small : length ones ≤ 4294967296
+  pub half-fits : half ≤ 64 * hw
+  pub words : hw + hw ≤ w
+  pub places-fit : length order ≤ half + half
+  pub half-small : hw ≤ 4294967296
+  pub is-order : Order (length order) order
+  pub rank-full : rank rows (length order) (placedAt half hw w ones twos) (range (length order)) ≡ rows
+
+-- a grid, one of its columns, and a row in which nothing is put yet
+pub record ForPutColumn (ones twos : List ℕ) (rows w c : ℕ) (ko kt : List ℕ) : Type 0 where
+  pub grid : Rows ones twos rows w
+  pub nothing-put : Reads ko kt (length ko) (upTo 0 (column (matrixAt w ones twos) c))
+  pub small : length ones ≤ 4294967296
+  pub column : c < 64 * w
+  pub room : rows ≤ 64 * length ko
+
+-- a grid, one of its columns, and room for a row
+pub record ForWriteRow (ones twos : List ℕ) (rows w c : ℕ) (ko kt : List ℕ) : Type 0 where
+  pub grid : Rows ones twos rows w
+  pub small : length ones ≤ 4294967296
+  pub column : c < 64 * w
+  pub room : rows ≤ 64 * length ko
+  pub twos-size : length kt ≡ length ko
+
+-- the grid after the pass, the final order, and room for the key
+pub record ForWriteKey (ones twos : List ℕ) (rows w half hw : ℕ) (order : List ℕ) (k kw : ℕ) (ko kt : List ℕ) : Type 0 where
+  pub grid : Rows ones twos rows w
+  pub small : length ones ≤ 4294967296
+  pub half-fits : half ≤ 64 * hw
+  pub words : hw + hw ≤ w
+  pub places-fit : length order ≤ half + half
+  pub half-small : hw ≤ 4294967296
+  pub is-order : Order (length order) order
+  pub columns : rows + k ≡ length order
+  pub room : rows ≤ 64 * kw
+  pub ones-size : length ko ≡ k * kw
+  pub twos-size : length kt ≡ k * kw

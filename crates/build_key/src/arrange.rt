@@ -1,20 +1,18 @@
 // The column rule: places are tried in order, and those whose column has no pivot go to the end.
 ghost use mathlib.Core.Path.{_≡_};
 ghost use mathlib.Core.Bool.{cond};
-ghost use Prim.Native.Nat.{suc, _+_, _*_, _<_, _≤_};
+ghost use Prim.Native.Nat.{suc, _+_, _*_, _<_};
 ghost use lib.ListN.{length};
 ghost use Rattle.trits.specs.Rows.{matrixAt};
-ghost use Rattle.matrix.specs.Linear.{rank, range};
-ghost use Rattle.matrix.specs.Orders.{Order};
 ghost use Rattle.matrix.specs.Steps.{hasPivot, stepOf};
 ghost use Rattle.grid.specs.Steps.{Rows, Grid};
 ghost use Rattle.scheme.specs.Build.{swap, arranged};
 ghost use Rattle.build_matrix.specs.Steps.{colOf, placedAt};
-ghost use Rattle.build_key.specs.Steps.{Keyed};
+ghost use Rattle.build_key.specs.Steps.{Keyed, ForColumn, ForTryColumn, ForArrange};
 
 // The column of a secret place.
 pub fn column(q: usize, half: usize, hw: usize) -> usize
-    requires { ⌜ (half ≤ 64 * hw) × (q < half + half) × (hw ≤ 4294967296) ⌝ }
+    requires { ⌜ ForColumn q half hw ⌝ }
     ensures { λ r. ⌜ r ≡ colOf half hw q ⌝ }
 {
     if q < half {
@@ -45,8 +43,7 @@ pub fn try_column(
     j: usize,
     l: usize,
 ) -> usize
-    requires { ⌜ Rows (now ones) (now twos) rows w ⌝ }
-    requires { ⌜ (length (now ones) ≤ 4294967296) × (c < 64 * w) × (j < rows) × (j < length (now order)) × (l < length (now order)) ⌝ }
+    requires { ⌜ ForTryColumn (now ones) (now twos) rows w c (now order) j l ⌝ }
     ensures { λ r. ⌜ r ≡ cond (hasPivot rows j c (matrixAt w (now (ones .entry)) (now (twos .entry)))) (suc j) j ⌝ }
     ensures { λ _. ⌜ Grid (now (ones .exit)) (now (twos .exit)) rows w (stepOf rows j c (matrixAt w (now (ones .entry)) (now (twos .entry)))) ⌝ }
     ensures { λ _. ⌜ now (order .exit) ≡ cond (hasPivot rows j c (matrixAt w (now (ones .entry)) (now (twos .entry)))) (now (order .entry)) (swap j l (now (order .entry))) ⌝ }
@@ -68,10 +65,7 @@ pub fn arrange(
     hw: usize,
     order: &mut [u16],
 )
-    requires { ⌜ Rows (now ones) (now twos) rows w ⌝ }
-    requires { ⌜ (length (now ones) ≤ 4294967296) × (half ≤ 64 * hw) × (hw + hw ≤ w) × (length (now order) ≤ half + half) × (hw ≤ 4294967296) ⌝ }
-    requires { ⌜ Order (length (now order)) (now order) ⌝ }
-    requires { ⌜ rank rows (length (now order)) (placedAt half hw w (now ones) (now twos)) (range (length (now order))) ≡ rows ⌝ }
+    requires { ⌜ ForArrange (now ones) (now twos) rows w half hw (now order) ⌝ }
     ensures { λ _. ⌜ now (order .exit) ≡ arranged rows (length (now (order .entry))) (placedAt half hw w (now (ones .entry)) (now (twos .entry))) (now (order .entry)) .order ⌝ }
     ensures { λ _. ⌜ Keyed rows (length (now (order .entry))) (placedAt half hw w (now (ones .entry)) (now (twos .entry)))
         (placedAt half hw w (now (ones .exit)) (now (twos .exit))) (now (order .exit)) ⌝ }

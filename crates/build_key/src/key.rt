@@ -1,14 +1,12 @@
 // The key: rows of R, read down the columns of the arranged matrix.
 ghost use mathlib.Core.Path.{_≡_};
-ghost use Prim.Native.Nat.{_+_, _*_, _<_, _≤_};
+ghost use Prim.Native.Nat.{_+_, _*_, _<_};
 ghost use lib.ListN.{length};
 ghost use Rattle.trits.specs.Trit.{upTo};
 ghost use Rattle.trits.specs.Planes.{Reads, onesOf, twosOf};
 ghost use Rattle.trits.specs.Rows.{matrixAt};
 ghost use Rattle.matrix.specs.Linear.{column};
-ghost use Rattle.matrix.specs.Orders.{Order};
-ghost use Rattle.grid.specs.Steps.{Rows};
-ghost use Rattle.build_key.specs.Steps.{keyOnes, keyTwos};
+ghost use Rattle.build_key.specs.Steps.{keyOnes, keyTwos, ForPutColumn, ForWriteRow, ForWriteKey};
 use super::arrange;
 
 // The trits of column c are put at the first places of a row that holds 0.
@@ -21,9 +19,7 @@ pub fn put_column(
     ko: &mut [u64],
     kt: &mut [u64],
 )
-    requires { ⌜ Rows (now ones) (now twos) rows w ⌝ }
-    requires { ⌜ Reads (now ko) (now kt) (length (now ko)) (upTo 0 (column (matrixAt w (now ones) (now twos)) c)) ⌝ }
-    requires { ⌜ (length (now ones) ≤ 4294967296) × (c < 64 * w) × (rows ≤ 64 * length (now ko)) ⌝ }
+    requires { ⌜ ForPutColumn (now ones) (now twos) rows w c (now ko) (now kt) ⌝ }
     ensures { λ _. ⌜ Reads (now (ko .exit)) (now (kt .exit)) (length (now (ko .entry))) (upTo rows (column (matrixAt w (now (ones .entry)) (now (twos .entry))) c)) ⌝ }
 {
     let mut i = 0;
@@ -44,8 +40,7 @@ pub fn write_row(
     ko: &mut [u64],
     kt: &mut [u64],
 )
-    requires { ⌜ Rows (now ones) (now twos) rows w ⌝ }
-    requires { ⌜ (length (now ones) ≤ 4294967296) × (c < 64 * w) × (rows ≤ 64 * length (now ko)) × (length (now kt) ≡ length (now ko)) ⌝ }
+    requires { ⌜ ForWriteRow (now ones) (now twos) rows w c (now ko) (now kt) ⌝ }
     ensures { λ _. ⌜ now (ko .exit) ≡ onesOf (upTo rows (column (matrixAt w (now (ones .entry)) (now (twos .entry))) c)) (length (now (ko .entry))) ⌝ }
     ensures { λ _. ⌜ now (kt .exit) ≡ twosOf (upTo rows (column (matrixAt w (now (ones .entry)) (now (twos .entry))) c)) (length (now (ko .entry))) ⌝ }
 {
@@ -68,10 +63,7 @@ pub fn write_key(
     ko: &mut [u64],
     kt: &mut [u64],
 )
-    requires { ⌜ Rows (now ones) (now twos) rows w ⌝ }
-    requires { ⌜ (length (now ones) ≤ 4294967296) × (half ≤ 64 * hw) × (hw + hw ≤ w) × (length (now order) ≤ half + half) × (hw ≤ 4294967296) ⌝ }
-    requires { ⌜ Order (length (now order)) (now order) ⌝ }
-    requires { ⌜ (rows + k ≡ length (now order)) × (rows ≤ 64 * kw) × (length (now ko) ≡ k * kw) × (length (now kt) ≡ k * kw) ⌝ }
+    requires { ⌜ ForWriteKey (now ones) (now twos) rows w half hw (now order) k kw (now ko) (now kt) ⌝ }
     ensures { λ _. ⌜ now (ko .exit) ≡ keyOnes k kw rows half hw (matrixAt w (now (ones .entry)) (now (twos .entry))) (now (order .entry)) ⌝ }
     ensures { λ _. ⌜ now (kt .exit) ≡ keyTwos k kw rows half hw (matrixAt w (now (ones .entry)) (now (twos .entry))) (now (order .entry)) ⌝ }
 {

@@ -1,11 +1,9 @@
 // The work matrix, filled from the secret: a row of it has two half-rows, one after the other.
-ghost use mathlib.Core.Path.{_≡_};
-ghost use Prim.Native.Nat.{_+_, _≤_};
-ghost use lib.ListN.{length};
-ghost use Rattle.trits.specs.Planes.{tritAt, Row};
+ghost use Prim.Native.Nat.{_+_};
+ghost use Rattle.trits.specs.Planes.{tritAt};
 ghost use Rattle.trits.specs.Rows.{matrixAt};
-ghost use Rattle.grid.specs.Steps.{Rows, Grid};
-ghost use Rattle.build_matrix.specs.Steps.{halvesIn, leftU, rightU, leftV};
+ghost use Rattle.grid.specs.Steps.{Grid};
+ghost use Rattle.build_matrix.specs.Steps.{halvesIn, leftU, rightU, leftV, ForFillU, ForFillV};
 use super::halves;
 
 // The rows (d·H_U | -b·H_U), ru of them, in a matrix of `rows` half-rows of w words.
@@ -22,10 +20,7 @@ pub fn fill_u(
     co: &[u64],
     ct: &[u64],
 )
-    requires { ⌜ Rows (now ones) (now twos) rows w ⌝ }
-    requires { ⌜ Rows (now ho) (now ht) ru w ⌝ }
-    requires { ⌜ Row (now bo) (now bt) × Row (now co) (now ct) ⌝ }
-    requires { ⌜ (ru + ru ≤ rows) × (rows ≤ 4294967296) × (length (now bo) ≡ w) × (length (now co) ≡ w) × (ru ≤ 65536) × (w ≤ 65536) ⌝ }
+    requires { ⌜ ForFillU (now ones) (now twos) rows w ru (now ho) (now ht) (now bo) (now bt) (now co) (now ct) ⌝ }
     ensures { λ _. ⌜ Grid (now (ones .exit)) (now (twos .exit)) rows w
         (halvesIn 0 ru (leftU (matrixAt w (now (ho .entry)) (now (ht .entry))) (tritAt (now (bo .entry)) (now (bt .entry))) (tritAt (now (co .entry)) (now (ct .entry))))
         (rightU (matrixAt w (now (ho .entry)) (now (ht .entry))) (tritAt (now (bo .entry)) (now (bt .entry)))) (matrixAt w (now (ones .entry)) (now (twos .entry)))) ⌝ }
@@ -53,10 +48,7 @@ pub fn fill_v(
     co: &[u64],
     ct: &[u64],
 )
-    requires { ⌜ Rows (now ones) (now twos) rows w ⌝ }
-    requires { ⌜ Rows (now ho) (now ht) rv w ⌝ }
-    requires { ⌜ Row (now co) (now ct) ⌝ }
-    requires { ⌜ (ru + rv + (ru + rv) ≤ rows) × (rows ≤ 4294967296) × (length (now co) ≡ w) × (rv ≤ 65536) × (w ≤ 65536) ⌝ }
+    requires { ⌜ ForFillV (now ones) (now twos) rows w ru rv (now ho) (now ht) (now co) (now ct) ⌝ }
     ensures { λ _. ⌜ Grid (now (ones .exit)) (now (twos .exit)) rows w
         (halvesIn ru rv (leftV (matrixAt w (now (ho .entry)) (now (ht .entry))) (tritAt (now (co .entry)) (now (ct .entry))))
         (matrixAt w (now (ho .entry)) (now (ht .entry))) (matrixAt w (now (ones .entry)) (now (twos .entry)))) ⌝ }

@@ -1,11 +1,10 @@
 // Half-rows of the secret matrix, made in rows of the working planes.
-ghost use mathlib.Core.Path.{_≡_};
-ghost use Prim.Native.Nat.{_*_, _<_};
+ghost use Prim.Native.Nat.{_*_};
 ghost use lib.ListN.{length};
-ghost use Rattle.trits.specs.Planes.{tritAt, Row, Reads};
+ghost use Rattle.trits.specs.Planes.{tritAt, Reads};
 ghost use Rattle.trits.specs.Rows.{matrixAt};
-ghost use Rattle.grid.specs.Steps.{Rows, Grid, putRow};
-ghost use Rattle.build_matrix.specs.Steps.{scaledBy, negativeBy};
+ghost use Rattle.grid.specs.Steps.{Grid, putRow};
+ghost use Rattle.build_matrix.specs.Steps.{scaledBy, negativeBy, ForScaled, ForNegative, ForPutScaled, ForPutNegative};
 
 // The row becomes h times 1 + b·c: h times b times c, and h added.
 pub fn scaled(
@@ -18,8 +17,7 @@ pub fn scaled(
     co: &[u64],
     ct: &[u64],
 )
-    requires { ⌜ Row (now ho) (now ht) × Row (now bo) (now bt) × Row (now co) (now ct) ⌝ }
-    requires { ⌜ (length (now ho) ≡ length (now ones)) × (length (now ones) ≡ length (now twos)) × (length (now bo) ≡ length (now ones)) × (length (now co) ≡ length (now ones)) ⌝ }
+    requires { ⌜ ForScaled (now ones) (now twos) (now ho) (now ht) (now bo) (now bt) (now co) (now ct) ⌝ }
     ensures { λ _. ⌜ Reads (now (ones .exit)) (now (twos .exit)) (length (now (ones .entry)))
         (scaledBy (tritAt (now (bo .entry)) (now (bt .entry))) (tritAt (now (co .entry)) (now (ct .entry))) (tritAt (now (ho .entry)) (now (ht .entry)))) ⌝ }
 {
@@ -32,8 +30,7 @@ pub fn scaled(
 
 // The row becomes the negative of h times v.
 pub fn negative(ones: &mut [u64], twos: &mut [u64], ho: &[u64], ht: &[u64], vo: &[u64], vt: &[u64])
-    requires { ⌜ Row (now ho) (now ht) × Row (now vo) (now vt) ⌝ }
-    requires { ⌜ (length (now ho) ≡ length (now ones)) × (length (now ones) ≡ length (now twos)) × (length (now vo) ≡ length (now ones)) ⌝ }
+    requires { ⌜ ForNegative (now ones) (now twos) (now ho) (now ht) (now vo) (now vt) ⌝ }
     ensures { λ _. ⌜ Reads (now (ones .exit)) (now (twos .exit)) (length (now (ones .entry)))
         (negativeBy (tritAt (now (vo .entry)) (now (vt .entry))) (tritAt (now (ho .entry)) (now (ht .entry)))) ⌝ }
 {
@@ -57,9 +54,7 @@ pub fn put_scaled(
     co: &[u64],
     ct: &[u64],
 )
-    requires { ⌜ Rows (now ones) (now twos) rows w ⌝ }
-    requires { ⌜ Row (now ho) (now ht) × Row (now bo) (now bt) × Row (now co) (now ct) ⌝ }
-    requires { ⌜ (j < rows) × (length (now ho) ≡ w) × (length (now bo) ≡ w) × (length (now co) ≡ w) ⌝ }
+    requires { ⌜ ForPutScaled (now ones) (now twos) rows w j (now ho) (now ht) (now bo) (now bt) (now co) (now ct) ⌝ }
     ensures { λ _. ⌜ Grid (now (ones .exit)) (now (twos .exit)) rows w
         (putRow j (scaledBy (tritAt (now (bo .entry)) (now (bt .entry))) (tritAt (now (co .entry)) (now (ct .entry))) (tritAt (now (ho .entry)) (now (ht .entry))))
         (matrixAt w (now (ones .entry)) (now (twos .entry)))) ⌝ }
@@ -81,9 +76,7 @@ pub fn put_negative(
     vo: &[u64],
     vt: &[u64],
 )
-    requires { ⌜ Rows (now ones) (now twos) rows w ⌝ }
-    requires { ⌜ Row (now ho) (now ht) × Row (now vo) (now vt) ⌝ }
-    requires { ⌜ (j < rows) × (length (now ho) ≡ w) × (length (now vo) ≡ w) ⌝ }
+    requires { ⌜ ForPutNegative (now ones) (now twos) rows w j (now ho) (now ht) (now vo) (now vt) ⌝ }
     ensures { λ _. ⌜ Grid (now (ones .exit)) (now (twos .exit)) rows w
         (putRow j (negativeBy (tritAt (now (vo .entry)) (now (vt .entry))) (tritAt (now (ho .entry)) (now (ht .entry))))
         (matrixAt w (now (ones .entry)) (now (twos .entry)))) ⌝ }

@@ -1,12 +1,42 @@
 -- The two matrices of a secret ("The secret pairs"). Assumes nothing.
 use mathlib.Core.List.{List}
-use Prim.Native.Nat.{ℕ}
+use Prim.Native.Nat.{ℕ, _*_, _≤_}
 use Rattle.trits.specs.Rows.{matrixAt}
 use Rattle.matrix.specs.Linear.{zeros}
 use Rattle.scheme.specs.declared.sizes.Sizes.{Sizes}
 use Rattle.scheme.specs.Secret.{Secret}
 use Rattle.calls.specs.Lent.{halfWords}
+use mathlib.Core.Path.{_≡_}
+use lib.ListN.{length}
+use Rattle.grid.specs.Steps.{Rows}
+use mathlib.Core.Bool.{true}
+use Rattle.scheme.specs.Sizes.{sizesFit, ru, rv}
+use Rattle.calls.specs.BuildCall.{buildWorkWords}
 
 -- H_U and H_V alone, with no b and c
 abbrev pub matrices : Sizes → List ℕ → List ℕ → List ℕ → List ℕ → Secret
 matrices z a b c d = record { hu = matrixAt (halfWords z) a b; hv = matrixAt (halfWords z) c d; b = zeros; c = zeros }
+
+-- a grid, and working space of its size
+pub record ForRankCopied (ones twos : List ℕ) (rows w n : ℕ) (workOnes workTwos : List ℕ) : Type 0 where
+  pub grid : Rows ones twos rows w
+  pub small : length ones ≤ 4294967296
+  pub columns : n ≤ 64 * w
+  pub work-ones : length ones ≡ length workOnes
+  pub work-twos : length twos ≡ length workTwos
+
+-- a grid, and working space of at least its size
+pub record ForRankOf (ones twos : List ℕ) (rows w n : ℕ) (workOnes workTwos : List ℕ) : Type 0 where
+  pub grid : Rows ones twos rows w
+  pub small : length ones ≤ 4294967296
+  pub columns : n ≤ 64 * w
+  pub work-ones : length ones ≤ length workOnes
+  pub work-twos : length ones ≤ length workTwos
+
+-- sizes that fit, H_U and H_V, and working space
+pub record ForTestRanks (z : Sizes) (huOnes huTwos hvOnes hvTwos workOnes workTwos : List ℕ) : Type 0 where
+  pub sizes : sizesFit z ≡ true
+  pub hu-grid : Rows huOnes huTwos (ru z) (halfWords z)
+  pub hv-grid : Rows hvOnes hvTwos (rv z) (halfWords z)
+  pub work-ones : length workOnes ≡ buildWorkWords z
+  pub work-twos : length workTwos ≡ buildWorkWords z

@@ -1,17 +1,11 @@
 // The ranks of H_U and H_V, in the working planes.
 ghost use mathlib.Core.Path.{_≡_};
-ghost use mathlib.Core.Bool.{true};
-ghost use Prim.Native.Nat.{_*_, _≤_};
-ghost use lib.ListN.{length};
 ghost use Rattle.trits.specs.Rows.{matrixAt};
 ghost use Rattle.trits.specs.Refusal.{codeOf};
 ghost use Rattle.matrix.specs.Linear.{rank, range};
-ghost use Rattle.grid.specs.Steps.{Rows};
-ghost use Rattle.scheme.specs.Sizes.{sizesFit, ru, rv};
+ghost use Rattle.scheme.specs.Sizes.{ru, rv};
 ghost use Rattle.scheme.specs.Build.{buildRefusal};
-ghost use Rattle.calls.specs.Lent.{halfWords};
-ghost use Rattle.calls.specs.BuildCall.{buildWorkWords};
-ghost use Rattle.build_ranks.specs.Steps.{matrices};
+ghost use Rattle.build_ranks.specs.Steps.{matrices, ForRankCopied, ForRankOf, ForTestRanks};
 use scheme::sizes::Sizes;
 use trits::refusal::Outcome;
 use trits::refusal::Refusal;
@@ -26,9 +20,7 @@ pub fn rank_copied(
     work_ones: &mut [u64],
     work_twos: &mut [u64],
 ) -> usize
-    requires { ⌜ Rows (now ones) (now twos) rows w ⌝ }
-    requires { ⌜ (length (now ones) ≤ 4294967296) × (n ≤ 64 * w) ⌝ }
-    requires { ⌜ (length (now ones) ≡ length (now «work_ones»)) × (length (now twos) ≡ length (now «work_twos»)) ⌝ }
+    requires { ⌜ ForRankCopied (now ones) (now twos) rows w n (now «work_ones») (now «work_twos») ⌝ }
     ensures { λ r. ⌜ r ≡ rank rows n (matrixAt w (now (ones .entry)) (now (twos .entry))) (range n) ⌝ }
 {
     planes::words::copy_words(work_ones, ones);
@@ -46,9 +38,7 @@ pub fn rank_of(
     work_ones: &mut [u64],
     work_twos: &mut [u64],
 ) -> usize
-    requires { ⌜ Rows (now ones) (now twos) rows w ⌝ }
-    requires { ⌜ (length (now ones) ≤ 4294967296) × (n ≤ 64 * w) ⌝ }
-    requires { ⌜ (length (now ones) ≤ length (now «work_ones»)) × (length (now ones) ≤ length (now «work_twos»)) ⌝ }
+    requires { ⌜ ForRankOf (now ones) (now twos) rows w n (now «work_ones») (now «work_twos») ⌝ }
     ensures { λ r. ⌜ r ≡ rank rows n (matrixAt w (now (ones .entry)) (now (twos .entry))) (range n) ⌝ }
 {
     let e = ones.len();
@@ -73,10 +63,7 @@ pub fn test_ranks(
     work_ones: &mut [u64],
     work_twos: &mut [u64],
 ) -> Outcome
-    requires { ⌜ sizesFit z ≡ true ⌝ }
-    requires { ⌜ Rows (now «hu_ones») (now «hu_twos») (ru z) (halfWords z) ⌝ }
-    requires { ⌜ Rows (now «hv_ones») (now «hv_twos») (rv z) (halfWords z) ⌝ }
-    requires { ⌜ (length (now «work_ones») ≡ buildWorkWords z) × (length (now «work_twos») ≡ buildWorkWords z) ⌝ }
+    requires { ⌜ ForTestRanks z (now «hu_ones») (now «hu_twos») (now «hv_ones») (now «hv_twos») (now «work_ones») (now «work_twos») ⌝ }
     ensures { λ r. ⌜ codeOf r ≡ buildRefusal z (matrices z (now («hu_ones» .entry)) (now («hu_twos» .entry)) (now («hv_ones» .entry)) (now («hv_twos» .entry))) ⌝ }
 {
     let half = z.n as usize / 2;

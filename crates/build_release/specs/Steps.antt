@@ -1,15 +1,39 @@
 -- The work matrix of a build ("Building a key"). Assumes nothing.
 use mathlib.Core.Path.{_≡_}
 use mathlib.Core.List.{List}
-use Prim.Native.Nat.{ℕ, _+_}
+use Prim.Native.Nat.{ℕ, _+_, _*_}
 use Rattle.grid.specs.Steps.{Rows}
 use Rattle.scheme.specs.declared.sizes.Sizes.{Sizes}
-use Rattle.scheme.specs.Sizes.{half, codim}
+use Rattle.scheme.specs.Sizes.{half, codim, sizesFit, places, dim}
 use Rattle.scheme.specs.Secret.{Secret, secretMatrix}
 use Rattle.build_matrix.specs.Steps.{placedAt}
-use Rattle.calls.specs.Lent.{halfWords}
+use Rattle.calls.specs.Lent.{halfWords, planes, Readable, secretOf}
+use mathlib.Core.Bool.{true}
+use lib.ListN.{length}
+use Rattle.calls.specs.BuildCall.{buildWorkWords, keyRowWords}
+use Rattle.matrix.specs.Linear.{rank, range}
+use Rattle.matrix.specs.Orders.{Order}
 
 -- the working planes hold the secret matrix, in secret places
 pub record Filled (z : Sizes) (s : Secret) (ones twos : List ℕ) : Type 0 where
   pub rows : Rows ones twos (codim z) (halfWords z + halfWords z)
   pub cells : placedAt (half z) (halfWords z) (halfWords z + halfWords z) ones twos ≡ secretMatrix z s
+
+-- sizes that fit, a secret that was tested, and working space
+pub record ForFillMatrix (z : Sizes) (huOnes huTwos hvOnes hvTwos bOnes bTwos cOnes cTwos workOnes workTwos : List ℕ) : Type 0 where
+  pub sizes : sizesFit z ≡ true
+  pub secret : Readable z (planes huOnes huTwos hvOnes hvTwos bOnes bTwos cOnes cTwos)
+  pub work-ones : length workOnes ≡ buildWorkWords z
+  pub work-twos : length workTwos ≡ buildWorkWords z
+
+-- sizes that fit, a secret that was tested and has full rank, an order, and all that the key is written to
+pub record ForRelease (z : Sizes) (huOnes huTwos hvOnes hvTwos bOnes bTwos cOnes cTwos start p keyOnes keyTwos workOnes workTwos : List ℕ) : Type 0 where
+  pub sizes : sizesFit z ≡ true
+  pub secret : Readable z (planes huOnes huTwos hvOnes hvTwos bOnes bTwos cOnes cTwos)
+  pub is-order : Order (places z) start
+  pub rank-full : rank (codim z) (places z) (secretMatrix z (secretOf z (planes huOnes huTwos hvOnes hvTwos bOnes bTwos cOnes cTwos))) (range (places z)) ≡ codim z
+  pub p-size : length p ≡ places z
+  pub key-ones-size : length keyOnes ≡ dim z * keyRowWords z
+  pub key-twos-size : length keyTwos ≡ dim z * keyRowWords z
+  pub work-ones-size : length workOnes ≡ buildWorkWords z
+  pub work-twos-size : length workTwos ≡ buildWorkWords z

@@ -1,16 +1,9 @@
 // The work matrix of a secret, and the key that it makes.
 ghost use mathlib.Core.Path.{_≡_};
-ghost use mathlib.Core.Bool.{true};
-ghost use Prim.Native.Nat.{_*_};
-ghost use lib.ListN.{length};
-ghost use Rattle.matrix.specs.Linear.{rank, range};
-ghost use Rattle.scheme.specs.Secret.{secretMatrix};
 ghost use Rattle.scheme.specs.Build.{keyOrder};
-ghost use Rattle.scheme.specs.Sizes.{sizesFit, places, dim, codim};
-ghost use Rattle.matrix.specs.Orders.{Order};
-ghost use Rattle.calls.specs.Lent.{planes, secretOf, Readable};
-ghost use Rattle.calls.specs.BuildCall.{keyRowWords, buildWorkWords, keyOnesOf, keyTwosOf};
-ghost use Rattle.build_release.specs.Steps.{Filled};
+ghost use Rattle.calls.specs.Lent.{planes, secretOf};
+ghost use Rattle.calls.specs.BuildCall.{keyOnesOf, keyTwosOf};
+ghost use Rattle.build_release.specs.Steps.{Filled, ForFillMatrix, ForRelease};
 use super::order;
 use scheme::sizes;
 use scheme::sizes::Sizes;
@@ -29,9 +22,7 @@ pub fn fill_matrix(
     work_ones: &mut [u64],
     work_twos: &mut [u64],
 )
-    requires { ⌜ sizesFit z ≡ true ⌝ }
-    requires { ⌜ Readable z (planes (now «hu_ones») (now «hu_twos») (now «hv_ones») (now «hv_twos») (now «b_ones») (now «b_twos») (now «c_ones») (now «c_twos»)) ⌝ }
-    requires { ⌜ (length (now «work_ones») ≡ buildWorkWords z) × (length (now «work_twos») ≡ buildWorkWords z) ⌝ }
+    requires { ⌜ ForFillMatrix z (now «hu_ones») (now «hu_twos») (now «hv_ones») (now «hv_twos») (now «b_ones») (now «b_twos») (now «c_ones») (now «c_twos») (now «work_ones») (now «work_twos») ⌝ }
     ensures { λ _. ⌜ Filled z (secretOf z (planes (now («hu_ones» .entry)) (now («hu_twos» .entry)) (now («hv_ones» .entry)) (now («hv_twos» .entry))
         (now («b_ones» .entry)) (now («b_twos» .entry)) (now («c_ones» .entry)) (now («c_twos» .entry))))
         (now («work_ones» .exit)) (now («work_twos» .exit)) ⌝ }
@@ -85,12 +76,7 @@ pub fn release(
     work_ones: &mut [u64],
     work_twos: &mut [u64],
 )
-    requires { ⌜ sizesFit z ≡ true ⌝ }
-    requires { ⌜ Readable z (planes (now «hu_ones») (now «hu_twos») (now «hv_ones») (now «hv_twos») (now «b_ones») (now «b_twos») (now «c_ones») (now «c_twos»)) ⌝ }
-    requires { ⌜ Order (places z) (now start) ⌝ }
-    requires { ⌜ rank (codim z) (places z) (secretMatrix z (secretOf z (planes (now «hu_ones») (now «hu_twos») (now «hv_ones») (now «hv_twos») (now «b_ones») (now «b_twos») (now «c_ones») (now «c_twos»)))) (range (places z)) ≡ codim z ⌝ }
-    requires { ⌜ (length (now p) ≡ places z) × (length (now «key_ones») ≡ dim z * keyRowWords z) × (length (now «key_twos») ≡ dim z * keyRowWords z)
-        × (length (now «work_ones») ≡ buildWorkWords z) × (length (now «work_twos») ≡ buildWorkWords z) ⌝ }
+    requires { ⌜ ForRelease z (now «hu_ones») (now «hu_twos») (now «hv_ones») (now «hv_twos») (now «b_ones») (now «b_twos») (now «c_ones») (now «c_twos») (now start) (now p) (now «key_ones») (now «key_twos») (now «work_ones») (now «work_twos») ⌝ }
     ensures { λ _. ⌜ (let s = secretOf z (planes (now («hu_ones» .entry)) (now («hu_twos» .entry)) (now («hv_ones» .entry)) (now («hv_twos» .entry))
         (now («b_ones» .entry)) (now («b_twos» .entry)) (now («c_ones» .entry)) (now («c_twos» .entry))) in
         (now (p .exit) ≡ keyOrder z s (now (start .entry)))

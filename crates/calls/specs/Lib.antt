@@ -2,3 +2,4 @@
 pub mod Lent
 pub mod BuildCall
 pub mod DrawCall
+pub mod Steps

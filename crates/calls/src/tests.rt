@@ -1,7 +1,7 @@
 // The tests that both calls make: lengths, zeros, the secret's buffers.
 ghost use mathlib.Core.Path.{_≡_};
 ghost use mathlib.Core.Bool.{true};
-ghost use Prim.Native.Nat.{_+_, _*_, _≤_};
+ghost use Prim.Native.Nat.{_+_, _*_};
 ghost use lib.ListN.{length};
 ghost use Rattle.trits.specs.Planes.{tritAt};
 ghost use Rattle.trits.specs.Refusal.{codeOf};
@@ -12,6 +12,7 @@ use scheme::sizes::Sizes;
 use trits::refusal::Outcome;
 use trits::refusal::Refusal;
 ghost use Rattle.scheme.specs.Secret.{hasZero};
+ghost use Rattle.calls.specs.Steps.{ForHasZero};
 
 // Whether one of two planes has another length than m.
 pub fn pair_differs(m: usize, ones: usize, twos: usize) -> bool
@@ -53,7 +54,7 @@ pub fn secret_differs(
 
 // Whether one of the m trits from place `from` on is 0.
 pub fn has_zero(ones: &[u64], twos: &[u64], from: usize, m: usize) -> bool
-    requires { ⌜ (length (now twos) ≡ length (now ones)) × (from + m ≤ 64 * length (now ones)) × (from + m ≤ 65536) ⌝ }
+    requires { ⌜ ForHasZero (now ones) (now twos) from m ⌝ }
     ensures { λ r. ⌜ r ≡ hasZero m (λ j. tritAt (now (ones .entry)) (now (twos .entry)) (from + j)) ⌝ }
 {
     let mut i = 0;

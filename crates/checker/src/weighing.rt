@@ -1,14 +1,14 @@
 // The rows of the key taken from y, and the weight of the full word.
 ghost use mathlib.Core.Path.{_≡_};
-ghost use Prim.Native.Nat.{ℕ, _*_, _<_, _≤_};
+ghost use Prim.Native.Nat.{ℕ, _<_};
 ghost use lib.ListN.{length};
 ghost use Rattle.trits.specs.Trit.{subT, mulT, nonZero, zipV, weightV, tritOf};
-ghost use Rattle.trits.specs.Planes.{tritAt, Row, Reads};
-ghost use Rattle.packed.specs.Packed.{bytesFor, byteTable, packedRow, packedRefusal};
+ghost use Rattle.trits.specs.Planes.{tritAt, Reads};
+ghost use Rattle.packed.specs.Packed.{packedRow};
 ghost use Rattle.verdict.specs.Verdict.{timesKey};
-ghost use Rattle.held_key.specs.Held.{rowTrits, rowWords, heldKey};
-ghost use Rattle.held_key.specs.Steps.{Whole, Work};
-ghost use Rattle.check_tests.specs.Check.{planesLengths, planesContents, packedLengths, packedContents, heldWeight};
+ghost use Rattle.held_key.specs.Held.{rowTrits, heldKey};
+ghost use Rattle.check_tests.specs.Check.{heldWeight};
+ghost use Rattle.checker.specs.Steps.{ForTakeRow, ForTakeRows, ForTakeByTable, ForTakePackedRows, ForWeigh, ForWeighPacked};
 use held_key::state::Held;
 
 // Row i of the key, times a trit, is taken from the word; whether a row was taken, as 1 or 0.
@@ -21,10 +21,7 @@ fn take_row(
     work_ones: &mut [u64],
     work_twos: &mut [u64],
 ) -> u64
-    requires { ⌜ Whole held (now ones) (now twos) ⌝ }
-    requires { ⌜ Row (now ones) (now twos) ⌝ }
-    requires { ⌜ Work held (now «work_ones») (now «work_twos») ⌝ }
-    requires { ⌜ (i < held .k) × (t < 3) ⌝ }
+    requires { ⌜ ForTakeRow held (now ones) (now twos) i t (now «work_ones») (now «work_twos») ⌝ }
     ensures { λ r. ⌜ r ≡ nonZero (tritOf t) ⌝ }
     ensures { λ _. ⌜ Reads (now («work_ones» .exit)) (now («work_twos» .exit)) (length (now («work_ones» .entry)))
         (zipV subT (tritAt (now («work_ones» .entry)) (now («work_twos» .entry))) (zipV mulT (λ (q : ℕ). tritOf t) (heldKey held (now (ones .entry)) (now (twos .entry)) i))) ⌝ }
@@ -52,10 +49,7 @@ fn take_rows(
     work_ones: &mut [u64],
     work_twos: &mut [u64],
 ) -> u64
-    requires { ⌜ Whole held (now ones) (now twos) ⌝ }
-    requires { ⌜ Row (now ones) (now twos) ⌝ }
-    requires { ⌜ Work held (now «work_ones») (now «work_twos») ⌝ }
-    requires { ⌜ (held .k ≤ 64 * length (now «s_ones»)) × (length (now «s_twos») ≡ length (now «s_ones»)) ⌝ }
+    requires { ⌜ ForTakeRows held (now ones) (now twos) (now «s_ones») (now «s_twos») (now «work_ones») (now «work_twos») ⌝ }
     ensures { λ r. ⌜ r ≡ weightV (tritAt (now («s_ones» .entry)) (now («s_twos» .entry))) (held .k) ⌝ }
     ensures { λ _. ⌜ Reads (now («work_ones» .exit)) (now («work_twos» .exit)) (length (now («work_ones» .entry)))
         (zipV subT (tritAt (now («work_ones» .entry)) (now («work_twos» .entry))) (timesKey (held .k) (heldKey held (now (ones .entry)) (now (twos .entry))) (tritAt (now («s_ones» .entry)) (now («s_twos» .entry))))) ⌝ }
@@ -81,10 +75,7 @@ fn take_by_table(
     work_twos: &mut [u64],
     table: &[u8; 1215],
 ) -> u64
-    requires { ⌜ Whole held (now ones) (now twos) ⌝ }
-    requires { ⌜ Row (now ones) (now twos) ⌝ }
-    requires { ⌜ Work held (now «work_ones») (now «work_twos») ⌝ }
-    requires { ⌜ (length (now s) ≡ bytesFor (held .k)) × (packedRefusal (now s) ≡ 0) × (now table ≡ byteTable) ⌝ }
+    requires { ⌜ ForTakeByTable held (now ones) (now twos) (now s) (now «work_ones») (now «work_twos») (now table) ⌝ }
     ensures { λ r. ⌜ r ≡ weightV (packedRow (held .k) (now (s .entry))) (held .k) ⌝ }
     ensures { λ _. ⌜ Reads (now («work_ones» .exit)) (now («work_twos» .exit)) (length (now («work_ones» .entry)))
         (zipV subT (tritAt (now («work_ones» .entry)) (now («work_twos» .entry))) (timesKey (held .k) (heldKey held (now (ones .entry)) (now (twos .entry))) (packedRow (held .k) (now (s .entry))))) ⌝ }
@@ -109,10 +100,7 @@ fn take_packed_rows(
     work_ones: &mut [u64],
     work_twos: &mut [u64],
 ) -> u64
-    requires { ⌜ Whole held (now ones) (now twos) ⌝ }
-    requires { ⌜ Row (now ones) (now twos) ⌝ }
-    requires { ⌜ Work held (now «work_ones») (now «work_twos») ⌝ }
-    requires { ⌜ (length (now s) ≡ bytesFor (held .k)) × (packedRefusal (now s) ≡ 0) ⌝ }
+    requires { ⌜ ForTakePackedRows held (now ones) (now twos) (now s) (now «work_ones») (now «work_twos») ⌝ }
     ensures { λ r. ⌜ r ≡ weightV (packedRow (held .k) (now (s .entry))) (held .k) ⌝ }
     ensures { λ _. ⌜ Reads (now («work_ones» .exit)) (now («work_twos» .exit)) (length (now («work_ones» .entry)))
         (zipV subT (tritAt (now («work_ones» .entry)) (now («work_twos» .entry))) (timesKey (held .k) (heldKey held (now (ones .entry)) (now (twos .entry))) (packedRow (held .k) (now (s .entry))))) ⌝ }
@@ -133,10 +121,7 @@ pub fn weigh(
     work_ones: &mut [u64],
     work_twos: &mut [u64],
 ) -> u64
-    requires { ⌜ Whole held (now ones) (now twos) ⌝ }
-    requires { ⌜ planesLengths held (length (now «y_ones»)) (length (now «y_twos»)) (length (now «s_ones»)) (length (now «s_twos»)) ≡ 0 ⌝ }
-    requires { ⌜ planesContents held (now ones) (now twos) (now «y_ones») (now «y_twos») (now «s_ones») (now «s_twos») ≡ 0 ⌝ }
-    requires { ⌜ (length (now «work_ones») ≡ rowWords held) × (length (now «work_twos») ≡ rowWords held) ⌝ }
+    requires { ⌜ ForWeigh held (now ones) (now twos) (now «y_ones») (now «y_twos») (now «s_ones») (now «s_twos») (now «work_ones») (now «work_twos») ⌝ }
     ensures { λ r. ⌜ r ≡ heldWeight held (now (ones .entry)) (now (twos .entry)) (tritAt (now («y_ones» .entry)) (now («y_twos» .entry))) (tritAt (now («s_ones» .entry)) (now («s_twos» .entry))) ⌝ }
 {
     planes::words::copy_words(work_ones, y_ones);
@@ -156,10 +141,7 @@ pub fn weigh_packed(
     work_ones: &mut [u64],
     work_twos: &mut [u64],
 ) -> u64
-    requires { ⌜ Whole held (now ones) (now twos) ⌝ }
-    requires { ⌜ packedLengths held (length (now y)) (length (now s)) ≡ 0 ⌝ }
-    requires { ⌜ packedContents held (now ones) (now twos) (now y) (now s) ≡ 0 ⌝ }
-    requires { ⌜ (length (now «work_ones») ≡ rowWords held) × (length (now «work_twos») ≡ rowWords held) ⌝ }
+    requires { ⌜ ForWeighPacked held (now ones) (now twos) (now y) (now s) (now «work_ones») (now «work_twos») ⌝ }
     ensures { λ r. ⌜ r ≡ heldWeight held (now (ones .entry)) (now (twos .entry)) (packedRow (rowTrits held) (now (y .entry))) (packedRow (held .k) (now (s .entry))) ⌝ }
 {
     packing::write::write_packed(held_key::state::row_trits(held), y, work_ones, work_twos);

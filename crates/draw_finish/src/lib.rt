@@ -1,15 +1,15 @@
 // The end of a draw whose tests have passed: the word is made and released, and the working space made 0.
 ghost use mathlib.Core.Path.{_≡_};
-ghost use mathlib.Core.Bool.{true};
 ghost use lib.ListN.{length};
 ghost use Rattle.trits.specs.Trit.{upTo};
 ghost use Rattle.trits.specs.Planes.{wordsFor, onesOf, twosOf, zeroWords};
 ghost use Rattle.trits.specs.Refusal.{codeOf, atExit};
-ghost use Rattle.scheme.specs.Sizes.{sizesFit, places, dim};
+ghost use Rattle.scheme.specs.Sizes.{places, dim};
 ghost use Rattle.scheme.specs.Draw.{signature};
 ghost use Rattle.calls.specs.Lent.{planes};
-ghost use Rattle.calls.specs.DrawCall.{drawWorkWords, wordOf};
-ghost use Rattle.draw_tests.specs.Steps.{given, ending, Ready};
+ghost use Rattle.calls.specs.DrawCall.{wordOf};
+ghost use Rattle.draw_tests.specs.Steps.{given, ending};
+ghost use Rattle.draw_finish.specs.Steps.{ForFinishDraw};
 use draw_word::word;
 use scheme::sizes;
 use scheme::sizes::Sizes;
@@ -42,11 +42,7 @@ pub fn finish(
     work_ones: &mut [u64],
     work_twos: &mut [u64],
 ) -> Outcome
-    requires { ⌜ sizesFit z ≡ true ⌝ }
-    requires { ⌜ Ready z (given (planes (now «hu_ones») (now «hu_twos») (now «hv_ones») (now «hv_twos») (now «b_ones») (now «b_twos») (now «c_ones») (now «c_twos»))
-        (now p) (now «y_ones») (now «y_twos») (now «v_order») (now «v_ones») (now «v_twos») (now «u_order») (now «u_ones») (now «u_twos»)) ⌝ }
-    requires { ⌜ (length (now «word_ones») ≡ wordsFor (places z)) × (length (now «word_twos») ≡ wordsFor (places z)) × (length (now «s_ones») ≡ wordsFor (dim z)) × (length (now «s_twos») ≡ wordsFor (dim z))
-        × (length (now «work_ones») ≡ drawWorkWords z) × (length (now «work_twos») ≡ drawWorkWords z) ⌝ }
+    requires { ⌜ ForFinishDraw z (now «hu_ones») (now «hu_twos») (now «hv_ones») (now «hv_twos») (now «b_ones») (now «b_twos») (now «c_ones») (now «c_twos») (now p) (now «y_ones») (now «y_twos») (now «v_order») (now «v_ones») (now «v_twos») (now «u_order») (now «u_ones») (now «u_twos») (now «word_ones») (now «word_twos») (now «s_ones») (now «s_twos») (now «work_ones») (now «work_twos») ⌝ }
     ensures { λ r. ⌜ (let i = (given (planes (now («hu_ones» .entry)) (now («hu_twos» .entry)) (now («hv_ones» .entry)) (now («hv_twos» .entry))
         (now («b_ones» .entry)) (now («b_twos» .entry)) (now («c_ones» .entry)) (now («c_twos» .entry)))
         (now (p .entry)) (now («y_ones» .entry)) (now («y_twos» .entry)) (now («v_order» .entry)) (now («v_ones» .entry)) (now («v_twos» .entry))

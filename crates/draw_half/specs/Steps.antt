@@ -3,11 +3,15 @@ use mathlib.Core.Path.{_≡_}
 use mathlib.Core.Bool.{Bool, true}
 use mathlib.Core.List.{List}
 use mathlib.Core.Logic.{_≢_}
-use Prim.Native.Nat.{ℕ, _+_, _≤_}
-use lib.ListN.{getD, take, drop}
+use Prim.Native.Nat.{ℕ, _+_, _≤_, _-_, _*_, _<_}
+use lib.ListN.{getD, take, drop, length}
 use Rattle.trits.specs.Trit.{t0}
 use Rattle.matrix.specs.Linear.{Vector, Matrix, zeros, times, solve, orZeros, pivots, without, fill}
 use Rattle.scheme.specs.Draw.{forcedBy}
+use Rattle.trits.specs.Planes.{Row}
+use Rattle.trits.specs.Rows.{matrixAt}
+use Rattle.matrix.specs.Orders.{Order}
+use Rattle.grid.specs.Steps.{Rows}
 
 -- 0 from place n on
 pub record Ends (n : ℕ) (v : Vector) : Type 0 where
@@ -37,3 +41,48 @@ pub record Solved (r x e : ℕ) (A B : Matrix) (v : Vector) : Type 0 where
 -- where the answer t is true, the half is solved
 pub record SolvedWhere (t : Bool) (r x e : ℕ) (A B : Matrix) (v : Vector) : Type 0 where
   pub solved : t ≡ true → Solved r x e A B v
+
+-- a grid with H_V above its rows x and e, an order of the places, and the supplied trits
+pub record ForDrawV (ones twos : List ℕ) (rows w r : ℕ) (ho ht order : List ℕ) (g : ℕ) (vo vt : List ℕ) (x e : ℕ) : Type 0 where
+  pub grid : Rows ones twos rows w
+  pub h-grid : Rows ho ht r w
+  pub v-row : Row vo vt
+  pub is-order : Order (length order) order
+  pub small : length ones ≤ 4294967296
+  pub narrow : w ≤ 65536
+  pub places-fit : length order ≤ 64 * w
+  pub front : r + g ≤ length order
+  pub v-room : length order - r ≤ 64 * length vo
+  pub x-past : r ≤ x
+  pub x-in : x < rows
+  pub e-past : r ≤ e
+  pub e-in : e < rows
+  pub apart : x ≢ e
+  pub x-ends : Ends (length order) (matrixAt w ones twos x)
+  pub e-zero : matrixAt w ones twos e ≡ zeros
+
+-- a grid with H_U above its rows x, e and e_V, an order of the places, b, c and the supplied values
+pub record ForDrawU (ones twos : List ℕ) (rows w r : ℕ) (ho ht order : List ℕ) (g : ℕ) (bo bt co ct uo ut : List ℕ) (ev x e : ℕ) : Type 0 where
+  pub grid : Rows ones twos rows w
+  pub h-grid : Rows ho ht r w
+  pub b-row : Row bo bt
+  pub c-row : Row co ct
+  pub u-row : Row uo ut
+  pub is-order : Order (length order) order
+  pub small : length ones ≤ 4294967296
+  pub narrow : w ≤ 65536
+  pub places-fit : length order ≤ 64 * w
+  pub front : r + g ≤ length order
+  pub u-room : length order - r ≤ 64 * length uo
+  pub b-room : length order ≤ 64 * length bo
+  pub c-room : length order ≤ 64 * length co
+  pub x-past : r ≤ x
+  pub x-in : x < rows
+  pub e-past : r ≤ e
+  pub e-in : e < rows
+  pub apart : x ≢ e
+  pub ev-past : r ≤ ev
+  pub ev-in : ev < rows
+  pub ev-apart : ev ≢ e
+  pub x-ends : Ends (length order) (matrixAt w ones twos x)
+  pub e-zero : matrixAt w ones twos e ≡ zeros

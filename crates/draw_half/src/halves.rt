@@ -1,15 +1,13 @@
 // The two halves of a draw, each in rows of a grid: row x is what its matrix is multiplied with, row e becomes the word.
 ghost use mathlib.Core.Path.{_≡_};
-ghost use mathlib.Core.Logic.{_≢_};
-ghost use Prim.Native.Nat.{_+_, _-_, _*_, _<_, _≤_};
+ghost use Prim.Native.Nat.{_+_};
 ghost use lib.Dec.{eqb};
 ghost use lib.ListN.{length, take};
-ghost use Rattle.trits.specs.Planes.{tritAt, Row};
+ghost use Rattle.trits.specs.Planes.{tritAt};
 ghost use Rattle.trits.specs.Rows.{matrixAt};
-ghost use Rattle.matrix.specs.Linear.{zeros, rank};
-ghost use Rattle.matrix.specs.Orders.{Order};
+ghost use Rattle.matrix.specs.Linear.{rank};
 ghost use Rattle.grid.specs.Steps.{Rows};
-ghost use Rattle.draw_half.specs.Steps.{Ends, wordV, wordU, SolvedWhere};
+ghost use Rattle.draw_half.specs.Steps.{wordV, wordU, SolvedWhere, ForDrawV, ForDrawU};
 use draw_walk::walk;
 
 // V: the whole order's places that are no pivot take the trits, and the pivots what the syndrome asks; false where the first part lacks rank.
@@ -28,11 +26,7 @@ pub fn draw_v(
     x: usize,
     e: usize,
 ) -> bool
-    requires { ⌜ Rows (now ones) (now twos) rows w × Rows (now ho) (now ht) r w × Row (now vo) (now vt) ⌝ }
-    requires { ⌜ Order (length (now order)) (now order) ⌝ }
-    requires { ⌜ (length (now ones) ≤ 4294967296) × (w ≤ 65536) × (length (now order) ≤ 64 * w) × (r + g ≤ length (now order)) × (length (now order) - r ≤ 64 * length (now vo)) ⌝ }
-    requires { ⌜ (r ≤ x) × (x < rows) × (r ≤ e) × (e < rows) × (x ≢ e) ⌝ }
-    requires { ⌜ Ends (length (now order)) (matrixAt w (now ones) (now twos) x) × (matrixAt w (now ones) (now twos) e ≡ zeros) ⌝ }
+    requires { ⌜ ForDrawV (now ones) (now twos) rows w r (now ho) (now ht) (now order) g (now vo) (now vt) x e ⌝ }
     ensures { λ t. ⌜ t ≡ eqb (rank r (length (now (order .entry))) (matrixAt w (now (ho .entry)) (now (ht .entry))) (take (r + g) (now (order .entry)))) r ⌝ }
     ensures { λ _. ⌜ Rows (now (ones .exit)) (now (twos .exit)) rows w ⌝ }
     ensures { λ t. ⌜ SolvedWhere t r x e (matrixAt w (now (ones .entry)) (now (twos .entry))) (matrixAt w (now (ones .exit)) (now (twos .exit)))
@@ -70,13 +64,7 @@ pub fn draw_u(
     x: usize,
     e: usize,
 ) -> bool
-    requires { ⌜ Rows (now ones) (now twos) rows w × Rows (now ho) (now ht) r w ⌝ }
-    requires { ⌜ Row (now bo) (now bt) × Row (now co) (now ct) × Row (now uo) (now ut) ⌝ }
-    requires { ⌜ Order (length (now order)) (now order) ⌝ }
-    requires { ⌜ (length (now ones) ≤ 4294967296) × (w ≤ 65536) × (length (now order) ≤ 64 * w) × (r + g ≤ length (now order)) × (length (now order) - r ≤ 64 * length (now uo)) ⌝ }
-    requires { ⌜ (length (now order) ≤ 64 * length (now bo)) × (length (now order) ≤ 64 * length (now co)) ⌝ }
-    requires { ⌜ (r ≤ x) × (x < rows) × (r ≤ e) × (e < rows) × (x ≢ e) × (r ≤ ev) × (ev < rows) × (ev ≢ e) ⌝ }
-    requires { ⌜ Ends (length (now order)) (matrixAt w (now ones) (now twos) x) × (matrixAt w (now ones) (now twos) e ≡ zeros) ⌝ }
+    requires { ⌜ ForDrawU (now ones) (now twos) rows w r (now ho) (now ht) (now order) g (now bo) (now bt) (now co) (now ct) (now uo) (now ut) ev x e ⌝ }
     ensures { λ t. ⌜ t ≡ eqb (rank r (length (now (order .entry))) (matrixAt w (now (ho .entry)) (now (ht .entry))) (take (r + g) (now (order .entry)))) r ⌝ }
     ensures { λ _. ⌜ Rows (now (ones .exit)) (now (twos .exit)) rows w ⌝ }
     ensures { λ t. ⌜ SolvedWhere t r x e (matrixAt w (now (ones .entry)) (now (twos .entry))) (matrixAt w (now (ones .exit)) (now (twos .exit)))

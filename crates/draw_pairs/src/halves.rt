@@ -1,12 +1,9 @@
 // The halves of a word in secret places, one in a row of its own each: parted into x_U and x_V, and joined back.
-ghost use mathlib.Core.Path.{_≡_};
-ghost use mathlib.Core.Logic.{_≢_};
-ghost use Prim.Native.Nat.{_+_, _<_};
-ghost use lib.ListN.{length};
-ghost use Rattle.trits.specs.Planes.{tritAt, Row};
+ghost use Prim.Native.Nat.{_+_};
+ghost use Rattle.trits.specs.Planes.{tritAt};
 ghost use Rattle.trits.specs.Rows.{matrixAt};
-ghost use Rattle.grid.specs.Steps.{Rows, Grid};
-ghost use Rattle.draw_pairs.specs.Steps.{partedRows, joinedRows};
+ghost use Rattle.grid.specs.Steps.{Grid};
+ghost use Rattle.draw_pairs.specs.Steps.{partedRows, joinedRows, ForPartHalves, ForJoinHalves};
 
 // Rows l and l + 1 become x_U and x_V: R - c·L, then L - b·x_V. Row l + 2 is used for the products.
 pub fn part_halves(
@@ -20,9 +17,7 @@ pub fn part_halves(
     co: &[u64],
     ct: &[u64],
 )
-    requires { ⌜ Rows (now ones) (now twos) rows w ⌝ }
-    requires { ⌜ Row (now bo) (now bt) × Row (now co) (now ct) ⌝ }
-    requires { ⌜ (l + 2 < rows) × (length (now bo) ≡ w) × (length (now co) ≡ w) ⌝ }
+    requires { ⌜ ForPartHalves (now ones) (now twos) rows w l (now bo) (now bt) (now co) (now ct) ⌝ }
     ensures { λ _. ⌜ Grid (now (ones .exit)) (now (twos .exit)) rows w
         (partedRows l (tritAt (now (bo .entry)) (now (bt .entry))) (tritAt (now (co .entry)) (now (ct .entry))) (matrixAt w (now (ones .entry)) (now (twos .entry)))) ⌝ }
 {
@@ -46,9 +41,7 @@ pub fn join_halves(
     co: &[u64],
     ct: &[u64],
 )
-    requires { ⌜ Rows (now ones) (now twos) rows w ⌝ }
-    requires { ⌜ Row (now bo) (now bt) × Row (now co) (now ct) ⌝ }
-    requires { ⌜ (u < rows) × (v < rows) × (t < rows) × (u ≢ t) × (v ≢ t) × (length (now bo) ≡ w) × (length (now co) ≡ w) ⌝ }
+    requires { ⌜ ForJoinHalves (now ones) (now twos) rows w u v t (now bo) (now bt) (now co) (now ct) ⌝ }
     ensures { λ _. ⌜ Grid (now (ones .exit)) (now (twos .exit)) rows w
         (joinedRows u v t (tritAt (now (bo .entry)) (now (bt .entry))) (tritAt (now (co .entry)) (now (ct .entry))) (matrixAt w (now (ones .entry)) (now (twos .entry)))) ⌝ }
 {

@@ -1,16 +1,15 @@
 // Secret places in two rows of a grid: those below N in one, those from N on in the other.
 ghost use mathlib.Core.Path.{_≡_};
-ghost use Prim.Native.Nat.{_+_, _*_, _<_, _≤_};
+ghost use Prim.Native.Nat.{_+_, _*_, _<_};
 ghost use lib.ListN.{length};
 ghost use Rattle.trits.specs.Trit.{number, tritOf, upTo};
 ghost use Rattle.trits.specs.Planes.{tritAt, Reads, onesOf, twosOf};
 ghost use Rattle.trits.specs.Rows.{matrixAt};
 ghost use Rattle.matrix.specs.Linear.{zeros};
-ghost use Rattle.matrix.specs.Orders.{Order};
-ghost use Rattle.grid.specs.Steps.{Rows, Grid};
+ghost use Rattle.grid.specs.Steps.{Grid};
 ghost use Rattle.scheme.specs.Secret.{join};
 ghost use Rattle.scheme.specs.Draw.{placed};
-ghost use Rattle.draw_pairs.specs.Steps.{putPlace, placedRows, writtenFrom};
+ghost use Rattle.draw_pairs.specs.Steps.{putPlace, placedRows, writtenFrom, ForPutPlace, ForPlaceSyndrome, ForTritOfPlace, ForPutPlaces, ForWritePlaces};
 
 // The trit t is put at secret place q: in row u below half, in row v from half on.
 pub fn put_place(
@@ -24,8 +23,7 @@ pub fn put_place(
     q: usize,
     t: u8,
 )
-    requires { ⌜ Rows (now ones) (now twos) rows w ⌝ }
-    requires { ⌜ (length (now ones) ≤ 4294967296) × (u < rows) × (v < rows) × (half ≤ 64 * w) × (q < half + half) × (t < 3) ⌝ }
+    requires { ⌜ ForPutPlace (now ones) (now twos) rows w u v half q t ⌝ }
     ensures { λ _. ⌜ Grid (now (ones .exit)) (now (twos .exit)) rows w (putPlace u v half q (tritOf t) (matrixAt w (now (ones .entry)) (now (twos .entry)))) ⌝ }
 {
     if q < half {
@@ -48,11 +46,7 @@ pub fn place_syndrome(
     yo: &[u64],
     yt: &[u64],
 )
-    requires { ⌜ Rows (now ones) (now twos) rows w ⌝ }
-    requires { ⌜ (matrixAt w (now ones) (now twos) l ≡ zeros) × (matrixAt w (now ones) (now twos) (l + 1) ≡ zeros) ⌝ }
-    requires { ⌜ Order (half + half) (now p) ⌝ }
-    requires { ⌜ (length (now ones) ≤ 4294967296) × (l + 1 < rows) × (half ≤ 64 * w) ⌝ }
-    requires { ⌜ (count ≤ half + half) × (count ≤ 64 * length (now yo)) × (length (now yt) ≡ length (now yo)) ⌝ }
+    requires { ⌜ ForPlaceSyndrome (now ones) (now twos) rows w l half (now p) count (now yo) (now yt) ⌝ }
     ensures { λ _. ⌜ Grid (now (ones .exit)) (now (twos .exit)) rows w
         (placedRows l half (placed (now (p .entry)) (join count (tritAt (now (yo .entry)) (now (yt .entry))) zeros)) (matrixAt w (now (ones .entry)) (now (twos .entry)))) ⌝ }
 {
@@ -77,8 +71,7 @@ pub fn trit_of_place(
     half: usize,
     q: usize,
 ) -> u8
-    requires { ⌜ Rows (now ones) (now twos) rows w ⌝ }
-    requires { ⌜ (length (now ones) ≤ 4294967296) × (u < rows) × (v < rows) × (half ≤ 64 * w) × (q < half + half) ⌝ }
+    requires { ⌜ ForTritOfPlace (now ones) (now twos) rows w u v half q ⌝ }
     ensures { λ r. ⌜ r ≡ number (join half (matrixAt w (now (ones .entry)) (now (twos .entry)) u) (matrixAt w (now (ones .entry)) (now (twos .entry)) v) q) ⌝ }
 {
     if q < half {
@@ -103,11 +96,7 @@ pub fn put_places(
     oo: &mut [u64],
     ot: &mut [u64],
 )
-    requires { ⌜ Rows (now ones) (now twos) rows w ⌝ }
-    requires { ⌜ Reads (now oo) (now ot) (length (now oo)) (upTo 0 (writtenFrom half (matrixAt w (now ones) (now twos) u) (matrixAt w (now ones) (now twos) v) (now p) from)) ⌝ }
-    requires { ⌜ Order (half + half) (now p) ⌝ }
-    requires { ⌜ (length (now ones) ≤ 4294967296) × (u < rows) × (v < rows) × (half ≤ 64 * w) ⌝ }
-    requires { ⌜ (from + count ≤ length (now p)) × (count ≤ 64 * length (now oo)) ⌝ }
+    requires { ⌜ ForPutPlaces (now ones) (now twos) rows w u v half (now p) from count (now oo) (now ot) ⌝ }
     ensures { λ _. ⌜ Reads (now (oo .exit)) (now (ot .exit)) (length (now (oo .entry)))
         (upTo count (writtenFrom half (matrixAt w (now (ones .entry)) (now (twos .entry)) u) (matrixAt w (now (ones .entry)) (now (twos .entry)) v) (now (p .entry)) from)) ⌝ }
 {
@@ -135,10 +124,7 @@ pub fn write_places(
     oo: &mut [u64],
     ot: &mut [u64],
 )
-    requires { ⌜ Rows (now ones) (now twos) rows w ⌝ }
-    requires { ⌜ Order (half + half) (now p) ⌝ }
-    requires { ⌜ (length (now ones) ≤ 4294967296) × (u < rows) × (v < rows) × (half ≤ 64 * w) ⌝ }
-    requires { ⌜ (from + count ≤ length (now p)) × (count ≤ 64 * length (now oo)) × (length (now ot) ≡ length (now oo)) ⌝ }
+    requires { ⌜ ForWritePlaces (now ones) (now twos) rows w u v half (now p) from count (now oo) (now ot) ⌝ }
     ensures { λ _. ⌜ now (oo .exit) ≡ onesOf (upTo count (writtenFrom half (matrixAt w (now (ones .entry)) (now (twos .entry)) u) (matrixAt w (now (ones .entry)) (now (twos .entry)) v) (now (p .entry)) from)) (length (now (oo .entry))) ⌝ }
     ensures { λ _. ⌜ now (ot .exit) ≡ twosOf (upTo count (writtenFrom half (matrixAt w (now (ones .entry)) (now (twos .entry)) u) (matrixAt w (now (ones .entry)) (now (twos .entry)) v) (now (p .entry)) from)) (length (now (oo .entry))) ⌝ }
 {

@@ -1,10 +1,14 @@
 -- The walk along an order in a reduced matrix, which finds the pivots again. No rule of the paper: code is tied to it, and its laws to `pivots` and `without`. Assumes nothing.
 use mathlib.Core.Bool.{Bool, _&&_, cond}
 use mathlib.Core.List.{List, [], _∷_}
-use Prim.Native.Nat.{ℕ, suc}
+use Prim.Native.Nat.{ℕ, suc, _*_, _≤_}
 use lib.Dec.{ltb}
 use Rattle.trits.specs.Trit.{isSet}
 use Rattle.matrix.specs.Linear.{Matrix}
+use lib.ListN.{length}
+use Rattle.matrix.specs.Orders.{Order}
+use Rattle.grid.specs.Steps.{Rows}
+use mathlib.Core.Path.{_≡_}
 
 -- the rows below r are those of B, the others those of A
 abbrev pub over : ℕ → Matrix → Matrix → Matrix
@@ -23,3 +27,31 @@ taken r A c (q ∷ qs) = cond (isNext r A c q) (q ∷ taken r A (suc c) qs) (tak
 unfoldable pub passed : ℕ → Matrix → ℕ → List ℕ → List ℕ
 passed r A c [] = []
 passed r A c (q ∷ qs) = cond (isNext r A c q) (passed r A (suc c) qs) (q ∷ passed r A c qs)
+
+-- a grid, an order of its places, and how many of them are tried
+pub record ForEliminateBy (ones twos : List ℕ) (rows w : ℕ) (order : List ℕ) (m : ℕ) : Type 0 where
+  pub grid : Rows ones twos rows w
+  pub is-order : Order (length order) order
+  pub small : length ones ≤ 4294967296
+  pub front : m ≤ length order
+  pub places-fit : length order ≤ 64 * w
+
+-- a matrix, room for its copy, an order of its places, and how many of them are tried
+pub record ForReduceCopied (ones twos : List ℕ) (rows w : ℕ) (ho ht order : List ℕ) (m : ℕ) : Type 0 where
+  pub h-grid : Rows ho ht rows w
+  pub ones-size : length ones ≡ rows * w
+  pub twos-size : length twos ≡ rows * w
+  pub is-order : Order (length order) order
+  pub small : length ones ≤ 4294967296
+  pub front : m ≤ length order
+  pub places-fit : length order ≤ 64 * w
+
+-- a grid, a matrix for its first rows, an order of its places, and how many of them are tried
+pub record ForReduce (ones twos : List ℕ) (rows w r : ℕ) (ho ht order : List ℕ) (m : ℕ) : Type 0 where
+  pub grid : Rows ones twos rows w
+  pub h-grid : Rows ho ht r w
+  pub is-order : Order (length order) order
+  pub small : length ones ≤ 4294967296
+  pub r-in : r ≤ rows
+  pub front : m ≤ length order
+  pub places-fit : length order ≤ 64 * w

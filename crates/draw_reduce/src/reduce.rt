@@ -1,13 +1,11 @@
 // The matrix of one half in the first rows of a grid, reduced along an order.
 ghost use mathlib.Core.Path.{_≡_};
-ghost use Prim.Native.Nat.{_*_, _≤_};
 ghost use lib.ListN.{length, take};
 ghost use Rattle.trits.specs.Rows.{matrixAt};
 ghost use Rattle.matrix.specs.Linear.{rank};
-ghost use Rattle.matrix.specs.Orders.{Order};
 ghost use Rattle.matrix.specs.Steps.{eliminated};
-ghost use Rattle.grid.specs.Steps.{Rows, Grid};
-ghost use Rattle.draw_reduce.specs.Steps.{over};
+ghost use Rattle.grid.specs.Steps.{Grid};
+ghost use Rattle.draw_reduce.specs.Steps.{over, ForEliminateBy, ForReduceCopied, ForReduce};
 
 // The columns at the first m places of an order are tried one after another, and those with a pivot counted.
 pub fn eliminate_by(
@@ -18,9 +16,7 @@ pub fn eliminate_by(
     order: &[u16],
     m: usize,
 ) -> usize
-    requires { ⌜ Rows (now ones) (now twos) rows w ⌝ }
-    requires { ⌜ Order (length (now order)) (now order) ⌝ }
-    requires { ⌜ (length (now ones) ≤ 4294967296) × (m ≤ length (now order)) × (length (now order) ≤ 64 * w) ⌝ }
+    requires { ⌜ ForEliminateBy (now ones) (now twos) rows w (now order) m ⌝ }
     ensures { λ c. ⌜ c ≡ rank rows (length (now (order .entry))) (matrixAt w (now (ones .entry)) (now (twos .entry))) (take m (now (order .entry))) ⌝ }
     ensures { λ _. ⌜ Grid (now (ones .exit)) (now (twos .exit)) rows w
         (eliminated rows (matrixAt w (now (ones .entry)) (now (twos .entry))) (take m (now (order .entry)))) ⌝ }
@@ -46,10 +42,7 @@ pub fn reduce_copied(
     order: &[u16],
     m: usize,
 ) -> usize
-    requires { ⌜ Rows (now ho) (now ht) rows w ⌝ }
-    requires { ⌜ (length (now ones) ≡ rows * w) × (length (now twos) ≡ rows * w) ⌝ }
-    requires { ⌜ Order (length (now order)) (now order) ⌝ }
-    requires { ⌜ (length (now ones) ≤ 4294967296) × (m ≤ length (now order)) × (length (now order) ≤ 64 * w) ⌝ }
+    requires { ⌜ ForReduceCopied (now ones) (now twos) rows w (now ho) (now ht) (now order) m ⌝ }
     ensures { λ c. ⌜ c ≡ rank rows (length (now (order .entry))) (matrixAt w (now (ho .entry)) (now (ht .entry))) (take m (now (order .entry))) ⌝ }
     ensures { λ _. ⌜ Grid (now (ones .exit)) (now (twos .exit)) rows w
         (eliminated rows (matrixAt w (now (ho .entry)) (now (ht .entry))) (take m (now (order .entry)))) ⌝ }
@@ -71,10 +64,7 @@ pub fn reduce(
     order: &[u16],
     m: usize,
 ) -> usize
-    requires { ⌜ Rows (now ones) (now twos) rows w ⌝ }
-    requires { ⌜ Rows (now ho) (now ht) r w ⌝ }
-    requires { ⌜ Order (length (now order)) (now order) ⌝ }
-    requires { ⌜ (length (now ones) ≤ 4294967296) × (r ≤ rows) × (m ≤ length (now order)) × (length (now order) ≤ 64 * w) ⌝ }
+    requires { ⌜ ForReduce (now ones) (now twos) rows w r (now ho) (now ht) (now order) m ⌝ }
     ensures { λ c. ⌜ c ≡ rank r (length (now (order .entry))) (matrixAt w (now (ho .entry)) (now (ht .entry))) (take m (now (order .entry))) ⌝ }
     ensures { λ _. ⌜ Grid (now (ones .exit)) (now (twos .exit)) rows w
         (over r (eliminated r (matrixAt w (now (ho .entry)) (now (ht .entry))) (take m (now (order .entry)))) (matrixAt w (now (ones .entry)) (now (twos .entry)))) ⌝ }

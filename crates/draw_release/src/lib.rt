@@ -1,16 +1,13 @@
 // The release of a drawn word: from rows of a grid to the word and its signature.
 ghost use mathlib.Core.Path.{_≡_};
-ghost use mathlib.Core.Bool.{true};
-ghost use Prim.Native.Nat.{_+_, _≤_};
-ghost use lib.ListN.{length};
+ghost use Prim.Native.Nat.{_+_};
 ghost use Rattle.trits.specs.Trit.{upTo};
 ghost use Rattle.trits.specs.Planes.{wordsFor, onesOf, twosOf};
 ghost use Rattle.trits.specs.Rows.{matrixAt};
-ghost use Rattle.matrix.specs.Orders.{Order};
-ghost use Rattle.grid.specs.Steps.{Rows};
-ghost use Rattle.scheme.specs.Sizes.{sizesFit, half, places, dim, codim};
+ghost use Rattle.scheme.specs.Sizes.{half, places, dim, codim};
 ghost use Rattle.draw_pairs.specs.Steps.{writtenFrom};
 ghost use Rattle.calls.specs.Lent.{halfWords};
+ghost use Rattle.draw_release.specs.Steps.{ForReleaseWord};
 use scheme::sizes;
 use scheme::sizes::Sizes;
 
@@ -26,11 +23,7 @@ pub fn release_word(
     s_ones: &mut [u64],
     s_twos: &mut [u64],
 )
-    requires { ⌜ sizesFit z ≡ true ⌝ }
-    requires { ⌜ Order (places z) (now p) ⌝ }
-    requires { ⌜ l ≤ 8192 ⌝ }
-    requires { ⌜ Rows (now «work_ones») (now «work_twos») (l + 5) (halfWords z) ⌝ }
-    requires { ⌜ (length (now «word_ones») ≡ wordsFor (places z)) × (length (now «word_twos») ≡ wordsFor (places z)) × (length (now «s_ones») ≡ wordsFor (dim z)) × (length (now «s_twos») ≡ wordsFor (dim z)) ⌝ }
+    requires { ⌜ ForReleaseWord z l (now p) (now «work_ones») (now «work_twos») (now «word_ones») (now «word_twos») (now «s_ones») (now «s_twos») ⌝ }
     ensures { λ _. ⌜ (let A = matrixAt (halfWords z) (now («work_ones» .entry)) (now («work_twos» .entry)) in
         let word = writtenFrom (half z) (A (l + 4)) (A (l + 3)) (now (p .entry)) in
         (now («word_ones» .exit) ≡ onesOf (upTo (places z) (word 0)) (wordsFor (places z))) × (now («word_twos» .exit) ≡ twosOf (upTo (places z) (word 0)) (wordsFor (places z)))

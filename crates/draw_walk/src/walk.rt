@@ -1,17 +1,16 @@
 // The walk along an order in a reduced matrix: the places passed over take what is supplied, the pivots their rows' products.
 ghost use mathlib.Core.Path.{_≡_};
-ghost use mathlib.Core.Bool.{true, cond};
-ghost use mathlib.Core.Logic.{_⊎_, _≢_};
-ghost use Prim.Native.Nat.{suc, _+_, _-_, _*_, _<_, _≤_};
-ghost use lib.ListN.{length, getD, take, drop};
+ghost use mathlib.Core.Bool.{cond};
+ghost use Prim.Native.Nat.{suc, _+_, _-_, _*_, _<_};
+ghost use lib.ListN.{getD, take, drop};
 ghost use Rattle.trits.specs.Trit.{number, tritOf, putV, dotV, mulT, subT};
-ghost use Rattle.trits.specs.Planes.{tritAt, Row};
+ghost use Rattle.trits.specs.Planes.{tritAt};
 ghost use Rattle.trits.specs.Rows.{matrixAt};
 ghost use Rattle.matrix.specs.Linear.{times, fill};
-ghost use Rattle.matrix.specs.Orders.{Order};
-ghost use Rattle.grid.specs.Steps.{Rows, Grid, putRow};
+ghost use Rattle.grid.specs.Steps.{Grid, putRow};
 ghost use Rattle.draw_reduce.specs.Steps.{isNext, taken, passed};
 ghost use Rattle.scheme.specs.Draw.{forcedBy};
+ghost use Rattle.draw_walk.specs.Steps.{ForIsNext, ForSupplyPlace, ForSupply, ForForcedTrit, ForForcePlace, ForSupplyForced, ForSolvePlace, ForSolvePivots};
 
 // Whether place q has the next pivot, c of the r rows having theirs.
 pub fn is_next(
@@ -23,8 +22,7 @@ pub fn is_next(
     c: usize,
     q: usize,
 ) -> bool
-    requires { ⌜ Rows (now ones) (now twos) rows w ⌝ }
-    requires { ⌜ (length (now ones) ≤ 4294967296) × (q < 64 * w) × (r ≤ rows) ⌝ }
+    requires { ⌜ ForIsNext (now ones) (now twos) rows w r q ⌝ }
     ensures { λ t. ⌜ t ≡ isNext r (matrixAt w (now (ones .entry)) (now (twos .entry))) c q ⌝ }
 {
     if c >= r {
@@ -47,10 +45,7 @@ pub fn supply_place(
     j: usize,
     e: usize,
 ) -> usize
-    requires { ⌜ Rows (now ones) (now twos) rows w ⌝ }
-    requires { ⌜ Row (now vo) (now vt) ⌝ }
-    requires { ⌜ (length (now ones) ≤ 4294967296) × (q < 64 * w) × (r ≤ rows) × (e < rows) ⌝ }
-    requires { ⌜ (isNext r (matrixAt w (now ones) (now twos)) c q ≡ true) ⊎ (j < 64 * length (now vo)) ⌝ }
+    requires { ⌜ ForSupplyPlace (now ones) (now twos) rows w r c q (now vo) (now vt) j e ⌝ }
     ensures { λ n. ⌜ n ≡ cond (isNext r (matrixAt w (now (ones .entry)) (now (twos .entry))) c q) (suc c) c ⌝ }
     ensures { λ _. ⌜ Grid (now (ones .exit)) (now (twos .exit)) rows w
         (putRow e (cond (isNext r (matrixAt w (now (ones .entry)) (now (twos .entry))) c q) (matrixAt w (now (ones .entry)) (now (twos .entry)) e)
@@ -76,11 +71,7 @@ pub fn supply(
     vt: &[u64],
     e: usize,
 )
-    requires { ⌜ Rows (now ones) (now twos) rows w ⌝ }
-    requires { ⌜ Row (now vo) (now vt) ⌝ }
-    requires { ⌜ Order (length (now order)) (now order) ⌝ }
-    requires { ⌜ (length (now ones) ≤ 4294967296) × (length (now order) ≤ 64 * w) × (m ≤ length (now order)) × (r ≤ e) × (e < rows) ⌝ }
-    requires { ⌜ length (passed r (matrixAt w (now ones) (now twos)) 0 (take m (now order))) ≤ 64 * length (now vo) ⌝ }
+    requires { ⌜ ForSupply (now ones) (now twos) rows w r (now order) m (now vo) (now vt) e ⌝ }
     ensures { λ _. ⌜ Grid (now (ones .exit)) (now (twos .exit)) rows w
         (putRow e (fill (passed r (matrixAt w (now (ones .entry)) (now (twos .entry))) 0 (take m (now (order .entry)))) (tritAt (now (vo .entry)) (now (vt .entry)))
         (matrixAt w (now (ones .entry)) (now (twos .entry)) e)) (matrixAt w (now (ones .entry)) (now (twos .entry)))) ⌝ }
@@ -96,7 +87,7 @@ pub fn supply(
 
 // The trit (c - b)·v.
 pub fn forced_trit(b: u8, c: u8, v: u8) -> u8
-    requires { ⌜ (b < 3) × (c < 3) × (v < 3) ⌝ }
+    requires { ⌜ ForForcedTrit b c v ⌝ }
     ensures { λ t. ⌜ t ≡ number (mulT (subT (tritOf c) (tritOf b)) (tritOf v)) ⌝ }
 {
     (c + 2 * b) * v % 3
@@ -119,9 +110,7 @@ pub fn force_place(
     ev: usize,
     e: usize,
 )
-    requires { ⌜ Rows (now ones) (now twos) rows w ⌝ }
-    requires { ⌜ Row (now bo) (now bt) × Row (now co) (now ct) × Row (now uo) (now ut) ⌝ }
-    requires { ⌜ (length (now ones) ≤ 4294967296) × (q < 64 * w) × (ev < rows) × (e < rows) × (q < 64 * length (now bo)) × (q < 64 * length (now co)) × (j < 64 * length (now uo)) ⌝ }
+    requires { ⌜ ForForcePlace (now ones) (now twos) rows w q (now bo) (now bt) (now co) (now ct) (now uo) (now ut) j ev e ⌝ }
     ensures { λ _. ⌜ Grid (now (ones .exit)) (now (twos .exit)) rows w
         (putRow e (putV (matrixAt w (now (ones .entry)) (now (twos .entry)) e) q
         (forcedBy (tritAt (now (bo .entry)) (now (bt .entry))) (tritAt (now (co .entry)) (now (ct .entry))) (matrixAt w (now (ones .entry)) (now (twos .entry)) ev) q
@@ -156,11 +145,7 @@ pub fn supply_forced(
     ev: usize,
     e: usize,
 )
-    requires { ⌜ Rows (now ones) (now twos) rows w ⌝ }
-    requires { ⌜ Row (now bo) (now bt) × Row (now co) (now ct) × Row (now uo) (now ut) ⌝ }
-    requires { ⌜ Order (length (now order)) (now order) ⌝ }
-    requires { ⌜ (length (now ones) ≤ 4294967296) × (w ≤ 65536) × (length (now order) ≤ 64 * w) × (from ≤ length (now order)) × (ev < rows) × (e < rows) × (ev ≢ e) ⌝ }
-    requires { ⌜ (length (now order) ≤ 64 * length (now bo)) × (length (now order) ≤ 64 * length (now co)) × (g + (length (now order) - from) ≤ 64 * length (now uo)) × (g ≤ from) ⌝ }
+    requires { ⌜ ForSupplyForced (now ones) (now twos) rows w (now order) from (now bo) (now bt) (now co) (now ct) (now uo) (now ut) g ev e ⌝ }
     ensures { λ _. ⌜ Grid (now (ones .exit)) (now (twos .exit)) rows w
         (putRow e (fill (drop from (now (order .entry)))
         (λ j. forcedBy (tritAt (now (bo .entry)) (now (bt .entry))) (tritAt (now (co .entry)) (now (ct .entry))) (matrixAt w (now (ones .entry)) (now (twos .entry)) ev)
@@ -188,8 +173,7 @@ pub fn solve_place(
     x: usize,
     e: usize,
 ) -> usize
-    requires { ⌜ Rows (now ones) (now twos) rows w ⌝ }
-    requires { ⌜ (length (now ones) ≤ 4294967296) × (w ≤ 65536) × (q < 64 * w) × (r ≤ rows) × (x < rows) × (e < rows) ⌝ }
+    requires { ⌜ ForSolvePlace (now ones) (now twos) rows w r q x e ⌝ }
     ensures { λ n. ⌜ n ≡ cond (isNext r (matrixAt w (now (ones .entry)) (now (twos .entry))) c q) (suc c) c ⌝ }
     ensures { λ _. ⌜ Grid (now (ones .exit)) (now (twos .exit)) rows w
         (putRow e (cond (isNext r (matrixAt w (now (ones .entry)) (now (twos .entry))) c q)
@@ -217,10 +201,7 @@ pub fn solve_pivots(
     x: usize,
     e: usize,
 )
-    requires { ⌜ Rows (now ones) (now twos) rows w ⌝ }
-    requires { ⌜ Order (length (now order)) (now order) ⌝ }
-    requires { ⌜ (length (now ones) ≤ 4294967296) × (w ≤ 65536) × (length (now order) ≤ 64 * w) × (m ≤ length (now order)) ⌝ }
-    requires { ⌜ (r ≤ e) × (e < rows) × (x < rows) × (x ≢ e) ⌝ }
+    requires { ⌜ ForSolvePivots (now ones) (now twos) rows w r (now order) m x e ⌝ }
     ensures { λ _. ⌜ Grid (now (ones .exit)) (now (twos .exit)) rows w
         (putRow e (fill (taken r (matrixAt w (now (ones .entry)) (now (twos .entry))) 0 (take m (now (order .entry))))
         (times (64 * w) (matrixAt w (now (ones .entry)) (now (twos .entry))) (matrixAt w (now (ones .entry)) (now (twos .entry)) x))

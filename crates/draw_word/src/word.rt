@@ -1,20 +1,14 @@
 // The word of a draw, made in the working space: the matrix below row l, then x_U, x_V, a row for products, e_V, e_U.
 ghost use mathlib.Core.Path.{_≡_};
-ghost use mathlib.Core.Bool.{true};
-ghost use Prim.Native.Nat.{_+_, _*_, _≤_};
-ghost use lib.ListN.{length};
+ghost use Prim.Native.Nat.{_+_, _*_};
 ghost use Rattle.trits.specs.Trit.{weightV};
-ghost use Rattle.trits.specs.Planes.{Row, tritAt, wordsFor};
+ghost use Rattle.trits.specs.Planes.{tritAt};
 ghost use Rattle.trits.specs.Rows.{matrixAt};
 ghost use Rattle.trits.specs.Refusal.{codeOf};
-ghost use Rattle.matrix.specs.Linear.{zeros};
-ghost use Rattle.matrix.specs.Orders.{Order};
 ghost use Rattle.grid.specs.Steps.{Rows};
-ghost use Rattle.scheme.specs.Sizes.{sizesFit, half, places, ru, rv, codim};
-ghost use Rattle.draw_half.specs.Steps.{Ends};
-ghost use Rattle.calls.specs.Lent.{planes, halfWords, secretOf, Readable};
-ghost use Rattle.draw_tests.specs.Steps.{given, ending, Ready};
-ghost use Rattle.draw_word.specs.Steps.{pairsOf, choices, startWord, Parted, SolvedWhere, Joined, MadeWhere};
+ghost use Rattle.calls.specs.Lent.{planes, halfWords, secretOf};
+ghost use Rattle.draw_tests.specs.Steps.{given, ending};
+ghost use Rattle.draw_word.specs.Steps.{pairsOf, choices, startWord, Parted, SolvedWhere, Joined, MadeWhere, ForPartWord, ForSolveHalves, ForJoinWord, ForMakeWord};
 use scheme::sizes;
 use scheme::sizes::Sizes;
 use trits::refusal::Outcome;
@@ -35,12 +29,7 @@ pub fn part_word(
     work_ones: &mut [u64],
     work_twos: &mut [u64],
 )
-    requires { ⌜ sizesFit z ≡ true ⌝ }
-    requires { ⌜ Row (now «b_ones») (now «b_twos») × Row (now «c_ones») (now «c_twos») ⌝ }
-    requires { ⌜ (length (now «b_ones») ≡ halfWords z) × (length (now «c_ones») ≡ halfWords z) ⌝ }
-    requires { ⌜ Order (places z) (now p) ⌝ }
-    requires { ⌜ (length (now «y_ones») ≡ wordsFor (codim z)) × (length (now «y_twos») ≡ length (now «y_ones»)) ⌝ }
-    requires { ⌜ (l ≤ 8192) × (length (now «work_ones») ≡ (l + 5) * halfWords z) × (length (now «work_twos») ≡ (l + 5) * halfWords z) ⌝ }
+    requires { ⌜ ForPartWord z l (now «b_ones») (now «b_twos») (now «c_ones») (now «c_twos») (now p) (now «y_ones») (now «y_twos») (now «work_ones») (now «work_twos») ⌝ }
     ensures { λ _. ⌜ Rows (now («work_ones» .exit)) (now («work_twos» .exit)) (l + 5) (halfWords z) ⌝ }
     ensures { λ _. ⌜ Parted z l (pairsOf (now («b_ones» .entry)) (now («b_twos» .entry)) (now («c_ones» .entry)) (now («c_twos» .entry)))
         (startWord z (now (p .entry)) (tritAt (now («y_ones» .entry)) (now («y_twos» .entry)))) (matrixAt (halfWords z) (now («work_ones» .exit)) (now («work_twos» .exit))) ⌝ }
@@ -95,14 +84,7 @@ pub fn solve_halves(
     work_ones: &mut [u64],
     work_twos: &mut [u64],
 ) -> Outcome
-    requires { ⌜ sizesFit z ≡ true ⌝ }
-    requires { ⌜ Readable z (planes (now «hu_ones») (now «hu_twos») (now «hv_ones») (now «hv_twos») (now «b_ones») (now «b_twos») (now «c_ones») (now «c_twos»)) ⌝ }
-    requires { ⌜ Order (half z) (now «v_order») × Order (half z) (now «u_order») × Row (now «v_ones») (now «v_twos») × Row (now «u_ones») (now «u_twos») ⌝ }
-    requires { ⌜ (length (now «v_ones») ≡ wordsFor (z .kv)) × (length (now «u_ones») ≡ wordsFor (z .ku)) ⌝ }
-    requires { ⌜ (ru z ≤ l) × (rv z ≤ l) × (l ≤ 8192) ⌝ }
-    requires { ⌜ Rows (now «work_ones») (now «work_twos») (l + 5) (halfWords z) ⌝ }
-    requires { ⌜ (let A = matrixAt (halfWords z) (now «work_ones») (now «work_twos») in
-        Ends (half z) (A l) × Ends (half z) (A (l + 1)) × (A (l + 3) ≡ zeros) × (A (l + 4) ≡ zeros)) ⌝ }
+    requires { ⌜ ForSolveHalves z l (now «hu_ones») (now «hu_twos») (now «hv_ones») (now «hv_twos») (now «b_ones») (now «b_twos») (now «c_ones») (now «c_twos») (now «v_order») (now «v_ones») (now «v_twos») (now «u_order») (now «u_ones») (now «u_twos») (now «work_ones») (now «work_twos») ⌝ }
     ensures { λ r. ⌜ (let s = secretOf z (planes (now («hu_ones» .entry)) (now («hu_twos» .entry)) (now («hv_ones» .entry)) (now («hv_twos» .entry))
         (now («b_ones» .entry)) (now («b_twos» .entry)) (now («c_ones» .entry)) (now («c_twos» .entry))) in
         let ch = choices (now («v_order» .entry)) (now («v_ones» .entry)) (now («v_twos» .entry)) (now («u_order» .entry)) (now («u_ones» .entry)) (now («u_twos» .entry)) in
@@ -169,11 +151,7 @@ pub fn join_word(
     work_ones: &mut [u64],
     work_twos: &mut [u64],
 ) -> u64
-    requires { ⌜ sizesFit z ≡ true ⌝ }
-    requires { ⌜ Row (now «b_ones») (now «b_twos») × Row (now «c_ones») (now «c_twos») ⌝ }
-    requires { ⌜ (length (now «b_ones») ≡ halfWords z) × (length (now «c_ones») ≡ halfWords z) ⌝ }
-    requires { ⌜ l ≤ 8192 ⌝ }
-    requires { ⌜ Rows (now «work_ones») (now «work_twos») (l + 5) (halfWords z) ⌝ }
+    requires { ⌜ ForJoinWord z l (now «b_ones») (now «b_twos») (now «c_ones») (now «c_twos») (now «work_ones») (now «work_twos») ⌝ }
     ensures { λ r. ⌜ (let A = matrixAt (halfWords z) (now («work_ones» .entry)) (now («work_twos» .entry)) in
         let B = matrixAt (halfWords z) (now («work_ones» .exit)) (now («work_twos» .exit)) in
         Rows (now («work_ones» .exit)) (now («work_twos» .exit)) (l + 5) (halfWords z)
@@ -224,10 +202,7 @@ pub fn make_word(
     work_ones: &mut [u64],
     work_twos: &mut [u64],
 ) -> Outcome
-    requires { ⌜ sizesFit z ≡ true ⌝ }
-    requires { ⌜ Ready z (given (planes (now «hu_ones») (now «hu_twos») (now «hv_ones») (now «hv_twos») (now «b_ones») (now «b_twos») (now «c_ones») (now «c_twos»))
-        (now p) (now «y_ones») (now «y_twos») (now «v_order») (now «v_ones») (now «v_twos») (now «u_order») (now «u_ones») (now «u_twos»)) ⌝ }
-    requires { ⌜ (ru z ≤ l) × (rv z ≤ l) × (l ≤ 8192) × (length (now «work_ones») ≡ (l + 5) * halfWords z) × (length (now «work_twos») ≡ (l + 5) * halfWords z) ⌝ }
+    requires { ⌜ ForMakeWord z l (now «hu_ones») (now «hu_twos») (now «hv_ones») (now «hv_twos») (now «b_ones») (now «b_twos») (now «c_ones») (now «c_twos») (now p) (now «y_ones») (now «y_twos») (now «v_order») (now «v_ones») (now «v_twos») (now «u_order») (now «u_ones») (now «u_twos») (now «work_ones») (now «work_twos») ⌝ }
     ensures { λ r. ⌜ (let i = given (planes (now («hu_ones» .entry)) (now («hu_twos» .entry)) (now («hv_ones» .entry)) (now («hv_twos» .entry))
         (now («b_ones» .entry)) (now («b_twos» .entry)) (now («c_ones» .entry)) (now («c_twos» .entry)))
         (now (p .entry)) (now («y_ones» .entry)) (now («y_twos» .entry)) (now («v_order» .entry)) (now («v_ones» .entry)) (now («v_twos» .entry))

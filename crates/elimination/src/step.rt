@@ -1,20 +1,17 @@
 // One column of an elimination.
 ghost use mathlib.Core.Path.{_≡_};
 ghost use mathlib.Core.Bool.{true};
-ghost use mathlib.Core.Logic.{_⊎_, _≢_};
-ghost use Prim.Native.Nat.{_*_, _<_, _≤_};
-ghost use lib.ListN.{length};
-ghost use Rattle.trits.specs.Trit.{isSet};
+ghost use Prim.Native.Nat.{_*_, _<_};
 ghost use Rattle.trits.specs.Rows.{matrixAt};
 ghost use Rattle.matrix.specs.Steps.{pivotRow, hasPivot, stepOf, scaleRow, takeOut};
-ghost use Rattle.grid.specs.Steps.{Rows, Grid, clearRow, takenOut};
+ghost use Rattle.grid.specs.Steps.{Grid, clearRow, takenOut};
+ghost use Rattle.elimination.specs.Steps.{ForStep, ForClearColumn, ForScaleRow, ForClearRow, ForClearRows};
 use grid::one_row;
 use grid::two_rows;
 
 // The first row from `at` on whose trit at column c is not 0; `rows` where there is none.
 pub fn find_pivot(ones: &[u64], twos: &[u64], rows: usize, w: usize, c: usize, at: usize) -> usize
-    requires { ⌜ Rows (now ones) (now twos) rows w ⌝ }
-    requires { ⌜ (length (now ones) ≤ 4294967296) × (c < 64 * w) × (at ≤ rows) ⌝ }
+    requires { ⌜ ForStep (now ones) (now twos) rows w c at ⌝ }
     ensures { λ r. ⌜ r ≡ pivotRow rows (matrixAt w (now (ones .entry)) (now (twos .entry))) c at ⌝ }
 {
     let mut i = at;
@@ -29,9 +26,7 @@ pub fn find_pivot(ones: &[u64], twos: &[u64], rows: usize, w: usize, c: usize, a
 
 // The trit of row `at` at column c, which is not 0, is made 1: the row is negated where it is 2.
 pub fn scale_row(ones: &mut [u64], twos: &mut [u64], rows: usize, w: usize, c: usize, at: usize)
-    requires { ⌜ Rows (now ones) (now twos) rows w ⌝ }
-    requires { ⌜ (length (now ones) ≤ 4294967296) × (c < 64 * w) × (at < rows) ⌝ }
-    requires { ⌜ isSet (matrixAt w (now ones) (now twos) at c) ≡ true ⌝ }
+    requires { ⌜ ForScaleRow (now ones) (now twos) rows w c at ⌝ }
     ensures { λ _. ⌜ Grid (now (ones .exit)) (now (twos .exit)) rows w
         (scaleRow at (matrixAt w (now (ones .entry)) (now (twos .entry)) at c) (matrixAt w (now (ones .entry)) (now (twos .entry)))) ⌝ }
 {
@@ -50,8 +45,7 @@ pub fn clear_row(
     at: usize,
     i: usize,
 )
-    requires { ⌜ Rows (now ones) (now twos) rows w ⌝ }
-    requires { ⌜ (length (now ones) ≤ 4294967296) × (c < 64 * w) × (at < rows) × (i < rows) × (i ≢ at) ⌝ }
+    requires { ⌜ ForClearRow (now ones) (now twos) rows w c at i ⌝ }
     ensures { λ _. ⌜ Grid (now (ones .exit)) (now (twos .exit)) rows w (clearRow i at c (matrixAt w (now (ones .entry)) (now (twos .entry)))) ⌝ }
 {
     let t = planes::places::trit_at(ones, twos, 64 * (i * w) + c);
@@ -73,9 +67,7 @@ pub fn clear_rows(
     from: usize,
     to: usize,
 )
-    requires { ⌜ Rows (now ones) (now twos) rows w ⌝ }
-    requires { ⌜ (length (now ones) ≤ 4294967296) × (c < 64 * w) × (at < rows) × (from ≤ to) × (to ≤ rows) ⌝ }
-    requires { ⌜ (to ≤ at) ⊎ (at < from) ⌝ }
+    requires { ⌜ ForClearRows (now ones) (now twos) rows w c at from to ⌝ }
     ensures { λ _. ⌜ Grid (now (ones .exit)) (now (twos .exit)) rows w (takenOut from to at c (matrixAt w (now (ones .entry)) (now (twos .entry)))) ⌝ }
 {
     let mut i = from;
@@ -87,8 +79,7 @@ pub fn clear_rows(
 
 // The pivot's row `at`, whose trit at column c is 1, is taken from every other row so often that it has 0 there: the rows before it, then those after it.
 pub fn clear_column(ones: &mut [u64], twos: &mut [u64], rows: usize, w: usize, c: usize, at: usize)
-    requires { ⌜ Rows (now ones) (now twos) rows w ⌝ }
-    requires { ⌜ (length (now ones) ≤ 4294967296) × (c < 64 * w) × (at < rows) ⌝ }
+    requires { ⌜ ForClearColumn (now ones) (now twos) rows w c at ⌝ }
     ensures { λ _. ⌜ Grid (now (ones .exit)) (now (twos .exit)) rows w (takeOut at c (matrixAt w (now (ones .entry)) (now (twos .entry)))) ⌝ }
 {
     clear_rows(ones, twos, rows, w, c, at, 0, at);
@@ -97,8 +88,7 @@ pub fn clear_column(ones: &mut [u64], twos: &mut [u64], rows: usize, w: usize, c
 
 // One column: where a row from `at` on has a trit there that is not 0, it comes to `at`, and the column is cleared in every other row.
 pub fn step(ones: &mut [u64], twos: &mut [u64], rows: usize, w: usize, c: usize, at: usize) -> bool
-    requires { ⌜ Rows (now ones) (now twos) rows w ⌝ }
-    requires { ⌜ (length (now ones) ≤ 4294967296) × (c < 64 * w) × (at ≤ rows) ⌝ }
+    requires { ⌜ ForStep (now ones) (now twos) rows w c at ⌝ }
     ensures { λ r. ⌜ r ≡ hasPivot rows at c (matrixAt w (now (ones .entry)) (now (twos .entry))) ⌝ }
     ensures { λ _. ⌜ Grid (now (ones .exit)) (now (twos .exit)) rows w (stepOf rows at c (matrixAt w (now (ones .entry)) (now (twos .entry)))) ⌝ }
 {

@@ -2,7 +2,7 @@
 use mathlib.Core.Path.{_≡_}
 use mathlib.Core.Bool.{_&&_, cond}
 use mathlib.Core.List.{List}
-use Prim.Native.Nat.{ℕ, _+_, _*_, _<_}
+use Prim.Native.Nat.{ℕ, _+_, _*_, _<_, _≤_}
 use lib.Dec.{eqb, leb, ltb}
 use lib.ListN.{length, getD}
 use Rattle.trits.specs.Trit.{Trit, subT, mulT, zipV}
@@ -10,6 +10,7 @@ use Rattle.trits.specs.Planes.{Row}
 use Rattle.trits.specs.Rows.{matrixAt}
 use Rattle.matrix.specs.Linear.{Vector, Matrix}
 use Rattle.matrix.specs.Steps.{takeOut}
+use mathlib.Core.Logic.{_≢_}
 
 -- planes of r rows of w words that can be read
 pub record Rows (ones twos : List ℕ) (r w : ℕ) : Type 0 where
@@ -49,3 +50,88 @@ clearRow i j q A k t = cond (eqb k i) (subT (A k t) (mulT (A k q) (A j t))) (A k
 -- and so from each of the rows a, a + 1, .. b - 1, but for row j itself
 abbrev pub takenOut : ℕ → ℕ → ℕ → ℕ → Matrix → Matrix
 takenOut a b j q A k t = cond (leb a k && ltb k b) (takeOut j q A k t) (A k t)
+
+-- a grid, one of its rows, and the row to put there
+pub record ForPutCopy (ones twos : List ℕ) (rows w j : ℕ) (ho ht : List ℕ) : Type 0 where
+  pub grid : Rows ones twos rows w
+  pub source : Row ho ht
+  pub j-in : j < rows
+  pub size : length ho ≡ w
+
+-- a grid, a row and a place of it, and a trit
+pub record ForPutAt (ones twos : List ℕ) (rows w i q t : ℕ) : Type 0 where
+  pub grid : Rows ones twos rows w
+  pub small : length ones ≤ 4294967296
+  pub i-in : i < rows
+  pub place : q < 64 * w
+  pub trit : t < 3
+
+-- a grid, a row and a place of it, and a place of the row that the trit comes from
+pub record ForPutFrom (ones twos : List ℕ) (rows w e q : ℕ) (vo vt : List ℕ) (j : ℕ) : Type 0 where
+  pub grid : Rows ones twos rows w
+  pub source : Row vo vt
+  pub small : length ones ≤ 4294967296
+  pub place : q < 64 * w
+  pub e-in : e < rows
+  pub source-place : j < 64 * length vo
+
+-- a grid, one of its rows, and a row of the same size
+pub record ForMulBy (ones twos : List ℕ) (rows w i : ℕ) (so st : List ℕ) : Type 0 where
+  pub grid : Rows ones twos rows w
+  pub source : Row so st
+  pub i-in : i < rows
+  pub size : length so ≡ w
+
+-- a grid, two of its rows, and a row of the same size
+pub record ForPutProduct (ones twos : List ℕ) (rows w t i : ℕ) (so st : List ℕ) : Type 0 where
+  pub grid : Rows ones twos rows w
+  pub source : Row so st
+  pub t-in : t < rows
+  pub i-in : i < rows
+  pub apart : t ≢ i
+  pub size : length so ≡ w
+
+-- a grid, three of its rows, and a row of the same size
+pub record ForAddProduct (ones twos : List ℕ) (rows w a i t : ℕ) (so st : List ℕ) : Type 0 where
+  pub grid : Rows ones twos rows w
+  pub source : Row so st
+  pub a-in : a < rows
+  pub i-in : i < rows
+  pub t-in : t < rows
+  pub apart : t ≢ i
+  pub a-apart : a ≢ t
+  pub size : length so ≡ w
+
+-- one plane of a grid, and two rows
+pub record ForSwapPlane (plane : List ℕ) (rows w a b : ℕ) : Type 0 where
+  pub size : length plane ≡ rows * w
+  pub a-in : a < rows
+  pub b-in : b < rows
+
+-- a grid, and two of its rows
+pub record ForSwapRows (ones twos : List ℕ) (rows w a b : ℕ) : Type 0 where
+  pub grid : Rows ones twos rows w
+  pub a-in : a < rows
+  pub b-in : b < rows
+
+-- a grid that is not too wide, and two of its rows
+pub record ForRowDot (ones twos : List ℕ) (rows w i j : ℕ) : Type 0 where
+  pub grid : Rows ones twos rows w
+  pub narrow : w ≤ 65536
+  pub i-in : i < rows
+  pub j-in : j < rows
+
+-- a grid that is not too large to count in, and one of its rows
+pub record ForRowWeight (ones twos : List ℕ) (rows w i : ℕ) : Type 0 where
+  pub grid : Rows ones twos rows w
+  pub few : rows ≤ 65536
+  pub narrow : w ≤ 65536
+  pub i-in : i < rows
+
+-- a grid that is not too large to count in, and two of its rows
+pub record ForPairWeight (ones twos : List ℕ) (rows w u v : ℕ) : Type 0 where
+  pub grid : Rows ones twos rows w
+  pub few : rows ≤ 65536
+  pub narrow : w ≤ 65536
+  pub u-in : u < rows
+  pub v-in : v < rows

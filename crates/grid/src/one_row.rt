@@ -1,13 +1,11 @@
 // One row of a matrix: made 0, made a copy of a lent row, negated.
-ghost use mathlib.Core.Path.{_≡_};
 ghost use Prim.Native.Nat.{_<_};
-ghost use lib.ListN.{length};
 ghost use Rattle.trits.specs.Trit.{t2};
-ghost use Rattle.trits.specs.Planes.{tritAt, Row};
+ghost use Rattle.trits.specs.Planes.{tritAt};
 ghost use Rattle.trits.specs.Rows.{matrixAt};
 ghost use Rattle.matrix.specs.Linear.{zeros};
 ghost use Rattle.matrix.specs.Steps.{scaleRow};
-ghost use Rattle.grid.specs.Steps.{Rows, Grid, putRow};
+ghost use Rattle.grid.specs.Steps.{Rows, Grid, putRow, ForPutCopy};
 
 // Row i becomes 0.
 pub fn zero_row(ones: &mut [u64], twos: &mut [u64], rows: usize, w: usize, i: usize)
@@ -31,9 +29,7 @@ pub fn put_copy(
     ho: &[u64],
     ht: &[u64],
 )
-    requires { ⌜ Rows (now ones) (now twos) rows w ⌝ }
-    requires { ⌜ Row (now ho) (now ht) ⌝ }
-    requires { ⌜ (j < rows) × (length (now ho) ≡ w) ⌝ }
+    requires { ⌜ ForPutCopy (now ones) (now twos) rows w j (now ho) (now ht) ⌝ }
     ensures { λ _. ⌜ Grid (now (ones .exit)) (now (twos .exit)) rows w (putRow j (tritAt (now (ho .entry)) (now (ht .entry))) (matrixAt w (now (ones .entry)) (now (twos .entry)))) ⌝ }
 {
     let a = j * w;

@@ -1,12 +1,8 @@
 // A row of a grid times a lent row, place by place.
-ghost use mathlib.Core.Path.{_≡_};
-ghost use mathlib.Core.Logic.{_≢_};
-ghost use Prim.Native.Nat.{_<_};
-ghost use lib.ListN.{length};
 ghost use Rattle.trits.specs.Trit.{addT, subT, mulT, zipV};
-ghost use Rattle.trits.specs.Planes.{tritAt, Row};
+ghost use Rattle.trits.specs.Planes.{tritAt};
 ghost use Rattle.trits.specs.Rows.{matrixAt};
-ghost use Rattle.grid.specs.Steps.{Rows, Grid, putRow, joinProduct};
+ghost use Rattle.grid.specs.Steps.{Grid, putRow, joinProduct, ForMulBy, ForPutProduct, ForAddProduct};
 use super::one_row;
 use super::two_rows;
 
@@ -20,9 +16,7 @@ pub fn mul_by(
     so: &[u64],
     st: &[u64],
 )
-    requires { ⌜ Rows (now ones) (now twos) rows w ⌝ }
-    requires { ⌜ Row (now so) (now st) ⌝ }
-    requires { ⌜ (i < rows) × (length (now so) ≡ w) ⌝ }
+    requires { ⌜ ForMulBy (now ones) (now twos) rows w i (now so) (now st) ⌝ }
     ensures { λ _. ⌜ Grid (now (ones .exit)) (now (twos .exit)) rows w
         (putRow i (zipV mulT (matrixAt w (now (ones .entry)) (now (twos .entry)) i) (tritAt (now (so .entry)) (now (st .entry)))) (matrixAt w (now (ones .entry)) (now (twos .entry)))) ⌝ }
 {
@@ -42,9 +36,7 @@ pub fn put_product(
     so: &[u64],
     st: &[u64],
 )
-    requires { ⌜ Rows (now ones) (now twos) rows w ⌝ }
-    requires { ⌜ Row (now so) (now st) ⌝ }
-    requires { ⌜ (t < rows) × (i < rows) × (t ≢ i) × (length (now so) ≡ w) ⌝ }
+    requires { ⌜ ForPutProduct (now ones) (now twos) rows w t i (now so) (now st) ⌝ }
     ensures { λ _. ⌜ Grid (now (ones .exit)) (now (twos .exit)) rows w
         (putRow t (zipV mulT (matrixAt w (now (ones .entry)) (now (twos .entry)) i) (tritAt (now (so .entry)) (now (st .entry)))) (matrixAt w (now (ones .entry)) (now (twos .entry)))) ⌝ }
 {
@@ -65,9 +57,7 @@ pub fn add_product(
     so: &[u64],
     st: &[u64],
 )
-    requires { ⌜ Rows (now ones) (now twos) rows w ⌝ }
-    requires { ⌜ Row (now so) (now st) ⌝ }
-    requires { ⌜ (a < rows) × (i < rows) × (t < rows) × (t ≢ i) × (a ≢ t) × (length (now so) ≡ w) ⌝ }
+    requires { ⌜ ForAddProduct (now ones) (now twos) rows w a i t (now so) (now st) ⌝ }
     ensures { λ _. ⌜ Grid (now (ones .exit)) (now (twos .exit)) rows w
         (joinProduct addT a i t (tritAt (now (so .entry)) (now (st .entry))) (matrixAt w (now (ones .entry)) (now (twos .entry)))) ⌝ }
 {
@@ -87,9 +77,7 @@ pub fn sub_product(
     so: &[u64],
     st: &[u64],
 )
-    requires { ⌜ Rows (now ones) (now twos) rows w ⌝ }
-    requires { ⌜ Row (now so) (now st) ⌝ }
-    requires { ⌜ (a < rows) × (i < rows) × (t < rows) × (t ≢ i) × (a ≢ t) × (length (now so) ≡ w) ⌝ }
+    requires { ⌜ ForAddProduct (now ones) (now twos) rows w a i t (now so) (now st) ⌝ }
     ensures { λ _. ⌜ Grid (now (ones .exit)) (now (twos .exit)) rows w
         (joinProduct subT a i t (tritAt (now (so .entry)) (now (st .entry))) (matrixAt w (now (ones .entry)) (now (twos .entry)))) ⌝ }
 {

@@ -1,17 +1,15 @@
 // Two rows of one matrix: exchanged, added, subtracted, and their dot product.
 ghost use mathlib.Core.Path.{_≡_};
 ghost use mathlib.Core.Logic.{_≢_};
-ghost use Prim.Native.Nat.{_*_, _<_, _≤_};
-ghost use lib.ListN.{length};
+ghost use Prim.Native.Nat.{_*_, _<_};
 ghost use Rattle.trits.specs.Trit.{addT, subT, number, dotV};
 ghost use Rattle.trits.specs.Rows.{matrixAt};
 ghost use Rattle.matrix.specs.Steps.{swapRows};
-ghost use Rattle.grid.specs.Steps.{Rows, Grid, Swapped, joinRow};
+ghost use Rattle.grid.specs.Steps.{Rows, Grid, Swapped, joinRow, ForSwapPlane, ForSwapRows, ForRowDot};
 
 // Rows a and b of one plane change places.
 pub fn swap_plane(plane: &mut [u64], rows: usize, w: usize, a: usize, b: usize)
-    requires { ⌜ length (now plane) ≡ rows * w ⌝ }
-    requires { ⌜ (a < rows) × (b < rows) ⌝ }
+    requires { ⌜ ForSwapPlane (now plane) rows w a b ⌝ }
     ensures { λ _. ⌜ Swapped a b w (now (plane .entry)) (now (plane .exit)) ⌝ }
 {
     let at = a * w;
@@ -30,8 +28,7 @@ pub fn swap_plane(plane: &mut [u64], rows: usize, w: usize, a: usize, b: usize)
 
 // Rows a and b change places.
 pub fn swap_rows(ones: &mut [u64], twos: &mut [u64], rows: usize, w: usize, a: usize, b: usize)
-    requires { ⌜ Rows (now ones) (now twos) rows w ⌝ }
-    requires { ⌜ (a < rows) × (b < rows) ⌝ }
+    requires { ⌜ ForSwapRows (now ones) (now twos) rows w a b ⌝ }
     ensures { λ _. ⌜ Grid (now (ones .exit)) (now (twos .exit)) rows w (swapRows a b (matrixAt w (now (ones .entry)) (now (twos .entry)))) ⌝ }
 {
     swap_plane(ones, rows, w, a, b);
@@ -86,8 +83,7 @@ pub fn sub_rows(ones: &mut [u64], twos: &mut [u64], rows: usize, w: usize, i: us
 
 // The dot product of rows i and j.
 pub fn row_dot(ones: &[u64], twos: &[u64], rows: usize, w: usize, i: usize, j: usize) -> u8
-    requires { ⌜ Rows (now ones) (now twos) rows w ⌝ }
-    requires { ⌜ (w ≤ 65536) × (i < rows) × (j < rows) ⌝ }
+    requires { ⌜ ForRowDot (now ones) (now twos) rows w i j ⌝ }
     ensures { λ t. ⌜ t ≡ number (dotV (matrixAt w (now (ones .entry)) (now (twos .entry)) i) (matrixAt w (now (ones .entry)) (now (twos .entry)) j) (64 * w)) ⌝ }
 {
     let a = i * w;

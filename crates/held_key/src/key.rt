@@ -1,13 +1,12 @@
 // The held key: its rows handed out, and the tests of a row that is offered.
 ghost use mathlib.Core.Path.{_≡_};
 ghost use mathlib.Core.Bool.{true};
-ghost use Prim.Native.Nat.{_≤_};
-ghost use lib.ListN.{length};
 ghost use Rattle.trits.specs.Planes.{wordsFor, Holds};
 ghost use Rattle.trits.specs.Refusal.{codeOf};
-ghost use Rattle.packed.specs.Packed.{bytesFor, packedRow, packedRefusal};
+ghost use Rattle.packed.specs.Packed.{packedRow};
 ghost use Rattle.held_key.specs.Held.{sound, heldRow};
 ghost use Rattle.held_key.specs.Store.{rowRefusal, storeOf, storeRefusal, packedStoreOf, storePackedRefusal, nextHeld};
+ghost use Rattle.held_key.specs.Steps.{ForWritePart};
 use super::state::Held;
 use trits::refusal::Outcome;
 use trits::refusal::Refusal;
@@ -88,8 +87,7 @@ pub fn test_packed_row(held: Held, ones: &[u64], twos: &[u64], row: &[u8]) -> Ou
 
 // The row writer: a packed row that passed its tests fills the parts that it is lent, which begin at its own start.
 pub fn write_part(m: usize, row: &[u8], ones: &mut [u64], twos: &mut [u64])
-    requires { ⌜ (length (now ones) ≡ wordsFor m) × (length (now twos) ≡ wordsFor m) × (length (now row) ≡ bytesFor m) × (m ≤ 16384) ⌝ }
-    requires { ⌜ packedRefusal (now row) ≡ 0 ⌝ }
+    requires { ⌜ ForWritePart m (now row) (now ones) (now twos) ⌝ }
     ensures { λ _. ⌜ Holds (now (ones .exit)) (now (twos .exit)) (wordsFor m) (packedRow m (now (row .entry))) ⌝ }
 {
     packing::write::write_packed(m, row, ones, twos);

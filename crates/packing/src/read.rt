@@ -4,7 +4,8 @@ ghost use Prim.Native.Nat.{_*_, _≤_, _<_};
 ghost use lib.ListN.{length};
 ghost use Rattle.trits.specs.Trit.{number, upTo};
 ghost use Rattle.trits.specs.Planes.{tritAt};
-ghost use Rattle.packed.specs.Packed.{bytesFor, byteOf, packedBytes};
+ghost use Rattle.packed.specs.Packed.{byteOf, packedBytes};
+ghost use Rattle.packing.specs.Steps.{ForReadByte, ForReadBytes};
 
 // The trit at a place of a row of m trits, 0 past them.
 fn trit_below(m: usize, ones: &[u64], twos: &[u64], p: usize) -> u8
@@ -19,7 +20,7 @@ fn trit_below(m: usize, ones: &[u64], twos: &[u64], p: usize) -> u8
 
 // Byte j of a row of m trits.
 fn read_byte(m: usize, ones: &[u64], twos: &[u64], j: usize) -> u8
-    requires { ⌜ (length (now twos) ≡ length (now ones)) × (m ≤ 64 * length (now ones)) × (j < 65536) ⌝ }
+    requires { ⌜ ForReadByte m (now ones) (now twos) j ⌝ }
     ensures { λ r. ⌜ r ≡ byteOf (upTo m (tritAt (now (ones .entry)) (now (twos .entry)))) j ⌝ }
 {
     let p = 5 * j;
@@ -33,7 +34,7 @@ fn read_byte(m: usize, ones: &[u64], twos: &[u64], j: usize) -> u8
 
 // All bytes of a row of m trits.
 pub fn read_bytes(m: usize, ones: &[u64], twos: &[u64], bytes: &mut [u8])
-    requires { ⌜ (length (now twos) ≡ length (now ones)) × (m ≤ 64 * length (now ones)) × (m ≤ 16384) × (length (now bytes) ≡ bytesFor m) ⌝ }
+    requires { ⌜ ForReadBytes m (now ones) (now twos) (now bytes) ⌝ }
     ensures { λ _. ⌜ now (bytes .exit) ≡ packedBytes m (tritAt (now (ones .entry)) (now (twos .entry))) ⌝ }
 {
     let mut j = 0;

@@ -1,7 +1,7 @@
 // The byte table: the five trits of each byte from 0 to 242.
 ghost use mathlib.Core.Path.{_≡_};
-ghost use Prim.Native.Nat.{_<_};
 ghost use Rattle.packed.specs.Packed.{digitOf, byteTable};
+ghost use Rattle.packing.specs.Steps.{ForTrit};
 
 // The table, made once by who reads many trits, and lent to `trit`.
 pub fn byte_table() -> [u8; 1215]
@@ -12,8 +12,7 @@ pub fn byte_table() -> [u8; 1215]
 
 // Trit k of the packed byte b.
 pub fn trit(table: &[u8; 1215], b: u8, k: usize) -> u8
-    requires { ⌜ now table ≡ byteTable ⌝ }
-    requires { ⌜ (b < 243) × (k < 5) ⌝ }
+    requires { ⌜ ForTrit (now table) b k ⌝ }
     ensures { λ r. ⌜ r ≡ digitOf b k ⌝ }
 {
     table[b as usize * 5 + k]

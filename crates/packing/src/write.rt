@@ -1,19 +1,18 @@
 // A row written from bytes, those of 243 or more being skipped.
 ghost use mathlib.Core.Path.{_≡_};
-ghost use Prim.Native.Nat.{_+_, _*_, _≤_, _<_};
+ghost use Prim.Native.Nat.{_+_, _<_};
 ghost use lib.ListN.{length};
-ghost use Rattle.trits.specs.Planes.{tritAt, Row, Reads};
-ghost use Rattle.packed.specs.Packed.{byteTable, packedRefusal, packedRow};
-ghost use Rattle.packed.specs.Stream.{kept, streamRow};
+ghost use Rattle.trits.specs.Planes.{tritAt, Reads};
+ghost use Rattle.packed.specs.Packed.{packedRow};
+ghost use Rattle.packed.specs.Stream.{streamRow};
 ghost use Rattle.packed.specs.Steps.{gives, withByte};
+ghost use Rattle.packing.specs.Steps.{ForPutByte, ForPutNext, ForPutStream, ForWriteStream, ForWritePacked};
 use super::table::byte_table;
 use super::table::trit;
 
 // The first `count` trits of a byte are put at the places from `at` on.
 fn put_byte(table: &[u8; 1215], b: u8, ones: &mut [u64], twos: &mut [u64], at: usize, count: usize)
-    requires { ⌜ now table ≡ byteTable ⌝ }
-    requires { ⌜ Row (now ones) (now twos) ⌝ }
-    requires { ⌜ (b < 243) × (count ≤ 5) × (at + count ≤ 64 * length (now ones)) × (length (now ones) ≤ 65536) ⌝ }
+    requires { ⌜ ForPutByte (now table) b (now ones) (now twos) at count ⌝ }
     ensures { λ _. ⌜ Reads (now (ones .exit)) (now (twos .exit)) (length (now (ones .entry))) (withByte (tritAt (now (ones .entry)) (now (twos .entry))) b at count) ⌝ }
 {
     let mut k = 0;
@@ -32,9 +31,7 @@ fn put_next(
     twos: &mut [u64],
     at: usize,
 ) -> usize
-    requires { ⌜ now table ≡ byteTable ⌝ }
-    requires { ⌜ Row (now ones) (now twos) ⌝ }
-    requires { ⌜ (at ≤ m) × (m ≤ 64 * length (now ones)) × (length (now ones) ≤ 65536) ⌝ }
+    requires { ⌜ ForPutNext (now table) m (now ones) (now twos) at ⌝ }
     ensures { λ r. ⌜ r ≡ at + gives m at b ⌝ }
     ensures { λ _. ⌜ Reads (now (ones .exit)) (now (twos .exit)) (length (now (ones .entry))) (withByte (tritAt (now (ones .entry)) (now (twos .entry))) b at (gives m at b)) ⌝ }
 {
@@ -52,9 +49,7 @@ fn put_next(
 
 // The bytes' trits are written to the first places of planes that are 0.
 fn put_stream(table: &[u8; 1215], m: usize, bytes: &[u8], ones: &mut [u64], twos: &mut [u64])
-    requires { ⌜ now table ≡ byteTable ⌝ }
-    requires { ⌜ Reads (now ones) (now twos) (length (now ones)) (streamRow 0 (now bytes)) ⌝ }
-    requires { ⌜ (m ≤ 5 * length (kept (now bytes))) × (m ≤ 64 * length (now ones)) × (length (now ones) ≤ 65536) ⌝ }
+    requires { ⌜ ForPutStream (now table) m (now bytes) (now ones) (now twos) ⌝ }
     ensures { λ _. ⌜ Reads (now (ones .exit)) (now (twos .exit)) (length (now (ones .entry))) (streamRow m (now (bytes .entry))) ⌝ }
 {
     let mut at = 0;
@@ -67,7 +62,7 @@ fn put_stream(table: &[u8; 1215], m: usize, bytes: &[u8], ones: &mut [u64], twos
 
 // The row of m trits of a stream that has as many; what the planes held before is gone.
 pub fn write_stream(m: usize, bytes: &[u8], ones: &mut [u64], twos: &mut [u64])
-    requires { ⌜ (length (now twos) ≡ length (now ones)) × (m ≤ 5 * length (kept (now bytes))) × (m ≤ 64 * length (now ones)) × (length (now ones) ≤ 65536) ⌝ }
+    requires { ⌜ ForWriteStream m (now bytes) (now ones) (now twos) ⌝ }
     ensures { λ _. ⌜ Reads (now (ones .exit)) (now (twos .exit)) (length (now (ones .entry))) (streamRow m (now (bytes .entry))) ⌝ }
 {
     planes::words::zero_words(ones);
@@ -78,8 +73,7 @@ pub fn write_stream(m: usize, bytes: &[u8], ones: &mut [u64], twos: &mut [u64])
 
 // The row of m trits of packed bytes that passed their test; what the planes held before is gone.
 pub fn write_packed(m: usize, bytes: &[u8], ones: &mut [u64], twos: &mut [u64])
-    requires { ⌜ (length (now twos) ≡ length (now ones)) × (m ≤ 5 * length (now bytes)) × (m ≤ 64 * length (now ones)) × (length (now ones) ≤ 65536) ⌝ }
-    requires { ⌜ packedRefusal (now bytes) ≡ 0 ⌝ }
+    requires { ⌜ ForWritePacked m (now bytes) (now ones) (now twos) ⌝ }
     ensures { λ _. ⌜ Reads (now (ones .exit)) (now (twos .exit)) (length (now (ones .entry))) (packedRow m (now (bytes .entry))) ⌝ }
 {
     write_stream(m, bytes, ones, twos);

@@ -1,10 +1,10 @@
 // The tests of lent planes: a bit in both, a bit past the length.
 ghost use mathlib.Core.Path.{_≡_};
-ghost use Prim.Native.Nat.{_*_, _≤_};
 ghost use lib.ListN.{length};
-ghost use Rattle.trits.specs.Planes.{bothSet, wordsFor};
+ghost use Rattle.trits.specs.Planes.{bothSet};
 ghost use Rattle.trits.specs.Rows.{rowsPastEnd};
 ghost use Rattle.trits.specs.Refusal.{codeOf, planesRefusal};
+ghost use Rattle.planes.specs.Steps.{ForPlanes};
 use trits::refusal::Outcome;
 use trits::refusal::Refusal;
 
@@ -24,7 +24,7 @@ pub fn both_set(ones: &[u64], twos: &[u64]) -> bool
 
 // Whether a bit is set past the length in one of the rows, each of m trits: the last words of all rows are gathered.
 pub fn rows_past_end(ones: &[u64], twos: &[u64], rows: usize, m: usize) -> bool
-    requires { ⌜ (length (now ones) ≡ rows * wordsFor m) × (length (now twos) ≡ rows * wordsFor m) × (m ≤ 16384) ⌝ }
+    requires { ⌜ ForPlanes (now ones) (now twos) rows m ⌝ }
     ensures { λ r. ⌜ r ≡ rowsPastEnd (now (ones .entry)) (now (twos .entry)) rows m ⌝ }
 {
     let used = m % 64;
@@ -45,7 +45,7 @@ pub fn rows_past_end(ones: &[u64], twos: &[u64], rows: usize, m: usize) -> bool
 
 // The contents of one pair of planes: a bit in both, over the whole buffer, before a bit past the length.
 pub fn test_planes(ones: &[u64], twos: &[u64], rows: usize, m: usize) -> Outcome
-    requires { ⌜ (length (now ones) ≡ rows * wordsFor m) × (length (now twos) ≡ rows * wordsFor m) × (m ≤ 16384) ⌝ }
+    requires { ⌜ ForPlanes (now ones) (now twos) rows m ⌝ }
     ensures { λ r. ⌜ codeOf r ≡ planesRefusal (now (ones .entry)) (now (twos .entry)) rows m ⌝ }
 {
     if both_set(ones, twos) {

@@ -4,7 +4,8 @@ ghost use mathlib.Core.Bool.{cond};
 ghost use Prim.Native.Nat.{_*_, _<_};
 ghost use lib.ListN.{length};
 ghost use Rattle.trits.specs.Trit.{number, tritOf, putV};
-ghost use Rattle.trits.specs.Planes.{tritAt, Row, Reads, withBit};
+ghost use Rattle.trits.specs.Planes.{tritAt, Reads, withBit};
+ghost use Rattle.planes.specs.Steps.{ForPutTrit};
 
 // The trit at a place.
 pub fn trit_at(ones: &[u64], twos: &[u64], i: usize) -> u8
@@ -34,9 +35,7 @@ pub fn with_bit(w: u64, b: usize, on: bool) -> u64
 
 // The trit t is put at a place.
 pub fn put_trit(ones: &mut [u64], twos: &mut [u64], i: usize, t: u8)
-    requires { ⌜ Row (now ones) (now twos) ⌝ }
-    requires { ⌜ i < 64 * length (now ones) ⌝ }
-    requires { ⌜ t < 3 ⌝ }
+    requires { ⌜ ForPutTrit (now ones) (now twos) i t ⌝ }
     ensures { λ _. ⌜ Reads (now (ones .exit)) (now (twos .exit)) (length (now (ones .entry))) (putV (tritAt (now (ones .entry)) (now (twos .entry))) i (tritOf t)) ⌝ }
 {
     let j = i / 64;

@@ -4,12 +4,11 @@ ghost use Prim.Native.Nat.{_*_, _≤_};
 ghost use lib.ListN.{length};
 ghost use Rattle.trits.specs.Trit.{addT, subT, mulT, negV, zipV, dotV, weightV, number};
 ghost use Rattle.trits.specs.Planes.{tritAt, Row, Reads};
+ghost use Rattle.rows.specs.Steps.{ForRowPair, ForDot};
 
 // The source is added to the row.
 pub fn add_row(ones: &mut [u64], twos: &mut [u64], src_ones: &[u64], src_twos: &[u64])
-    requires { ⌜ Row (now ones) (now twos) ⌝ }
-    requires { ⌜ Row (now «src_ones») (now «src_twos») ⌝ }
-    requires { ⌜ length (now «src_ones») ≡ length (now ones) ⌝ }
+    requires { ⌜ ForRowPair (now ones) (now twos) (now «src_ones») (now «src_twos») ⌝ }
     ensures { λ _. ⌜ Reads (now (ones .exit)) (now (twos .exit)) (length (now (ones .entry)))
         (zipV addT (tritAt (now (ones .entry)) (now (twos .entry))) (tritAt (now («src_ones» .entry)) (now («src_twos» .entry)))) ⌝ }
 {
@@ -28,9 +27,7 @@ pub fn add_row(ones: &mut [u64], twos: &mut [u64], src_ones: &[u64], src_twos: &
 
 // The source is subtracted from the row: with its planes exchanged it is its negative.
 pub fn sub_row(ones: &mut [u64], twos: &mut [u64], src_ones: &[u64], src_twos: &[u64])
-    requires { ⌜ Row (now ones) (now twos) ⌝ }
-    requires { ⌜ Row (now «src_ones») (now «src_twos») ⌝ }
-    requires { ⌜ length (now «src_ones») ≡ length (now ones) ⌝ }
+    requires { ⌜ ForRowPair (now ones) (now twos) (now «src_ones») (now «src_twos») ⌝ }
     ensures { λ _. ⌜ Reads (now (ones .exit)) (now (twos .exit)) (length (now (ones .entry)))
         (zipV subT (tritAt (now (ones .entry)) (now (twos .entry))) (tritAt (now («src_ones» .entry)) (now («src_twos» .entry)))) ⌝ }
 {
@@ -39,9 +36,7 @@ pub fn sub_row(ones: &mut [u64], twos: &mut [u64], src_ones: &[u64], src_twos: &
 
 // The row is multiplied by the source, place by place.
 pub fn mul_row(ones: &mut [u64], twos: &mut [u64], src_ones: &[u64], src_twos: &[u64])
-    requires { ⌜ Row (now ones) (now twos) ⌝ }
-    requires { ⌜ Row (now «src_ones») (now «src_twos») ⌝ }
-    requires { ⌜ length (now «src_ones») ≡ length (now ones) ⌝ }
+    requires { ⌜ ForRowPair (now ones) (now twos) (now «src_ones») (now «src_twos») ⌝ }
     ensures { λ _. ⌜ Reads (now (ones .exit)) (now (twos .exit)) (length (now (ones .entry)))
         (zipV mulT (tritAt (now (ones .entry)) (now (twos .entry))) (tritAt (now («src_ones» .entry)) (now («src_twos» .entry)))) ⌝ }
 {
@@ -73,10 +68,7 @@ pub fn negate_row(ones: &mut [u64], twos: &mut [u64])
 
 // The sum of the products of two rows' trits, modulo 3, from the counts of the products that are 1 and that are 2.
 pub fn dot(a_ones: &[u64], a_twos: &[u64], b_ones: &[u64], b_twos: &[u64]) -> u8
-    requires { ⌜ Row (now «a_ones») (now «a_twos») ⌝ }
-    requires { ⌜ Row (now «b_ones») (now «b_twos») ⌝ }
-    requires { ⌜ length (now «b_ones») ≡ length (now «a_ones») ⌝ }
-    requires { ⌜ length (now «a_ones») ≤ 65536 ⌝ }
+    requires { ⌜ ForDot (now «a_ones») (now «a_twos») (now «b_ones») (now «b_twos») ⌝ }
     ensures { λ r. ⌜ r ≡ number (dotV (tritAt (now («a_ones» .entry)) (now («a_twos» .entry))) (tritAt (now («b_ones» .entry)) (now («b_twos» .entry)))
         (64 * length (now («a_ones» .entry)))) ⌝ }
 {

@@ -1,4 +1,5 @@
 -- The choices that the program makes up, as its contracts cite them: none of them is the paper's, which leaves all choices to the caller. Assumes nothing.
+pub mod Steps
 use mathlib.Core.Bool.{cond}
 use mathlib.Core.List.{List, [], _∷_, _++_}
 use Prim.Native.Nat.{ℕ, zero, suc, _+_, _-_, _*_, _%_}

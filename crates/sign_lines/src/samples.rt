@@ -4,6 +4,7 @@ ghost use Prim.Native.Nat.{_+_, _*_, _/_, _%_, _<_, _≤_};
 ghost use lib.ListN.{length};
 ghost use Rattle.packed.specs.Calls.{unpackOf, unpackRefusal, unpackOnes, unpackTwos};
 ghost use Rattle.sign_lines.specs.{following, numberAfter, packedAfter, turned, ringOrder};
+ghost use Rattle.sign_lines.specs.Steps.{ForTurn, ForFillOrder};
 
 // The number that follows x in a sequence of numbers below 65,537.
 pub fn next(x: u64) -> u64
@@ -68,7 +69,7 @@ pub fn fill_row(m: usize, x: u64, ones: &mut [u64], twos: &mut [u64]) -> Filled
 
 // The place a further on, of n places in a ring.
 fn turn(q: usize, a: usize, n: usize) -> usize
-    requires { ⌜ (q < n) × (a < n) × (n ≤ 16384) ⌝ }
+    requires { ⌜ ForTurn q a n ⌝ }
     ensures { λ r. ⌜ r ≡ turned n a q ⌝ }
     ensures { λ r. ⌜ r < n ⌝ }
 {
@@ -80,7 +81,7 @@ fn turn(q: usize, a: usize, n: usize) -> usize
 
 // The order whose place j is b + a j in a ring of as many places.
 pub fn fill_order(order: &mut [u16], a: usize, b: usize)
-    requires { ⌜ (length (now order) ≤ 16384) × (a < length (now order)) × (b < length (now order)) ⌝ }
+    requires { ⌜ ForFillOrder (now order) a b ⌝ }
     ensures { λ _. ⌜ now (order .exit) ≡ ringOrder (length (now (order .entry))) a b (length (now (order .entry))) ⌝ }
 {
     let n = order.len();

@@ -2,7 +2,7 @@
 use mathlib.Core.Path.{_≡_}
 use mathlib.Core.Bool.{cond, true}
 use mathlib.Core.List.{List, [], _∷_, _++_}
-use Prim.Native.Nat.{ℕ, suc, _+_, _-_, _≤_, _<_}
+use Prim.Native.Nat.{ℕ, suc, _+_, _-_, _≤_, _<_, _*_}
 use lib.Dec.{eqb, leb}
 use lib.ListN.{length, take, drop}
 use Rattle.text.specs.Fields.{fields}
@@ -13,6 +13,7 @@ use Rattle.text.specs.Forms.{Line, noForm, keyLine, rowLine, signLine, f
 use Rattle.text.specs.declared.forms.Form.{Form}
 use Rattle.text.specs.declared.forms.Form.the-variants.{Neither, Key, Row, Sign}
 use Rattle.text.specs.declared.forms.Ends.{Ends}
+use Rattle.trits.specs.Planes.{zeroWords}
 
 -- how many bytes stand before the first mark
 unfoldable pub before : ℕ → List ℕ → ℕ
@@ -78,3 +79,10 @@ pair key formula = decimal key ++ (9 ∷ decimal formula ++ (9 ∷ []))
 -- the last two fields of an answer to a line that is refused
 unfoldable pub refusedEnd : ℕ → List ℕ
 refusedEnd refusal = dash ++ (9 ∷ refusedWord refusal ++ (10 ∷ []))
+
+-- a field of digits, and a row of zeros with room for them
+pub record ForPutDigits (field ones twos : List ℕ) : Type 0 where
+  pub are-digits : isDigits field ≡ true
+  pub ones-zero : ones ≡ zeroWords (length ones)
+  pub twos-zero : twos ≡ zeroWords (length ones)
+  pub room : length field ≤ 64 * length ones

@@ -1,15 +1,13 @@
 // The planes of a digit field.
-ghost use mathlib.Core.Path.{_≡_};
-ghost use Prim.Native.Nat.{_*_, _≤_, _<_};
-ghost use mathlib.Core.Bool.{true};
+ghost use Prim.Native.Nat.{_<_};
 ghost use lib.ListN.{length};
-ghost use Rattle.trits.specs.Planes.{Reads, zeroWords};
-ghost use Rattle.text.specs.Digits.{isDigits, digitRow};
+ghost use Rattle.trits.specs.Planes.{Reads};
+ghost use Rattle.text.specs.Digits.{digitRow};
+ghost use Rattle.text.specs.Steps.{ForPutDigits};
 
 // The trits of the digits are written to planes that are 0.
 pub fn put_digits(field: &[u8], ones: &mut [u64], twos: &mut [u64])
-    requires { ⌜ isDigits (now field) ≡ true ⌝ }
-    requires { ⌜ (now ones ≡ zeroWords (length (now ones))) × (now twos ≡ zeroWords (length (now ones))) × (length (now field) ≤ 64 * length (now ones)) ⌝ }
+    requires { ⌜ ForPutDigits (now field) (now ones) (now twos) ⌝ }
     ensures { λ _. ⌜ Reads (now (ones .exit)) (now (twos .exit)) (length (now (ones .entry))) (digitRow (now (field .entry))) ⌝ }
 {
     let mut i = 0;

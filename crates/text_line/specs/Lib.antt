@@ -1,2 +1,3 @@
 -- The definitions of one line.
 pub mod Answer
+pub mod Steps

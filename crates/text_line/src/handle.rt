@@ -1,11 +1,10 @@
 // One line: a key begun, a row stored, a signature checked, and what is printed of it.
 ghost use mathlib.Core.Path.{_≡_};
-ghost use mathlib.Core.Bool.{true};
 ghost use Prim.Native.Nat.{_≤_};
 ghost use lib.ListN.{length, take};
 ghost use Rattle.trits.specs.Rows.{putWords};
-ghost use Rattle.text.specs.Digits.{isDigits};
 ghost use Rattle.text_line.specs.Answer.{keyRefusal, keyHeld, digitsRefusal, rowKept, signAnswer, signPrints, refusalPrints, linePrints, lineKept, readLine, holding};
+ghost use Rattle.text_line.specs.Steps.{ForStoreDigits, ForCheckDigits, ForHandleRow, ForHandleSign, ForHandle, ForHandleFront};
 use super::offer::key_words;
 use super::offer::offer;
 use super::offer::row_trits;
@@ -48,8 +47,7 @@ fn begin_key(held: Held, number: u64, n: u64, k: u64, w: u64) -> Changed
 
 // A row of digits is stored.
 fn store_digits(held: Held, ones: &mut [u64], twos: &mut [u64], digits: &[u8]) -> Changed
-    requires { ⌜ isDigits (now digits) ≡ true ⌝ }
-    requires { ⌜ (length (now digits) ≤ 1024) × (length (now ones) ≡ 382) × (length (now twos) ≡ 382) ⌝ }
+    requires { ⌜ ForStoreDigits (now ones) (now twos) (now digits) ⌝ }
     ensures { λ r. ⌜ r .refusal ≡ digitsRefusal (holding held (now (ones .entry)) (now (twos .entry))) (now (digits .entry)) ⌝ }
     ensures { λ r. ⌜ holding (r .held) (now (ones .exit)) (now (twos .exit)) ≡ rowKept (holding held (now (ones .entry)) (now (twos .entry))) (now (digits .entry)) ⌝ }
 {
@@ -74,9 +72,7 @@ fn store_digits(held: Held, ones: &mut [u64], twos: &mut [u64], digits: &[u8]) -
 
 // A signature of digits is checked.
 fn check_digits(held: Held, number: u64, ones: &[u64], twos: &[u64], y: &[u8], s: &[u8]) -> Checked
-    requires { ⌜ isDigits (now y) ≡ true ⌝ }
-    requires { ⌜ isDigits (now s) ≡ true ⌝ }
-    requires { ⌜ (length (now y) ≤ 1024) × (length (now s) ≤ 1024) × (length (now ones) ≡ 382) × (length (now twos) ≡ 382) ⌝ }
+    requires { ⌜ ForCheckDigits (now ones) (now twos) (now y) (now s) ⌝ }
     ensures { λ r. ⌜ r ≡ signAnswer (holding held (now (ones .entry)) (now (twos .entry))) number (now (y .entry)) (now (s .entry)) ⌝ }
 {
     let mut y_ones = [0u64; 16];
@@ -151,8 +147,7 @@ fn handle_row(
     twos: &mut [u64],
     out: &mut [u8],
 ) -> Handled
-    requires { ⌜ isDigits (now digits) ≡ true ⌝ }
-    requires { ⌜ (length (now digits) ≤ 1024) × (length (now ones) ≡ 382) × (length (now twos) ≡ 382) × (96 ≤ length (now out)) ⌝ }
+    requires { ⌜ ForHandleRow (now digits) (now ones) (now twos) (now out) ⌝ }
     ensures { λ r. ⌜ holding (r .held) (now (ones .exit)) (now (twos .exit)) ≡ rowKept (holding held (now (ones .entry)) (now (twos .entry))) (now (digits .entry)) ⌝ }
     ensures { λ r. ⌜ r .count ≡ length (refusalPrints (digitsRefusal (holding held (now (ones .entry)) (now (twos .entry))) (now (digits .entry)))) ⌝ }
     ensures { λ _. ⌜ now (out .exit) ≡ putWords 0 (now (out .entry)) (refusalPrints (digitsRefusal (holding held (now (ones .entry)) (now (twos .entry))) (now (digits .entry)))) ⌝ }
@@ -176,9 +171,7 @@ fn handle_sign(
     twos: &[u64],
     out: &mut [u8],
 ) -> usize
-    requires { ⌜ isDigits (now y) ≡ true ⌝ }
-    requires { ⌜ isDigits (now s) ≡ true ⌝ }
-    requires { ⌜ (length (now y) ≤ 1024) × (length (now s) ≤ 1024) × (length (now ones) ≡ 382) × (length (now twos) ≡ 382) × (96 ≤ length (now out)) ⌝ }
+    requires { ⌜ ForHandleSign (now y) (now s) (now ones) (now twos) (now out) ⌝ }
     ensures { λ r. ⌜ r ≡ length (signPrints number formula (signAnswer (holding held (now (ones .entry)) (now (twos .entry))) number (now (y .entry)) (now (s .entry)))) ⌝ }
     ensures { λ _. ⌜ now (out .exit) ≡ putWords 0 (now (out .entry)) (signPrints number formula (signAnswer (holding held (now (ones .entry)) (now (twos .entry))) number (now (y .entry)) (now (s .entry)))) ⌝ }
 {
@@ -194,7 +187,7 @@ pub fn handle(
     twos: &mut [u64],
     out: &mut [u8],
 ) -> Handled
-    requires { ⌜ (length (now line) ≤ 1024) × (length (now ones) ≡ 382) × (length (now twos) ≡ 382) × (96 ≤ length (now out)) ⌝ }
+    requires { ⌜ ForHandle (now line) (now ones) (now twos) (now out) ⌝ }
     ensures { λ r. ⌜ holding (r .held) (now (ones .exit)) (now (twos .exit)) ≡ lineKept (holding held (now (ones .entry)) (now (twos .entry))) (readLine (now (line .entry))) ⌝ }
     ensures { λ r. ⌜ r .count ≡ length (linePrints (holding held (now (ones .entry)) (now (twos .entry))) (readLine (now (line .entry)))) ⌝ }
     ensures { λ _. ⌜ now (out .exit) ≡ putWords 0 (now (out .entry)) (linePrints (holding held (now (ones .entry)) (now (twos .entry))) (readLine (now (line .entry)))) ⌝ }
@@ -236,7 +229,7 @@ pub fn handle_front(
     twos: &mut [u64],
     out: &mut [u8],
 ) -> Handled
-    requires { ⌜ (len ≤ 1024) × (length (now buffer) ≡ 1025) × (length (now ones) ≡ 382) × (length (now twos) ≡ 382) × (96 ≤ length (now out)) ⌝ }
+    requires { ⌜ ForHandleFront (now buffer) len (now ones) (now twos) (now out) ⌝ }
     ensures { λ r. ⌜ holding (r .held) (now (ones .exit)) (now (twos .exit)) ≡ lineKept (holding held (now (ones .entry)) (now (twos .entry))) (readLine (take len (now (buffer .entry)))) ⌝ }
     ensures { λ r. ⌜ r .count ≡ length (linePrints (holding held (now (ones .entry)) (now (twos .entry))) (readLine (take len (now (buffer .entry))))) ⌝ }
     ensures { λ _. ⌜ now (out .exit) ≡ putWords 0 (now (out .entry)) (linePrints (holding held (now (ones .entry)) (now (twos .entry))) (readLine (take len (now (buffer .entry))))) ⌝ }

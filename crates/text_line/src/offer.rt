@@ -1,12 +1,10 @@
 // Digit fields offered to the checker as planes of words.
 ghost use mathlib.Core.Path.{_≡_};
-ghost use mathlib.Core.Bool.{true};
 ghost use Prim.Native.Nat.{_≤_};
-ghost use lib.ListN.{length, take};
-ghost use Rattle.trits.specs.Planes.{zeroWords};
-ghost use Rattle.text.specs.Digits.{isDigits};
+ghost use lib.ListN.{take};
 ghost use Rattle.held_key.specs.Held.{rowTrits, rowWords, keyWords};
 ghost use Rattle.text_line.specs.Answer.{asked, offeredOnes, offeredTwos};
+ghost use Rattle.text_line.specs.Steps.{ForOffer};
 use held_key::state::Held;
 
 // The trits of a row.
@@ -49,8 +47,7 @@ pub fn key_words(held: Held) -> usize
 
 // The digits for a row of m trits are written to planes that are 0; how many words they take, none where their count is not m.
 pub fn offer(digits: &[u8], m: u64, ones: &mut [u64], twos: &mut [u64]) -> usize
-    requires { ⌜ isDigits (now digits) ≡ true ⌝ }
-    requires { ⌜ (length (now digits) ≤ 1024) × (now ones ≡ zeroWords 16) × (now twos ≡ zeroWords 16) ⌝ }
+    requires { ⌜ ForOffer (now digits) (now ones) (now twos) ⌝ }
     ensures { λ r. ⌜ r ≤ 16 ⌝ }
     ensures { λ r. ⌜ take r (now (ones .exit)) ≡ offeredOnes m (now (digits .entry)) ⌝ }
     ensures { λ r. ⌜ take r (now (twos .exit)) ≡ offeredTwos m (now (digits .entry)) ⌝ }

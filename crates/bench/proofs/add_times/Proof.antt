@@ -27,14 +27,17 @@ start-from-after-loop c = c .before .before .before .before .before .before
 loop-holds : tie.Need-loop-holds Inv-loop μ-loop
 unfolding addedTo
 loop-holds c =
-    (omega arith, record { row = c .before .before .before .before .pre .0; size = refl; trits = refl })
+    (omega arith, record { row = c .before .before .before .before .pre .row; size = refl; trits = refl })
 
 add-row-requires : tie.Need-add-row-requires Inv-loop μ-loop
 add-row-requires c κs =
     let start = start-from-in-loop (c .before .before) in
     let s = c .before .before .before in
-    let r = s .loop .inv .1 in
-    (r .row, (start .pre .1 .0, start .pre .1 .1 ∙ sym (r .size)))
+    let r = s .loop .inv .1 in record {
+      row = r .row;
+      source = start .pre .source;
+      size = start .pre .size ∙ sym (r .size);
+    }
 
 add-i : tie.Need-add-i Inv-loop μ-loop
 add-i c =
@@ -56,7 +59,7 @@ same-length c =
 
 same-length-2 : tie.Need-same-length-2 Inv-loop μ-loop
 same-length-2 c =
-    c .before .loop .inv .1 .row .same ∙ c .before .loop .inv .1 .size ∙ sym (start-from-after-loop c .pre .0 .same)
+    c .before .loop .inv .1 .row .same ∙ c .before .loop .inv .1 .size ∙ sym (start-from-after-loop c .pre .row .same)
 
 returns : tie.Need-returns Inv-loop μ-loop
 returns c =

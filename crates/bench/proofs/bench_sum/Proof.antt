@@ -38,8 +38,11 @@ add-times-requires c κs =
     (after-slice-known2 .slice-known2 .given)
     (after-shared-slice-known .shared-slice-known .given)
     (after-shared-slice-known2 .shared-slice-known2 .given)
-    (sym (c .before .before .before .sum-refusal .ensures) ∙ c .before .before .if1 .left) in
-    (a .row, (a .source, a .same))
+    (sym (c .before .before .before .sum-refusal .ensures) ∙ c .before .before .if1 .left) in record {
+      row = a .row;
+      source = a .source;
+      size = a .same;
+    }
 
 same-length-3 : tie.Need-same-length-3
 same-length-3 c = search needs

@@ -44,8 +44,13 @@ weigh-times-requires : tie.Need-weigh-times-requires
 weigh-times-requires c κs =
     let p =
     check-passed _ (sym (c .before .before .before .before .test-check .ensures) ∙ sym (c .before .before .before .code .ensures) ∙
-    c .before .before .if1 .left) in
-    (whole (p .0), (p .1, (p .2, (p .0 .work-ones, p .0 .work-twos))))
+    c .before .before .if1 .left) in record {
+      whole = whole (p .0);
+      lengths = p .1;
+      contents = p .2;
+      work-ones = p .0 .work-ones;
+      work-twos = p .0 .work-twos;
+    }
 
 zero-words-requires : tie.Need-zero-words-requires
 zero-words-requires c κs = tt

@@ -37,8 +37,13 @@ loop-holds c = (omega arith, refl, refl, refl)
 weigh-packed-requires : tie.Need-weigh-packed-requires Inv-loop μ-loop
 weigh-packed-requires c κs =
     let l = c .before .before .before .loop .inv in
-    let p = start-from-in-loop (c .before .before) .pre in
-    (p .0, (p .1 .0, (p .1 .1 .0, (l .1 ∙ p .1 .1 .1 .0, l .2 ∙ p .1 .1 .1 .1))))
+    let p = start-from-in-loop (c .before .before) .pre in record {
+      whole = p .whole;
+      lengths = p .lengths;
+      contents = p .contents;
+      work-ones = l .1 ∙ p .work-ones;
+      work-twos = l .2 ∙ p .work-twos;
+    }
 
 add-i : tie.Need-add-i Inv-loop μ-loop
 add-i c =

@@ -100,11 +100,11 @@ returns-3 : tie.Need-returns-3
 returns-3 c =
     let else1 = else1-from-then3 c in
     let after-sizes-fit = else1 .before in
-    let s = entry (after-sizes-fit) in
+    let s = entry after-sizes-fit in
     let z = s .args .z in
     let told = c .before .code .ensures in
     let e = c .before .before .test-contents .ensures in
-    let g = answer-contents z (lent s) (fits (else1)) (lengths (c .before .before .before)) e (λ y. c .if3 .taken (told ∙ y)) in
+    let g = answer-contents z (lent s) (fits else1) (lengths (c .before .before .before)) e (λ y. c .if3 .taken (told ∙ y)) in
     let k = kept z (lent s) (told ∙ g) (positive _ (c .if3 .taken)) (omega (arith, told, e, contents-le z (lent s))) in
     (g, k .0, k .1, k .2)
 
@@ -124,22 +124,25 @@ finish-requires c κs =
     let after-shared-slice-known3 = after-shared-slice-known4 .before in
     let after-shared-slice-known2 = after-shared-slice-known3 .before in
     let after-shared-slice-known = after-shared-slice-known2 .before in
-    let s = entry (after-sizes-fit) in
+    let s = entry after-sizes-fit in
     let z = s .args .z in
-    let d = lengths (else2) in
+    let d = lengths else2 in
     let q = contents-passed z (lent s) (sym (after-test-contents .test-contents .ensures) ∙ sym (after-code .code .ensures) ∙ else3 .if3 .left) in
-    let l = lengths-key z (lent s) d in (
-      fits (else1),
-      (
-        readable z (lent s .secret) (lengths-secret z (lent s) d) (q .0) (λ j. after-shared-slice-known .shared-slice-known .given j)
-            (λ j. after-shared-slice-known2 .shared-slice-known2 .given j)
-            (λ j. after-shared-slice-known3 .shared-slice-known3 .given j) (λ j. after-shared-slice-known4 .shared-slice-known4 .given j)
-            (λ j. after-shared-slice-known5 .shared-slice-known5 .given j)
-            (λ j. after-shared-slice-known6 .shared-slice-known6 .given j) (λ j. after-shared-slice-known7 .shared-slice-known7 .given j)
-            (λ j. after-shared-slice-known8 .shared-slice-known8 .given j),
-        (q .1, (l .p, l .k1, l .k2, l .w1, l .w2)),
-      ),
-    )
+    let l = lengths-key z (lent s) d in record {
+      sizes = fits else1;
+      secret = readable z (lent s .secret) (lengths-secret z (lent s) d) (q .0) (λ j. after-shared-slice-known .shared-slice-known .given j)
+          (λ j. after-shared-slice-known2 .shared-slice-known2 .given j)
+          (λ j. after-shared-slice-known3 .shared-slice-known3 .given j) (λ j. after-shared-slice-known4 .shared-slice-known4 .given j)
+          (λ j. after-shared-slice-known5 .shared-slice-known5 .given j)
+          (λ j. after-shared-slice-known6 .shared-slice-known6 .given j) (λ j. after-shared-slice-known7 .shared-slice-known7 .given j)
+          (λ j. after-shared-slice-known8 .shared-slice-known8 .given j);
+      is-order = q .1;
+      p-size = l .p;
+      key-ones-size = l .k1;
+      key-twos-size = l .k2;
+      work-ones-size = l .w1;
+      work-twos-size = l .w2;
+    }
 
 same-length : tie.Need-same-length
 same-length c = search needs
@@ -166,11 +169,11 @@ returns-4 c =
     let else2 = after-test-contents .before in
     let else1 = else2 .before .before in
     let after-sizes-fit = else1 .before in
-    let s = entry (after-sizes-fit) in
+    let s = entry after-sizes-fit in
     let z = s .args .z in
     let i = lent s in
     let k = secretOf z (i .secret) in
-    let g = answer-ranks z i (fits (else1)) (lengths (else2))
+    let g = answer-ranks z i (fits else1) (lengths else2)
     (sym (after-test-contents .test-contents .ensures) ∙ sym (after-code .code .ensures) ∙ else3 .if3 .left) in
     let n = after-finish .finish .ensures in (
       n .0 ∙ g,

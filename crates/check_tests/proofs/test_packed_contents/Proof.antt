@@ -35,8 +35,11 @@ test-planes-requires c κs =
     let a = start .args in
     let w = start .pre in
     let s = sizes (a .held) (w .is-sound) in
-    let e = c .row-trits .ensures in
-    (w .ones-size ∙ ap (λ (m : ℕ). a .held .k * wordsFor m) (sym e), w .twos-size ∙ ap (λ (m : ℕ). a .held .k * wordsFor m) (sym e), omega (arith, s, e))
+    let e = c .row-trits .ensures in record {
+      ones-size = w .ones-size ∙ ap (λ (m : ℕ). a .held .k * wordsFor m) (sym e);
+      twos-size = w .twos-size ∙ ap (λ (m : ℕ). a .held .k * wordsFor m) (sym e);
+      small = omega (arith, s, e);
+    }
 
 code-requires : tie.Need-code-requires
 code-requires c κs = search needs

@@ -112,11 +112,11 @@ returns-3 : tie.Need-returns-3
 returns-3 c =
     let else1 = else1-from-then3 c in
     let after-sizes-fit = else1 .before in
-    let s = entry (after-sizes-fit) in
+    let s = entry after-sizes-fit in
     let z = s .args .z in
     let told = c .before .code .ensures in
     let e = c .before .before .test-contents .ensures ∙ ap (first (secretRefusal z (lent s .secret))) (same-choices z (lent s)) in
-    let g = answer-contents z (lent s) (fits (else1)) (lengths (c .before .before .before)) (told ∙ e) (c .if3 .taken) in
+    let g = answer-contents z (lent s) (fits else1) (lengths (c .before .before .before)) (told ∙ e) (c .if3 .taken) in
     let k = kept z (lent s) g (positive _ (c .if3 .taken)) (omega (arith, told, e, contents-le z (lent s))) in
     (sym told ∙ g, k .0, k .1, k .2)
 
@@ -142,9 +142,9 @@ finish-requires c κs =
     let after-shared-slice-known3 = after-shared-slice-known4 .before in
     let after-shared-slice-known2 = after-shared-slice-known3 .before in
     let after-shared-slice-known = after-shared-slice-known2 .before in
-    let s = entry (after-sizes-fit) in
+    let s = entry after-sizes-fit in
     let z = s .args .z in
-    let d = lengths (else2) in
+    let d = lengths else2 in
     let e = after-test-contents .test-contents .ensures ∙ ap (first (secretRefusal z (lent s .secret))) (same-choices z (lent s)) in
     let y = sym e ∙ sym (after-code .code .ensures) ∙ else3 .if3 .left in
     let l = lengths-choices z (lent s) d in
@@ -154,16 +154,19 @@ finish-requires c κs =
     (λ j. after-shared-slice-known4 .shared-slice-known4 .given j)
     (λ j. after-shared-slice-known5 .shared-slice-known5 .given j) (λ j. after-shared-slice-known6 .shared-slice-known6 .given j)
     (λ j. after-shared-slice-known7 .shared-slice-known7 .given j)
-    (λ j. after-shared-slice-known8 .shared-slice-known8 .given j) in (
-      fits (else1),
-      (
-        ready z (lent s) d y r (λ j. after-shared-slice-known10 .shared-slice-known10 .given j) (λ j. after-shared-slice-known11 .shared-slice-known11 .given j)
-            (λ j. after-shared-slice-known13 .shared-slice-known13 .given j)
-            (λ j. after-shared-slice-known14 .shared-slice-known14 .given j) (λ j. after-shared-slice-known16 .shared-slice-known16 .given j)
-            (λ j. after-shared-slice-known17 .shared-slice-known17 .given j),
-        (l .wordOnes, l .wordTwos, l .sOnes, l .sTwos, l .workOnes, l .workTwos),
-      ),
-    )
+    (λ j. after-shared-slice-known8 .shared-slice-known8 .given j) in record {
+      sizes = fits else1;
+      ready = ready z (lent s) d y r (λ j. after-shared-slice-known10 .shared-slice-known10 .given j) (λ j. after-shared-slice-known11 .shared-slice-known11 .given j)
+          (λ j. after-shared-slice-known13 .shared-slice-known13 .given j)
+          (λ j. after-shared-slice-known14 .shared-slice-known14 .given j) (λ j. after-shared-slice-known16 .shared-slice-known16 .given j)
+          (λ j. after-shared-slice-known17 .shared-slice-known17 .given j);
+      word-ones-size = l .wordOnes;
+      word-twos-size = l .wordTwos;
+      s-ones-size = l .sOnes;
+      s-twos-size = l .sTwos;
+      work-ones-size = l .workOnes;
+      work-twos-size = l .workTwos;
+    }
 
 same-length : tie.Need-same-length
 same-length c = search needs
@@ -193,11 +196,11 @@ returns-4 c =
     let else2 = after-test-contents .before in
     let else1 = else2 .before .before in
     let after-sizes-fit = else1 .before in
-    let s = entry (after-sizes-fit) in
+    let s = entry after-sizes-fit in
     let z = s .args .z in
     let i = lent s in
     let e = after-test-contents .test-contents .ensures ∙ ap (first (secretRefusal z (i .secret))) (same-choices z i) in
-    let g = answer-ending z i (fits (else1)) (lengths (else2)) (sym e ∙ sym (after-code .code .ensures) ∙ else3 .if3 .left) in
+    let g = answer-ending z i (fits else1) (lengths else2) (sym e ∙ sym (after-code .code .ensures) ∙ else3 .if3 .left) in
     let w : Pair = rowPair (places z) (wordOf z i) in
     let t : Pair = rowPair (dim z) (signature z (wordOf z i)) in
     let n = after-finish .finish .ensures in (

@@ -69,7 +69,7 @@ returns c =
     let after-make-word = after-work-ones .before in
     let after-more-rows = after-make-word .before .before .before in
     let k = j .before in
-    let s = entry (after-more-rows) in
+    let s = entry after-more-rows in
     let z = s .args .z in
     let i = lent s in
     let told = after-make-word .make-word .ensures in
@@ -111,21 +111,17 @@ make-word-requires : tie.Need-make-word-requires
 make-word-requires c κs =
     let s = entry (c .before .before) in
     let z = s .args .z in
-    let m = s .pre .1 .1 in
+    let m = s .pre in
     let e = rows (c .before .before) in
-    let p = space z (bounds z (s .pre .0)) in (
-      s .pre .0,
-      (
-        s .pre .1 .0,
-        (
-          omega (arith, e, p .u),
-          omega (arith, e, p .v),
-          omega (arith, e, p .rows),
-          m .4 ∙ ap (λ (n : ℕ). (n + 5) * halfWords z) (sym e),
-          m .5 ∙ ap (λ (n : ℕ). (n + 5) * halfWords z) (sym e),
-        ),
-      ),
-    )
+    let p = space z (bounds z (s .pre .sizes)) in record {
+      sizes = s .pre .sizes;
+      ready = s .pre .ready;
+      u-few = omega (arith, e, p .u);
+      v-few = omega (arith, e, p .v);
+      small = omega (arith, e, p .rows);
+      work-ones-size = m .work-ones-size ∙ ap (λ (n : ℕ). (n + 5) * halfWords z) (sym e);
+      work-twos-size = m .work-twos-size ∙ ap (λ (n : ℕ). (n + 5) * halfWords z) (sym e);
+    }
 
 code-requires : tie.Need-code-requires
 code-requires c κs = search needs
@@ -135,11 +131,19 @@ release-word-requires c κs =
     let k = code-from-release-word-arg6 c in
     let after-make-word = make-word-from-code k in
     let after-more-rows = after-make-word .before .before .before in
-    let s = entry (after-more-rows) in
+    let s = entry after-more-rows in
     let z = s .args .z in
-    let m = s .pre .1 .1 in
-    let p = space z (bounds z (s .pre .0)) in
-    (s .pre .0, (s .pre .1 .0 .p, (omega (arith, rows (after-more-rows), p .rows), (after-make-word .make-word .ensures .1, (m .0, m .1, m .2, m .3)))))
+    let m = s .pre in
+    let p = space z (bounds z (s .pre .sizes)) in record {
+      sizes = s .pre .sizes;
+      is-order = s .pre .ready .p;
+      small = omega (arith, rows after-more-rows, p .rows);
+      grid = after-make-word .make-word .ensures .1;
+      word-ones-size = m .word-ones-size;
+      word-twos-size = m .word-twos-size;
+      s-ones-size = m .s-ones-size;
+      s-twos-size = m .s-twos-size;
+    }
 
 clear-requires : tie.Need-clear-requires
 clear-requires c κs = search needs

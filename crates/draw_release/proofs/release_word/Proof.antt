@@ -36,66 +36,74 @@ shape-of-requires : tie.Need-shape-of-requires
 shape-of-requires c κs = search needs
 
 add-rows : tie.Need-add-rows
-add-rows c = omega (arith, start-from-shape-of c .pre .1 .1 .0)
+add-rows c = omega (arith, start-from-shape-of c .pre .small)
 
 add-u : tie.Need-add-u
-add-u c = omega (arith, start-from-shape-of c .pre .1 .1 .0)
+add-u c = omega (arith, start-from-shape-of c .pre .small)
 
 add-v : tie.Need-add-v
-add-v c = omega (arith, start-from-shape-of c .pre .1 .1 .0)
+add-v c = omega (arith, start-from-shape-of c .pre .small)
 
 add-n : tie.Need-add-n
 add-n c =
     let s = start-from-shape-of (c .before) in
-    rw (c .before .shape-of .ensures) (omega (arith, bounds (s .args .z) (s .pre .0) .high))
+    rw (c .before .shape-of .ensures) (omega (arith, bounds (s .args .z) (s .pre .sizes) .high))
 
 add-k : tie.Need-add-k
 add-k c =
     let s = start-from-shape-of (c .before) in
-    let b = bounds (s .args .z) (s .pre .0) in
+    let b = bounds (s .args .z) (s .pre .sizes) in
     omega (arith, b .high, b .ku, b .kv)
 
 add-first : tie.Need-add-first
 add-first c =
     let s = start-from-shape-of (c .before .before) in
-    rw (c .before .before .shape-of .ensures) (omega (arith, bounds (s .args .z) (s .pre .0) .high))
+    rw (c .before .before .shape-of .ensures) (omega (arith, bounds (s .args .z) (s .pre .sizes) .high))
 
 write-places-requires : tie.Need-write-places-requires
 write-places-requires c κs =
     let after-shape-of = c .before .before .before .before in
     let s = start-from-shape-of after-shape-of in
     let a = s .args in
-    let R = s .pre .1 .1 .1 .0 in
-    let n = s .pre .1 .1 .1 .1 in
-    let o = s .pre .1 .0 in
-    let h = bounds (a .z) (s .pre .0) .high in
-    let big = prod (a .l + 5) (halfWords (a .z)) 8197 128 (omega (arith, s .pre .1 .1 .0)) (omega (arith, h)) in
-    rw (after-shape-of .shape-of .ensures) (
-      R,
-      (o, ((omega (arith, R .size, big), omega arith, omega arith, omega (arith, h)), (omega (arith, o .size), omega (arith, n .0), n .1 ∙ sym (n .0)))),
-    )
+    let R = s .pre .grid in
+    let n = s .pre in
+    let o = s .pre .is-order in
+    let h = bounds (a .z) (s .pre .sizes) .high in
+    let big = prod (a .l + 5) (halfWords (a .z)) 8197 128 (omega (arith, s .pre .small)) (omega (arith, h)) in
+    rw (after-shape-of .shape-of .ensures) (record {
+      grid = R;
+      is-order = o;
+      small = omega (arith, R .size, big);
+      u-in = omega arith;
+      v-in = omega arith;
+      half-fits = omega (arith, h);
+      places-fit = omega (arith, o .size);
+      room = omega (arith, n .word-ones-size);
+      twos-size = n .word-twos-size ∙ sym (n .word-ones-size);
+    })
 
 write-places-requires-2 : tie.Need-write-places-requires-2
 write-places-requires-2 c κs =
     let after-shape-of = shape-of-from-write-places-arg4 c in
     let s = start-from-shape-of after-shape-of in
     let a = s .args in
-    let b = bounds (a .z) (s .pre .0) in
-    let R = s .pre .1 .1 .1 .0 in
-    let n = s .pre .1 .1 .1 .1 in
-    let o = s .pre .1 .0 in
+    let b = bounds (a .z) (s .pre .sizes) in
+    let R = s .pre .grid in
+    let n = s .pre in
+    let o = s .pre .is-order in
     let h = b .high in
-    let big = prod (a .l + 5) (halfWords (a .z)) 8197 128 (omega (arith, s .pre .1 .1 .0)) (omega (arith, h)) in
-    rw (after-shape-of .shape-of .ensures) (
-      R,
-      (
-        o,
-        (
-          (omega (arith, R .size, big), omega arith, omega arith, omega (arith, h)),
-          (omega (arith, o .size, b .ku, b .kv), omega (arith, n .2), n .3 ∙ sym (n .2)),
-        ),
-      ),
-    )
+    let big = prod (a .l + 5) (halfWords (a .z)) 8197 128 (omega (arith, s .pre .small)) (omega (arith, h)) in
+    rw (after-shape-of .shape-of .ensures) (record {
+      grid = R;
+      is-order = o;
+      small = omega (arith, R .size, big);
+      u-in = omega arith;
+      v-in = omega arith;
+      half-fits = omega (arith, h);
+      places-fit = omega (arith, o .size, b .ku, b .kv);
+      room = omega (arith, n .s-ones-size);
+      twos-size = n .s-twos-size ∙ sym (n .s-ones-size);
+    })
 
 same-length : tie.Need-same-length
 same-length c = search needs
@@ -115,11 +123,11 @@ returns c =
     let after-word-ones = after-write-places2 .before .before .before .before .before .before in
     let after-write-places = after-word-ones .before in
     let after-shape-of = after-write-places .before .before .before .before .before in
-    let n = start-from-shape-of after-shape-of .pre .1 .1 .1 .1 in
+    let n = start-from-shape-of after-shape-of .pre in
     let e = after-shape-of .shape-of .ensures in
     let w = rw e at (after-write-places .write-places .ensures) in
     let t = rw e at (after-write-places2 .write-places2 .ensures) in
-    (ones-sized _ (w .0) (n .0), twos-sized _ (w .1) (n .0), ones-sized _ (t .0) (n .2), twos-sized _ (t .1) (n .2))
+    (ones-sized _ (w .0) (n .word-ones-size), twos-sized _ (w .1) (n .word-ones-size), ones-sized _ (t .0) (n .s-ones-size), twos-sized _ (t .1) (n .s-ones-size))
 
 pub release-word-spec : {M : Type 1} → statement M
 release-word-spec =

@@ -12,7 +12,7 @@ use Rattle.trits.proofs.Refusals.{exit-kept, exit-new}
 use Rattle.packed.specs.Packed.{packedRow}
 use Rattle.held_key.specs.Held.{rowTrits, rowWords}
 use Rattle.held_key.specs.Store.{storedHeld}
-use Rattle.held_key.proofs.Room.{room, stored-packed-passed}
+use Rattle.held_key.proofs.Room.{stored-packed-passed}
 use Rattle.held_key.proofs.Answers.{positive}
 use Rattle.held_key.proofs.Storing.{plane-kept, plane-lent}
 use Rattle.held_key.proofs.store_packed_row.Statement.{statement}
@@ -160,15 +160,13 @@ write-part-requires c κs =
     let z = sym (d .before .before .test-packed-row .ensures) ∙ sym (d .before .code .ensures) ∙ d .if1 .left in
     let r = stored-packed-passed _ z in
     let e : a .held .rows * w .result ≡ a .held .rows * rowWords (a .held) = ap (λ (x : ℕ). a .held .rows * x) (w .ensures) in
-    let m = c .before .before .row-trits .ensures in (
-      (
-        simp (length-take, length-drop) (omega (arith, e, w .ensures, r .0 .within, r .0 .ones-are, m)),
-        simp (length-take, length-drop) (omega (arith, e, w .ensures, r .0 .within, r .0 .twos-are, m)),
-        omega (arith, m, r .1),
-        omega (arith, m, r .0 .all),
-      ),
-      r .2,
-    )
+    let m = c .before .before .row-trits .ensures in record {
+      ones-size = simp (length-take, length-drop) (omega (arith, e, w .ensures, r .0 .within, r .0 .ones-are, m));
+      twos-size = simp (length-take, length-drop) (omega (arith, e, w .ensures, r .0 .within, r .0 .twos-are, m));
+      bytes-size = omega (arith, m, r .1);
+      small = omega (arith, m, r .0 .all);
+      not-refused = r .2;
+    }
 
 count-row-requires : tie.Need-count-row-requires
 count-row-requires c κs =

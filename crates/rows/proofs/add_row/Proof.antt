@@ -84,7 +84,7 @@ returns : tie.Need-returns Inv-loop μ-loop
 returns c =
     let l = c .before .loop in
     let p = c .before .before .pre in
-    rows-read add-op refl (p .0) (p .1 .0) (p .1 .1) (l .inv .1) (l .inv .2) (omega arith)
+    rows-read add-op refl (p .row) (p .source) (p .size) (l .inv .1) (l .inv .2) (omega arith)
 
 pub add-row-spec : {M : Type 1} → statement M
 add-row-spec =

@@ -60,8 +60,8 @@ known c =
     let s = c .before .before .before .before .before in
     let i = s .loop .i in
     record {
-      ua = s .before .pre .0 .apart;
-      va = s .before .pre .1 .0 .apart;
+      ua = s .before .pre .left .apart;
+      va = s .before .pre .right .apart;
       ha = c .before .before .before .shared-slice-known .given i;
       hb = c .before .before .shared-slice-known2 .given i;
       hc = c .before .shared-slice-known3 .given i;

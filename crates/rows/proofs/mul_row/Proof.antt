@@ -84,7 +84,7 @@ returns : tie.Need-returns Inv-loop μ-loop
 returns c =
     let l = c .before .loop in
     let p = c .before .before .pre in
-    rows-read mul-op refl (p .0) (p .1 .0) (p .1 .1) (l .inv .1) (l .inv .2) (omega arith)
+    rows-read mul-op refl (p .row) (p .source) (p .size) (l .inv .1) (l .inv .2) (omega arith)
 
 pub mul-row-spec : {M : Type 1} → statement M
 mul-row-spec =

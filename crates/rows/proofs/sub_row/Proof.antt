@@ -1,7 +1,7 @@
 -- The source with its planes exchanged is its negative (`read-exchanged`), so adding it subtracts.
 -- Assumes nothing.
 use Prim.Native.Nat.{ℕ}
-use mathlib.Core.Path.{ap, _∙_}
+use mathlib.Core.Path.{ap}
 use borrow.Author.Needs.{needs}
 use native.Mathlib.Omega.{arith}
 use denote.Ref.{now}
@@ -21,9 +21,12 @@ start-from-add-row c = c .before .before .before .before .before .before .before
 add-row-requires : tie.Need-add-row-requires
 add-row-requires c κs =
     let s = start-from-add-row-arg2 c in
-    let r = row-exchanged (s .pre .1 .0) in
-    let e = s .pre .1 .0 .same in
-    (search needs, (search needs, omega arith))
+    let r = row-exchanged (s .pre .source) in
+    let e = s .pre .source .same in record {
+      row = search needs;
+      source = search needs;
+      size = omega arith;
+    }
 
 same-length : tie.Need-same-length
 same-length c = search needs
@@ -36,7 +39,7 @@ returns c =
     let after-add-row = c .before .before .before .before in
     let s = start-from-add-row after-add-row in
     reads-to (after-add-row .add-row .ensures) (ap (λ (v : ℕ → Trit). zipV addT (tritAt (now (s .args .ones)) (now (s .args .twos))) v)
-    (read-exchanged (s .pre .1 .0)))
+    (read-exchanged (s .pre .source)))
 
 pub sub-row-spec : {M : Type 1} → statement M
 sub-row-spec = tie.close (tie.spec add-row-requires same-length same-length-2 returns)

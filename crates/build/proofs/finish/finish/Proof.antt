@@ -84,7 +84,14 @@ returns c =
     (j .if1 .came)
 
 test-ranks-requires : tie.Need-test-ranks-requires
-test-ranks-requires c κs = (search needs, (search needs, (search needs, (search needs, search needs))))
+test-ranks-requires c κs =
+    record {
+      sizes = search needs;
+      hu-grid = search needs;
+      hv-grid = search needs;
+      work-ones = search needs;
+      work-twos = search needs;
+    }
 
 code-requires : tie.Need-code-requires
 code-requires c κs = search needs
@@ -95,20 +102,18 @@ release-requires c κs =
     let k = then1 .before in
     let after-work-ones = k .before .before .before .before in
     let s = entry k in
-    let l = s .pre .1 .1 .1 in
-    let f = sym (told k) ∙ sym (k .code .ensures) ∙ then1 .if1 .taken in (
-      s .pre .0,
-      (
-        s .pre .1 .0,
-        (
-          s .pre .1 .1 .0,
-          (
-            full-rank (s .args .z) (secret s) f,
-            (l .0, l .1, l .2, omega (arith, after-work-ones .work-ones .given, l .3), omega (arith, k .before .before .work-twos .given, l .4)),
-          ),
-        ),
-      ),
-    )
+    let l = s .pre in
+    let f = sym (told k) ∙ sym (k .code .ensures) ∙ then1 .if1 .taken in record {
+      sizes = s .pre .sizes;
+      secret = s .pre .secret;
+      is-order = s .pre .is-order;
+      rank-full = full-rank (s .args .z) (secret s) f;
+      p-size = l .p-size;
+      key-ones-size = l .key-ones-size;
+      key-twos-size = l .key-twos-size;
+      work-ones-size = omega (arith, after-work-ones .work-ones .given, l .work-ones-size);
+      work-twos-size = omega (arith, k .before .before .work-twos .given, l .work-twos-size);
+    }
 
 clear-requires : tie.Need-clear-requires
 clear-requires c κs = search needs

@@ -6,7 +6,7 @@ use denote.Ref.{now}
 use lib.ListN.{length, getD}
 use native.Mathlib.Omega.{arith}
 use mathlib.Core.Path.{sym, subst}
-use Prim.Native.Nat.{ℕ, _-_, _*_, _<_}
+use Prim.Native.Nat.{ℕ, _*_, _<_}
 use Rattle.build_key.proofs.arrange.arrange.Statement.{statement}
 use Rattle.build_key.proofs.arrange.arrange.Tie as tie
 
@@ -32,11 +32,11 @@ in-loop-from-slice-known7 c = in-loop-from-try-column (try-column-from-slice-kno
 
 loop-holds : tie.Need-loop-holds Inv-loop μ-loop
 loop-holds c =
-    arrange-none _ _ (c .before .before .before .pre .0) (c .before .before .before .pre .1 .1 .0)
+    arrange-none _ _ (c .before .before .before .pre .grid) (c .before .before .before .pre .is-order)
 
 facts : (c : tie.In-loop Inv-loop μ-loop) →
     Facts (c .before .loop .left) (c .before .loop .j) (length (now (c .before .before .before .before .before .args .order))) (c .before .loop .order)
-facts c = turn-facts (c .before .loop .inv) (start-from-in-loop c .pre .1 .1 .1) (omega arith)
+facts c = turn-facts (c .before .loop .inv) (start-from-in-loop c .pre .rank-full) (omega arith)
 
 sub-left : tie.Need-sub-left Inv-loop μ-loop
 sub-left c =
@@ -74,11 +74,17 @@ try-column-requires c κs =
     let start = at-loop .before .before .before .before in
     let a = start .args in
     let l = at-loop .loop in
-    let f = facts (in-loop) in
+    let f = facts in-loop in
     let h : c .before .before .before .column .result < 64 * a .w =
     subst (λ (z : ℕ). z < 64 * a .w) (sym (c .before .before .before .column .ensures))
-    (col-below (a .half) (a .hw) (a .w) (getD (l .order) (l .j) 0) (omega arith) (omega arith) (omega arith)) in
-    (l .inv .rows, (omega (arith, l .inv .rows .size), h, omega arith, omega arith, omega arith))
+    (col-below (a .half) (a .hw) (a .w) (getD (l .order) (l .j) 0) (omega arith) (omega arith) (omega arith)) in record {
+      grid = l .inv .rows;
+      small = omega (arith, l .inv .rows .size);
+      column = h;
+      row-next = omega arith;
+      to = omega arith;
+      from = omega arith;
+    }
 
 loop-less : tie.Need-loop-less Inv-loop μ-loop
 loop-less c =
@@ -92,7 +98,7 @@ loop-again c =
     let in-loop = after-column .before .before in
     let at-loop = in-loop .before in
     let l = at-loop .loop in
-    let f = facts (in-loop) in
+    let f = facts in-loop in
     let e = after-try-column .try-column .ensures in
     arrange-turn (arrange-some (l .inv) (f .some)) (omega arith) _ (after-column .column .ensures) (e .0) (e .1 .0) (e .1 .1)
 

@@ -33,40 +33,43 @@ start-from-after-loop c = c .before .before .before .before .before .before
 
 loop-holds : tie.Need-loop-holds Inv-loop μ-loop
 loop-holds c =
-    (omega arith, c .before .before .before .before .pre .1 .0)
+    (omega arith, c .before .before .before .before .pre .nothing-put)
 
 mul-trit-at : tie.Need-mul-trit-at Inv-loop μ-loop
 mul-trit-at c =
     let s = start-from-in-loop c in
     let a = s .args in
     let h = row-le (a .w) {i = c .before .loop .i} {m = a .rows} (omega arith) in
-    omega (arith, h, s .pre .0 .size, s .pre .0 .row .same)
+    omega (arith, h, s .pre .grid .size, s .pre .grid .row .same)
 
 mul-trit-at-2 : tie.Need-mul-trit-at-2 Inv-loop μ-loop
 mul-trit-at-2 c =
     let s = start-from-in-loop c in
     let a = s .args in
     let h = row-le (a .w) {i = c .before .loop .i} {m = a .rows} (omega arith) in
-    omega (arith, h, s .pre .0 .size, s .pre .0 .row .same)
+    omega (arith, h, s .pre .grid .size, s .pre .grid .row .same)
 
 add-trit-at : tie.Need-add-trit-at Inv-loop μ-loop
 add-trit-at c =
     let s = start-from-in-loop c in
     let a = s .args in
     let h = row-le (a .w) {i = c .before .loop .i} {m = a .rows} (omega arith) in
-    omega (arith, h, s .pre .0 .size, s .pre .0 .row .same)
+    omega (arith, h, s .pre .grid .size, s .pre .grid .row .same)
 
 trit-at-requires : tie.Need-trit-at-requires Inv-loop μ-loop
 trit-at-requires c κs =
     let s = start-from-in-loop c in
     let a = s .args in
     let h = row-le (a .w) {i = c .before .loop .i} {m = a .rows} (omega arith) in
-    (s .pre .0 .row .same, omega (arith, h, s .pre .0 .size))
+    (s .pre .grid .row .same, omega (arith, h, s .pre .grid .size))
 
 put-trit-requires : tie.Need-put-trit-requires Inv-loop μ-loop
 put-trit-requires c κs =
-    let l = c .before .before .before .before .loop in
-    (l .inv .1 .row, (omega (arith, l .inv .1 .size), read-lt _ _ _ _ (c .before .before .trit-at .ensures)))
+    let l = c .before .before .before .before .loop in record {
+      row = l .inv .1 .row;
+      place = omega (arith, l .inv .1 .size);
+      trit = read-lt _ _ _ _ (c .before .before .trit-at .ensures);
+    }
 
 add-i : tie.Need-add-i Inv-loop μ-loop
 add-i c = omega arith
@@ -84,7 +87,7 @@ loop-again c =
     let l = at-loop .loop in (
       omega arith,
       column-turn (column (matrixAt (a .w) (now (a .ones)) (now (a .twos))) (a .c)) (l .i) (after-trit-at .trit-at .result) (l .inv .1)
-          (read-column (a .w) (now (a .ones)) (now (a .twos)) (l .i) (a .c) _ (s .pre .1 .1 .1) (after-trit-at .trit-at .ensures))
+          (read-column (a .w) (now (a .ones)) (now (a .twos)) (l .i) (a .c) _ (s .pre .column) (after-trit-at .trit-at .ensures))
           (after-put-trit .put-trit .ensures),
     )
 
@@ -94,7 +97,7 @@ same-length c =
 
 same-length-2 : tie.Need-same-length-2 Inv-loop μ-loop
 same-length-2 c =
-    omega (arith, c .before .loop .inv .1 .size, c .before .loop .inv .1 .row .same, start-from-after-loop c .pre .1 .0 .row .same)
+    omega (arith, c .before .loop .inv .1 .size, c .before .loop .inv .1 .row .same, start-from-after-loop c .pre .nothing-put .row .same)
 
 returns : tie.Need-returns Inv-loop μ-loop
 returns c =

@@ -52,7 +52,7 @@ loop-holds : tie.Need-loop-holds Inv-loop μ-loop
 loop-holds c =
     let s = start-from-slice-known2 c in
     let a = s .args in (
-      (omega arith, s .pre .1 .1 .1 .2, s .pre .1 .1 .1 .3),
+      (omega arith, s .pre .ones-size, s .pre .twos-size),
       rows-none (onesRow (a .rows) (a .half) (a .hw) (matrixAt (a .w) (now (a .ones)) (now (a .twos))) (now (a .order)) (a .kw)) (a .kw)
           (ones-size (a .rows) (a .half) (a .hw) (matrixAt (a .w) (now (a .ones)) (now (a .twos))) (now (a .order)) (a .kw)) (now (a .ko)),
       rows-none (twosRow (a .rows) (a .half) (a .hw) (matrixAt (a .w) (now (a .ones)) (now (a .twos))) (now (a .order)) (a .kw)) (a .kw)
@@ -77,9 +77,12 @@ column-requires c κs =
     let s = start-from-in-loop (c .before) in
     let a = s .args in
     let l = c .before .before .loop in
-    let q = order-good (length (now (a .order))) (now (a .order)) (s .pre .1 .1 .0) .1 (getD (now (a .order)) (a .rows + l .i) 0)
-    (elem-at (now (a .order)) (a .rows + l .i) (omega arith)) in
-    (s .pre .1 .0 .1, omega (arith, q, s .pre .1 .0 .3), s .pre .1 .0 .4)
+    let q = order-good (length (now (a .order))) (now (a .order)) (s .pre .is-order) .1 (getD (now (a .order)) (a .rows + l .i) 0)
+    (elem-at (now (a .order)) (a .rows + l .i) (omega arith)) in record {
+      half-fits = s .pre .half-fits;
+      place = omega (arith, q, s .pre .places-fit);
+      small = s .pre .half-small;
+    }
 
 mul-a : tie.Need-mul-a Inv-loop μ-loop
 mul-a c =
@@ -156,12 +159,17 @@ write-row-requires c κs =
     let k = l .i * a .kw + a .kw - l .i * a .kw in
     let lo = length-mid (l .i * a .kw) k (l .ko) (omega (arith, h, l .inv .0 .1)) in
     let lt = length-mid (l .i * a .kw) k (l .kt) (omega (arith, h, l .inv .0 .2)) in
-    let q = order-good (length (now (a .order))) (now (a .order)) (s .pre .1 .1 .0) .1 (getD (now (a .order)) (a .rows + l .i) 0)
+    let q = order-good (length (now (a .order))) (now (a .order)) (s .pre .is-order) .1 (getD (now (a .order)) (a .rows + l .i) 0)
     (elem-at (now (a .order)) (a .rows + l .i) (omega arith)) in
     let z : c .before .before .column .result < 64 * a .w =
     subst (λ (z : ℕ). z < 64 * a .w) (sym (c .before .before .column .ensures))
-    (col-below (a .half) (a .hw) (a .w) (getD (now (a .order)) (a .rows + l .i) 0) (s .pre .1 .0 .1) (s .pre .1 .0 .2) (omega (arith, q, s .pre .1 .0 .3))) in
-    (s .pre .0, (s .pre .1 .0 .0, z, omega (arith, lo, s .pre .1 .1 .1 .1), omega (arith, lo, lt)))
+    (col-below (a .half) (a .hw) (a .w) (getD (now (a .order)) (a .rows + l .i) 0) (s .pre .half-fits) (s .pre .words) (omega (arith, q, s .pre .places-fit))) in record {
+      grid = s .pre .grid;
+      small = s .pre .small;
+      column = z;
+      room = omega (arith, lo, s .pre .room);
+      twos-size = omega (arith, lo, lt);
+    }
 
 add-i : tie.Need-add-i Inv-loop μ-loop
 add-i c = omega arith
@@ -191,11 +199,11 @@ loop-again c =
 
 same-length : tie.Need-same-length Inv-loop μ-loop
 same-length c =
-    omega (arith, c .before .loop .inv .0 .1, start-from-after-loop c .pre .1 .1 .1 .2)
+    omega (arith, c .before .loop .inv .0 .1, start-from-after-loop c .pre .ones-size)
 
 same-length-2 : tie.Need-same-length-2 Inv-loop μ-loop
 same-length-2 c =
-    omega (arith, c .before .loop .inv .0 .2, start-from-after-loop c .pre .1 .1 .1 .3)
+    omega (arith, c .before .loop .inv .0 .2, start-from-after-loop c .pre .twos-size)
 
 returns : tie.Need-returns Inv-loop μ-loop
 returns c =
@@ -203,9 +211,9 @@ returns c =
     let a = s .args in
     let l = c .before .loop in (
       key-ones (a .rows) (a .half) (a .hw) (matrixAt (a .w) (now (a .ones)) (now (a .twos))) (now (a .order)) (a .kw) (l .i) (a .k) (now (a .ko)) (l .inv .1)
-          (omega arith) (s .pre .1 .1 .1 .2),
+          (omega arith) (s .pre .ones-size),
       key-twos (a .rows) (a .half) (a .hw) (matrixAt (a .w) (now (a .ones)) (now (a .twos))) (now (a .order)) (a .kw) (l .i) (a .k) (now (a .kt)) (l .inv .2)
-          (omega arith) (s .pre .1 .1 .1 .3),
+          (omega arith) (s .pre .twos-size),
     )
 
 pub write-key-spec : {M : Type 1} → statement M

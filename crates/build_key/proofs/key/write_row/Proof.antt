@@ -36,13 +36,13 @@ put-column-requires c κs =
     let s = start-from-zero-words after-zero-words in
     let a = s .args in
     let e = after-zero-words .zero-words .ensures in
-    let n = ap length e ∙ length-zeros (length (now (a .ko))) in (
-      s .pre .0,
-      (
-        zeros-hold (column (matrixAt (a .w) (now (a .ones)) (now (a .twos))) (a .c)) e (after-zero-words2 .zero-words2 .ensures) (s .pre .1 .3),
-        (s .pre .1 .0, s .pre .1 .1, omega (arith, n, s .pre .1 .2)),
-      ),
-    )
+    let n = ap length e ∙ length-zeros (length (now (a .ko))) in record {
+      grid = s .pre .grid;
+      nothing-put = zeros-hold (column (matrixAt (a .w) (now (a .ones)) (now (a .twos))) (a .c)) e (after-zero-words2 .zero-words2 .ensures) (s .pre .twos-size);
+      small = s .pre .small;
+      column = s .pre .column;
+      room = omega (arith, n, s .pre .room);
+    }
 
 same-length : tie.Need-same-length
 same-length c = search needs

@@ -3,7 +3,6 @@
 use Prim.Native.Nat.{_-_, _≤_}
 use mathlib.Core.Path.{ap}
 use native.Mathlib.Omega.{arith}
-use borrow.Author.Needs.{needs}
 use denote.Ref.{now}
 use Rattle.trits.specs.Planes.{tritAt}
 use Rattle.trits.specs.Rows.{matrixAt}
@@ -61,26 +60,26 @@ loop-holds c =
     let s = start-from-shared-slice-known6 c in
     let a = s .args in (
       omega arith,
-      grid-of (s .pre .0) (halves-none 0 (leftU (matrixAt (a .w) (now (a .ho)) (now (a .ht))) (tritAt (now (a .bo)) (now (a .bt)))
+      grid-of (s .pre .grid) (halves-none 0 (leftU (matrixAt (a .w) (now (a .ho)) (now (a .ht))) (tritAt (now (a .bo)) (now (a .bt)))
           (tritAt (now (a .co)) (now (a .ct)))) (rightU (matrixAt (a .w) (now (a .ho)) (now (a .ht))) (tritAt (now (a .bo)) (now (a .bt))))
           (matrixAt (a .w) (now (a .ones)) (now (a .twos)))),
     )
 
 row-part-requires : tie.Need-row-part-requires Inv-loop μ-loop
 row-part-requires c κs =
-    let p = start-from-in-loop c .pre .1 .1 .1 in
-    (p .4, p .5)
+    let p = start-from-in-loop c .pre in
+    (p .h-few, p .narrow)
 
 row-part-requires-2 : tie.Need-row-part-requires-2 Inv-loop μ-loop
 row-part-requires-2 c κs =
-    let p = start-from-row-part c .pre .1 .1 .1 in
-    (p .4, p .5)
+    let p = start-from-row-part c .pre in
+    (p .h-few, p .narrow)
 
 add-put-scaled : tie.Need-add-put-scaled Inv-loop μ-loop
 add-put-scaled c =
     let in-loop = c .before .before .before .before in
     let start = start-from-in-loop in-loop in
-    omega (arith, in-loop .loop-test .taken, start .pre .1 .1 .1 .0, start .pre .1 .1 .1 .1)
+    omega (arith, in-loop .loop-test .taken, start .pre .room, start .pre .few)
 
 put-scaled-requires : tie.Need-put-scaled-requires Inv-loop μ-loop
 put-scaled-requires c κs =
@@ -90,28 +89,31 @@ put-scaled-requires c κs =
     let a = s .args in
     let l = at-loop .loop in
     let h = in-loop .loop-test .taken in
-    let m = s .pre .1 .1 .1 .0 in
+    let m = s .pre .room in
     let e = c .before .before .before .row-part .ensures in
     let f = c .before .before .row-part2 .ensures in
-    let g = s .pre .1 .0 in (
-      l .inv .1 .rows,
-      (
-        (handed-row (a .ru) (a .w) (l .i) g h e f, s .pre .1 .1 .0 .0, s .pre .1 .1 .0 .1),
-        (omega arith, handed-size (a .ru) (a .w) (l .i) g h e f, s .pre .1 .1 .1 .2, s .pre .1 .1 .1 .3),
-      ),
-    )
+    let g = s .pre .h-grid in record {
+      grid = l .inv .1 .rows;
+      h-row = handed-row (a .ru) (a .w) (l .i) g h e f;
+      b-row = s .pre .b-row;
+      c-row = s .pre .c-row;
+      j-in = omega arith;
+      h-size = handed-size (a .ru) (a .w) (l .i) g h e f;
+      b-size = s .pre .b-size;
+      c-size = s .pre .c-size;
+    }
 
 add-put-negative : tie.Need-add-put-negative Inv-loop μ-loop
 add-put-negative c =
     let in-loop = in-loop-from-put-negative-arg2 c in
     let start = start-from-in-loop in-loop in
-    omega (arith, in-loop .loop-test .taken, start .pre .1 .1 .1 .0, start .pre .1 .1 .1 .1)
+    omega (arith, in-loop .loop-test .taken, start .pre .room, start .pre .few)
 
 add-put-negative-2 : tie.Need-add-put-negative-2 Inv-loop μ-loop
 add-put-negative-2 c =
     let in-loop = in-loop-from-put-negative-arg2 c in
     let start = start-from-in-loop in-loop in
-    omega (arith, in-loop .loop-test .taken, start .pre .1 .1 .1 .0, start .pre .1 .1 .1 .1)
+    omega (arith, in-loop .loop-test .taken, start .pre .room, start .pre .few)
 
 put-negative-requires : tie.Need-put-negative-requires Inv-loop μ-loop
 put-negative-requires c κs =
@@ -124,25 +126,29 @@ put-negative-requires c κs =
     let a = s .args in
     let l = at-loop .loop in
     let h = in-loop .loop-test .taken in
-    let m = s .pre .1 .1 .1 .0 in
+    let m = s .pre .room in
     let e = after-row-part .row-part .ensures in
     let f = after-row-part2 .row-part2 .ensures in
-    let g = s .pre .1 .0 in (
-      after-put-scaled .put-scaled .ensures .rows,
-      ((handed-row (a .ru) (a .w) (l .i) g h e f, s .pre .1 .1 .0 .0), (omega arith, handed-size (a .ru) (a .w) (l .i) g h e f, s .pre .1 .1 .1 .2)),
-    )
+    let g = s .pre .h-grid in record {
+      grid = after-put-scaled .put-scaled .ensures .rows;
+      h-row = handed-row (a .ru) (a .w) (l .i) g h e f;
+      v-row = s .pre .b-row;
+      j-in = omega arith;
+      h-size = handed-size (a .ru) (a .w) (l .i) g h e f;
+      v-size = s .pre .b-size;
+    }
 
 add-i : tie.Need-add-i Inv-loop μ-loop
 add-i c =
     let in-loop = in-loop-from-put-negative (c .before .before .before .before) in
     let start = start-from-in-loop in-loop in
-    omega (arith, in-loop .loop-test .taken, start .pre .1 .1 .1 .0, start .pre .1 .1 .1 .1)
+    omega (arith, in-loop .loop-test .taken, start .pre .room, start .pre .few)
 
 loop-less : tie.Need-loop-less Inv-loop μ-loop
 loop-less c =
     let in-loop = in-loop-from-put-negative (c .before .before .before .before) in
     let start = start-from-in-loop in-loop in
-    omega (arith, in-loop .loop-test .taken, start .pre .1 .1 .1 .0, start .pre .1 .1 .1 .1)
+    omega (arith, in-loop .loop-test .taken, start .pre .room, start .pre .few)
 
 loop-again : tie.Need-loop-again Inv-loop μ-loop
 loop-again c =
@@ -156,10 +162,10 @@ loop-again c =
     let a = s .args in
     let l = at-loop .loop in
     let h = in-loop .loop-test .taken in
-    let m = s .pre .1 .1 .1 .0 in
+    let m = s .pre .room in
     let e = after-row-part .row-part .ensures in
     let f = after-row-part2 .row-part2 .ensures in
-    let g = s .pre .1 .0 in
+    let g = s .pre .h-grid in
     let t = handed-trits (a .ru) (a .w) (l .i) g h e f in (
       omega arith,
       halves-turn 0 (leftU (matrixAt (a .w) (now (a .ho)) (now (a .ht))) (tritAt (now (a .bo)) (now (a .bt))) (tritAt (now (a .co)) (now (a .ct))))
@@ -171,12 +177,12 @@ loop-again c =
 
 same-length : tie.Need-same-length Inv-loop μ-loop
 same-length c =
-    omega (arith, c .before .loop .inv .1 .rows .size, start-from-after-loop c .pre .0 .size)
+    omega (arith, c .before .loop .inv .1 .rows .size, start-from-after-loop c .pre .grid .size)
 
 same-length-2 : tie.Need-same-length-2 Inv-loop μ-loop
 same-length-2 c =
     let start = start-from-after-loop c in
-    omega (arith, c .before .loop .inv .1 .rows .size, start .pre .0 .size, c .before .loop .inv .1 .rows .row .same, start .pre .0 .row .same)
+    omega (arith, c .before .loop .inv .1 .rows .size, start .pre .grid .size, c .before .loop .inv .1 .rows .row .same, start .pre .grid .row .same)
 
 returns : tie.Need-returns Inv-loop μ-loop
 returns c =

@@ -28,20 +28,23 @@ copy-words2-from-mul-row c = c .before .before .before .before .before
 
 copy-words-requires : tie.Need-copy-words-requires
 copy-words-requires c κs =
-    start-from-copy-words-arg c .pre .1 .0
+    start-from-copy-words-arg c .pre .h-size
 
 copy-words-requires-2 : tie.Need-copy-words-requires-2
 copy-words-requires-2 c κs =
     let s = start-from-copy-words (c .before .before .before) in
-    s .pre .0 .0 .same ∙ s .pre .1 .0 ∙ s .pre .1 .1
+    s .pre .h-row .same ∙ s .pre .h-size ∙ s .pre .twos-size
 
 mul-row-requires : tie.Need-mul-row-requires
 mul-row-requires c κs =
     let after-copy-words2 = c .before .before .before .before in
     let after-copy-words = after-copy-words2 .before .before .before .before in
     let s = start-from-copy-words after-copy-words in
-    let e = after-copy-words .copy-words .ensures in
-    (copied-row e (after-copy-words2 .copy-words2 .ensures) (s .pre .0 .0), (s .pre .0 .1, s .pre .1 .2 ∙ sym (s .pre .1 .0) ∙ sym (ap length e)))
+    let e = after-copy-words .copy-words .ensures in record {
+      row = copied-row e (after-copy-words2 .copy-words2 .ensures) (s .pre .h-row);
+      source = s .pre .v-row;
+      size = s .pre .v-size ∙ sym (s .pre .h-size) ∙ sym (ap length e);
+    }
 
 negate-row-requires : tie.Need-negate-row-requires
 negate-row-requires c κs =
@@ -61,7 +64,7 @@ returns c =
     let after-copy-words = after-copy-words2 .before .before .before .before in
     let s = start-from-copy-words after-copy-words in
     negative-done (tritAt (now (s .args .vo)) (now (s .args .vt))) (after-copy-words .copy-words .ensures) (after-copy-words2 .copy-words2 .ensures)
-    (s .pre .1 .0) (after-mul-row .mul-row .ensures) (after-negate-row .negate-row .ensures)
+    (s .pre .h-size) (after-mul-row .mul-row .ensures) (after-negate-row .negate-row .ensures)
 
 pub negative-spec : {M : Type 1} → statement M
 negative-spec =

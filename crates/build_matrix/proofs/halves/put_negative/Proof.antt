@@ -29,19 +29,19 @@ mul-a : tie.Need-mul-a
 mul-a c =
     let s = start-from-shared-slice-known4 c in
     let a = s .args in
-    omega (arith, row-le (a .w) {i = a .j} {m = a .rows} (s .pre .1 .1 .0), s .pre .0 .size, s .pre .0 .row .same)
+    omega (arith, row-le (a .w) {i = a .j} {m = a .rows} (s .pre .j-in), s .pre .grid .size, s .pre .grid .row .same)
 
 add-e : tie.Need-add-e
 add-e c =
     let s = start-from-shared-slice-known4 c in
     let a = s .args in
-    omega (arith, row-le (a .w) {i = a .j} {m = a .rows} (s .pre .1 .1 .0), s .pre .0 .size, s .pre .0 .row .same)
+    omega (arith, row-le (a .w) {i = a .j} {m = a .rows} (s .pre .j-in), s .pre .grid .size, s .pre .grid .row .same)
 
 mul-negative : tie.Need-mul-negative
 mul-negative c =
     let s = start-from-shared-slice-known4 c in
     let a = s .args in
-    omega (arith, row-le (a .w) {i = a .j} {m = a .rows} (s .pre .1 .1 .0), s .pre .0 .size, s .pre .0 .row .same)
+    omega (arith, row-le (a .w) {i = a .j} {m = a .rows} (s .pre .j-in), s .pre .grid .size, s .pre .grid .row .same)
 
 sub-negative : tie.Need-sub-negative
 sub-negative c = search needs
@@ -53,13 +53,13 @@ part-negative-end : tie.Need-part-negative-end
 part-negative-end c =
     let s = start-from-shared-slice-known4 c in
     let a = s .args in
-    omega (arith, row-le (a .w) {i = a .j} {m = a .rows} (s .pre .1 .1 .0), s .pre .0 .size, s .pre .0 .row .same)
+    omega (arith, row-le (a .w) {i = a .j} {m = a .rows} (s .pre .j-in), s .pre .grid .size, s .pre .grid .row .same)
 
 mul-negative-2 : tie.Need-mul-negative-2
 mul-negative-2 c =
     let s = start-from-negative-arg c in
     let a = s .args in
-    omega (arith, row-le (a .w) {i = a .j} {m = a .rows} (s .pre .1 .1 .0), s .pre .0 .size, s .pre .0 .row .same)
+    omega (arith, row-le (a .w) {i = a .j} {m = a .rows} (s .pre .j-in), s .pre .grid .size, s .pre .grid .row .same)
 
 sub-negative-2 : tie.Need-sub-negative-2
 sub-negative-2 c = search needs
@@ -71,17 +71,22 @@ part-negative-end-2 : tie.Need-part-negative-end-2
 part-negative-end-2 c =
     let s = start-from-negative-arg c in
     let a = s .args in
-    omega (arith, row-le (a .w) {i = a .j} {m = a .rows} (s .pre .1 .1 .0), s .pre .0 .size, s .pre .0 .row .same)
+    omega (arith, row-le (a .w) {i = a .j} {m = a .rows} (s .pre .j-in), s .pre .grid .size, s .pre .grid .row .same)
 
 negative-requires : tie.Need-negative-requires
 negative-requires c κs =
     let s = start-from-negative-arg2 c in
     let a = s .args in
     let k = a .j * a .w + a .w - a .j * a .w in
-    let h = row-le (a .w) {i = a .j} {m = a .rows} (s .pre .1 .1 .0) in
-    let lo = length-mid (a .j * a .w) k (now (a .ones)) (omega (arith, h, s .pre .0 .size)) in
-    let lt = length-mid (a .j * a .w) k (now (a .twos)) (omega (arith, h, s .pre .0 .size, s .pre .0 .row .same)) in
-    ((s .pre .1 .0 .0, s .pre .1 .0 .1), (omega (arith, lo, s .pre .1 .1 .1), omega (arith, lo, lt), omega (arith, lo, s .pre .1 .1 .2)))
+    let h = row-le (a .w) {i = a .j} {m = a .rows} (s .pre .j-in) in
+    let lo = length-mid (a .j * a .w) k (now (a .ones)) (omega (arith, h, s .pre .grid .size)) in
+    let lt = length-mid (a .j * a .w) k (now (a .twos)) (omega (arith, h, s .pre .grid .size, s .pre .grid .row .same)) in record {
+      h-row = s .pre .h-row;
+      v-row = s .pre .v-row;
+      h-size = omega (arith, lo, s .pre .h-size);
+      twos-size = omega (arith, lo, lt);
+      v-size = omega (arith, lo, s .pre .v-size);
+    }
 
 same-length : tie.Need-same-length
 same-length c = search needs
@@ -95,12 +100,12 @@ returns c =
     let s = start-from-negative after-negative in
     let a = s .args in
     let k = a .j * a .w + a .w - a .j * a .w in
-    let h = row-le (a .w) {i = a .j} {m = a .rows} (s .pre .1 .1 .0) in
-    let lo = length-mid (a .j * a .w) k (now (a .ones)) (omega (arith, h, s .pre .0 .size)) in
-    let lt = length-mid (a .j * a .w) k (now (a .twos)) (omega (arith, h, s .pre .0 .size, s .pre .0 .row .same)) in
-    put-grid (a .w) (a .j) (s .pre .0) (s .pre .1 .1 .0) k (omega arith) lo (after-negative .negative .ensures)
+    let h = row-le (a .w) {i = a .j} {m = a .rows} (s .pre .j-in) in
+    let lo = length-mid (a .j * a .w) k (now (a .ones)) (omega (arith, h, s .pre .grid .size)) in
+    let lt = length-mid (a .j * a .w) k (now (a .twos)) (omega (arith, h, s .pre .grid .size, s .pre .grid .row .same)) in
+    put-grid (a .w) (a .j) (s .pre .grid) (s .pre .j-in) k (omega arith) lo (after-negative .negative .ensures)
     (λ q l. negative-past (tritAt (now (a .vo)) (now (a .vt))) (tritAt (now (a .ho)) (now (a .ht))) q
-    (past-words (a .w) (s .pre .1 .0 .0) (s .pre .1 .1 .1) q l))
+    (past-words (a .w) (s .pre .h-row) (s .pre .h-size) q l))
 
 pub put-negative-spec : {M : Type 1} → statement M
 put-negative-spec =

@@ -29,19 +29,19 @@ mul-a : tie.Need-mul-a
 mul-a c =
     let s = start-from-shared-slice-known6 c in
     let a = s .args in
-    omega (arith, row-le (a .w) {i = a .j} {m = a .rows} (s .pre .1 .1 .0), s .pre .0 .size, s .pre .0 .row .same)
+    omega (arith, row-le (a .w) {i = a .j} {m = a .rows} (s .pre .j-in), s .pre .grid .size, s .pre .grid .row .same)
 
 add-e : tie.Need-add-e
 add-e c =
     let s = start-from-shared-slice-known6 c in
     let a = s .args in
-    omega (arith, row-le (a .w) {i = a .j} {m = a .rows} (s .pre .1 .1 .0), s .pre .0 .size, s .pre .0 .row .same)
+    omega (arith, row-le (a .w) {i = a .j} {m = a .rows} (s .pre .j-in), s .pre .grid .size, s .pre .grid .row .same)
 
 mul-scaled : tie.Need-mul-scaled
 mul-scaled c =
     let s = start-from-shared-slice-known6 c in
     let a = s .args in
-    omega (arith, row-le (a .w) {i = a .j} {m = a .rows} (s .pre .1 .1 .0), s .pre .0 .size, s .pre .0 .row .same)
+    omega (arith, row-le (a .w) {i = a .j} {m = a .rows} (s .pre .j-in), s .pre .grid .size, s .pre .grid .row .same)
 
 sub-scaled : tie.Need-sub-scaled
 sub-scaled c = search needs
@@ -53,13 +53,13 @@ part-scaled-end : tie.Need-part-scaled-end
 part-scaled-end c =
     let s = start-from-shared-slice-known6 c in
     let a = s .args in
-    omega (arith, row-le (a .w) {i = a .j} {m = a .rows} (s .pre .1 .1 .0), s .pre .0 .size, s .pre .0 .row .same)
+    omega (arith, row-le (a .w) {i = a .j} {m = a .rows} (s .pre .j-in), s .pre .grid .size, s .pre .grid .row .same)
 
 mul-scaled-2 : tie.Need-mul-scaled-2
 mul-scaled-2 c =
     let s = start-from-scaled-arg c in
     let a = s .args in
-    omega (arith, row-le (a .w) {i = a .j} {m = a .rows} (s .pre .1 .1 .0), s .pre .0 .size, s .pre .0 .row .same)
+    omega (arith, row-le (a .w) {i = a .j} {m = a .rows} (s .pre .j-in), s .pre .grid .size, s .pre .grid .row .same)
 
 sub-scaled-2 : tie.Need-sub-scaled-2
 sub-scaled-2 c = search needs
@@ -71,19 +71,24 @@ part-scaled-end-2 : tie.Need-part-scaled-end-2
 part-scaled-end-2 c =
     let s = start-from-scaled-arg c in
     let a = s .args in
-    omega (arith, row-le (a .w) {i = a .j} {m = a .rows} (s .pre .1 .1 .0), s .pre .0 .size, s .pre .0 .row .same)
+    omega (arith, row-le (a .w) {i = a .j} {m = a .rows} (s .pre .j-in), s .pre .grid .size, s .pre .grid .row .same)
 
 scaled-requires : tie.Need-scaled-requires
 scaled-requires c κs =
     let s = start-from-scaled-arg2 c in
     let a = s .args in
     let k = a .j * a .w + a .w - a .j * a .w in
-    let h = row-le (a .w) {i = a .j} {m = a .rows} (s .pre .1 .1 .0) in
-    let lo = length-mid (a .j * a .w) k (now (a .ones)) (omega (arith, h, s .pre .0 .size)) in
-    let lt = length-mid (a .j * a .w) k (now (a .twos)) (omega (arith, h, s .pre .0 .size, s .pre .0 .row .same)) in (
-      (s .pre .1 .0 .0, s .pre .1 .0 .1, s .pre .1 .0 .2),
-      (omega (arith, lo, s .pre .1 .1 .1), omega (arith, lo, lt), omega (arith, lo, s .pre .1 .1 .2), omega (arith, lo, s .pre .1 .1 .3)),
-    )
+    let h = row-le (a .w) {i = a .j} {m = a .rows} (s .pre .j-in) in
+    let lo = length-mid (a .j * a .w) k (now (a .ones)) (omega (arith, h, s .pre .grid .size)) in
+    let lt = length-mid (a .j * a .w) k (now (a .twos)) (omega (arith, h, s .pre .grid .size, s .pre .grid .row .same)) in record {
+      h-row = s .pre .h-row;
+      b-row = s .pre .b-row;
+      c-row = s .pre .c-row;
+      h-size = omega (arith, lo, s .pre .h-size);
+      twos-size = omega (arith, lo, lt);
+      b-size = omega (arith, lo, s .pre .b-size);
+      c-size = omega (arith, lo, s .pre .c-size);
+    }
 
 same-length : tie.Need-same-length
 same-length c = search needs
@@ -97,12 +102,12 @@ returns c =
     let s = start-from-scaled after-scaled in
     let a = s .args in
     let k = a .j * a .w + a .w - a .j * a .w in
-    let h = row-le (a .w) {i = a .j} {m = a .rows} (s .pre .1 .1 .0) in
-    let lo = length-mid (a .j * a .w) k (now (a .ones)) (omega (arith, h, s .pre .0 .size)) in
-    let lt = length-mid (a .j * a .w) k (now (a .twos)) (omega (arith, h, s .pre .0 .size, s .pre .0 .row .same)) in
-    put-grid (a .w) (a .j) (s .pre .0) (s .pre .1 .1 .0) k (omega arith) lo (after-scaled .scaled .ensures)
+    let h = row-le (a .w) {i = a .j} {m = a .rows} (s .pre .j-in) in
+    let lo = length-mid (a .j * a .w) k (now (a .ones)) (omega (arith, h, s .pre .grid .size)) in
+    let lt = length-mid (a .j * a .w) k (now (a .twos)) (omega (arith, h, s .pre .grid .size, s .pre .grid .row .same)) in
+    put-grid (a .w) (a .j) (s .pre .grid) (s .pre .j-in) k (omega arith) lo (after-scaled .scaled .ensures)
     (λ q l. scaled-past (tritAt (now (a .bo)) (now (a .bt))) (tritAt (now (a .co)) (now (a .ct))) (tritAt (now (a .ho)) (now (a .ht))) q
-    (past-words (a .w) (s .pre .1 .0 .0) (s .pre .1 .1 .1) q l))
+    (past-words (a .w) (s .pre .h-row) (s .pre .h-size) q l))
 
 pub put-scaled-spec : {M : Type 1} → statement M
 put-scaled-spec =

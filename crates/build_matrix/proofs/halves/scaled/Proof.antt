@@ -37,20 +37,23 @@ mul-row2-from-add-row c = c .before .before .before .before .before .before .bef
 
 copy-words-requires : tie.Need-copy-words-requires
 copy-words-requires c κs =
-    start-from-copy-words-arg c .pre .1 .0
+    start-from-copy-words-arg c .pre .h-size
 
 copy-words-requires-2 : tie.Need-copy-words-requires-2
 copy-words-requires-2 c κs =
     let s = start-from-copy-words (c .before .before .before) in
-    s .pre .0 .0 .same ∙ s .pre .1 .0 ∙ s .pre .1 .1
+    s .pre .h-row .same ∙ s .pre .h-size ∙ s .pre .twos-size
 
 mul-row-requires : tie.Need-mul-row-requires
 mul-row-requires c κs =
     let after-copy-words2 = c .before .before .before .before in
     let after-copy-words = after-copy-words2 .before .before .before .before in
     let s = start-from-copy-words after-copy-words in
-    let e = after-copy-words .copy-words .ensures in
-    (copied-row e (after-copy-words2 .copy-words2 .ensures) (s .pre .0 .0), (s .pre .0 .1, s .pre .1 .2 ∙ sym (s .pre .1 .0) ∙ sym (ap length e)))
+    let e = after-copy-words .copy-words .ensures in record {
+      row = copied-row e (after-copy-words2 .copy-words2 .ensures) (s .pre .h-row);
+      source = s .pre .b-row;
+      size = s .pre .b-size ∙ sym (s .pre .h-size) ∙ sym (ap length e);
+    }
 
 mul-row-requires-2 : tie.Need-mul-row-requires-2
 mul-row-requires-2 c κs =
@@ -58,8 +61,11 @@ mul-row-requires-2 c κs =
     let after-copy-words = copy-words-from-mul-row after-mul-row in
     let s = start-from-copy-words after-copy-words in
     let e = after-copy-words .copy-words .ensures in
-    let m = after-mul-row .mul-row .ensures in
-    (m .row, (s .pre .0 .2, s .pre .1 .3 ∙ sym (s .pre .1 .0) ∙ sym (m .size ∙ ap length e)))
+    let m = after-mul-row .mul-row .ensures in record {
+      row = m .row;
+      source = s .pre .c-row;
+      size = s .pre .c-size ∙ sym (s .pre .h-size) ∙ sym (m .size ∙ ap length e);
+    }
 
 add-row-requires : tie.Need-add-row-requires
 add-row-requires c κs =
@@ -69,8 +75,11 @@ add-row-requires c κs =
     let s = start-from-copy-words after-copy-words in
     let e = after-copy-words .copy-words .ensures in
     let m = after-mul-row .mul-row .ensures in
-    let n = after-mul-row2 .mul-row2 .ensures in
-    (n .row, (s .pre .0 .0, sym (n .size ∙ m .size ∙ ap length e)))
+    let n = after-mul-row2 .mul-row2 .ensures in record {
+      row = n .row;
+      source = s .pre .h-row;
+      size = sym (n .size ∙ m .size ∙ ap length e);
+    }
 
 same-length : tie.Need-same-length
 same-length c = search needs
@@ -87,7 +96,7 @@ returns c =
     let after-copy-words = after-copy-words2 .before .before .before .before in
     let s = start-from-copy-words after-copy-words in
     let a = s .args in
-    scaled-done (tritAt (now (a .bo)) (now (a .bt))) (after-copy-words .copy-words .ensures) (after-copy-words2 .copy-words2 .ensures) (s .pre .1 .0)
+    scaled-done (tritAt (now (a .bo)) (now (a .bt))) (after-copy-words .copy-words .ensures) (after-copy-words2 .copy-words2 .ensures) (s .pre .h-size)
     (after-mul-row .mul-row .ensures)
     (tritAt (now (a .co)) (now (a .ct))) (after-mul-row2 .mul-row2 .ensures) (after-add-row .add-row .ensures)
 

@@ -24,19 +24,22 @@ copy-words2-from-eliminate c = c .before .before .before .before .before
 
 copy-words-requires : tie.Need-copy-words-requires
 copy-words-requires c κs =
-    start-from-copy-words-arg c .pre .1 .1 .0
+    start-from-copy-words-arg c .pre .work-ones
 
 copy-words-requires-2 : tie.Need-copy-words-requires-2
 copy-words-requires-2 c κs =
-    start-from-copy-words (c .before .before .before) .pre .1 .1 .1
+    start-from-copy-words (c .before .before .before) .pre .work-twos
 
 eliminate-requires : tie.Need-eliminate-requires
 eliminate-requires c κs =
     let after-copy-words2 = c .before .before .before .before in
     let after-copy-words = after-copy-words2 .before .before .before .before in
     let s = start-from-copy-words after-copy-words in
-    let e = after-copy-words .copy-words .ensures in
-    (copied-rows e (after-copy-words2 .copy-words2 .ensures) (s .pre .0), (omega (arith, ap length e, s .pre .1 .0 .0), s .pre .1 .0 .1))
+    let e = after-copy-words .copy-words .ensures in record {
+      grid = copied-rows e (after-copy-words2 .copy-words2 .ensures) (s .pre .grid);
+      small = omega (arith, ap length e, s .pre .small);
+      columns = s .pre .columns;
+    }
 
 same-length : tie.Need-same-length
 same-length c = search needs

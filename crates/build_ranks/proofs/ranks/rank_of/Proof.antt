@@ -36,9 +36,14 @@ rank-copied-requires c κs =
     let s = start-from-rank-copied-arg2 c in
     let a = s .args in
     let n = length (now (a .ones)) in
-    let lo = length-mid 0 (n - 0) (now (a .work-ones)) (omega (arith, s .pre .1 .1 .0)) in
-    let lt = length-mid 0 (n - 0) (now (a .work-twos)) (omega (arith, s .pre .1 .1 .1)) in
-    (s .pre .0, (s .pre .1 .0, (omega (arith, lo), omega (arith, lt, s .pre .0 .row .same))))
+    let lo = length-mid 0 (n - 0) (now (a .work-ones)) (omega (arith, s .pre .work-ones)) in
+    let lt = length-mid 0 (n - 0) (now (a .work-twos)) (omega (arith, s .pre .work-twos)) in record {
+      grid = s .pre .grid;
+      small = s .pre .small;
+      columns = s .pre .columns;
+      work-ones = omega (arith, lo);
+      work-twos = omega (arith, lt, s .pre .grid .row .same);
+    }
 
 same-length : tie.Need-same-length
 same-length c = search needs

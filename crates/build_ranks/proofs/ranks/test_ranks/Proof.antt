@@ -35,24 +35,24 @@ rank-of2-from-else2 c = c .before .before .before .before .before
 add-hw : tie.Need-add-hw
 add-hw c =
     let s = start-from-slice-known2 c in
-    let b = bounds (s .args .z) (s .pre .0) in omega (arith, b .high)
+    let b = bounds (s .args .z) (s .pre .sizes) in omega (arith, b .high)
 
 sub-ru : tie.Need-sub-ru
 sub-ru c =
     let s = start-from-slice-known2 c in
-    let b = bounds (s .args .z) (s .pre .0) in omega (arith, b .ku)
+    let b = bounds (s .args .z) (s .pre .sizes) in omega (arith, b .ku)
 
 rank-of-requires : tie.Need-rank-of-requires
 rank-of-requires c κs =
     let s = start-from-rank-of-arg2 c in
-    let p = products (s .args .z) (bounds (s .args .z) (s .pre .0)) in
-    let g = s .pre .1 .0 in (
-      g,
-      (
-        (omega (arith, g .size, p .u), omega arith),
-        (omega (arith, g .size, p .u-room, s .pre .1 .1 .1 .0), omega (arith, g .size, p .u-room, s .pre .1 .1 .1 .1)),
-      ),
-    )
+    let p = products (s .args .z) (bounds (s .args .z) (s .pre .sizes)) in
+    let g = s .pre .hu-grid in record {
+      grid = g;
+      small = omega (arith, g .size, p .u);
+      columns = omega arith;
+      work-ones = omega (arith, g .size, p .u-room, s .pre .work-ones);
+      work-twos = omega (arith, g .size, p .u-room, s .pre .work-twos);
+    }
 
 same-length : tie.Need-same-length
 same-length c = search needs
@@ -67,21 +67,21 @@ returns c =
 sub-rv : tie.Need-sub-rv
 sub-rv c =
     let s = start-from-else1 c in
-    let b = bounds (s .args .z) (s .pre .0) in omega (arith, b .kv)
+    let b = bounds (s .args .z) (s .pre .sizes) in omega (arith, b .kv)
 
 rank-of-requires-2 : tie.Need-rank-of-requires-2
 rank-of-requires-2 c κs =
     let s = start-from-else1 (c .before .before) in
-    let p = products (s .args .z) (bounds (s .args .z) (s .pre .0)) in
-    let u = s .pre .1 .0 in
-    let v = s .pre .1 .1 .0 in
-    let l = s .pre .1 .1 .1 in (
-      search needs,
-      (
-        (omega (arith, u .size, v .size, p .u, p .v), omega arith),
-        (omega (arith, u .size, v .size, p .u-room, p .v-room, l .0), omega (arith, u .size, v .size, p .u-room, p .v-room, l .1)),
-      ),
-    )
+    let p = products (s .args .z) (bounds (s .args .z) (s .pre .sizes)) in
+    let u = s .pre .hu-grid in
+    let v = s .pre .hv-grid in
+    let l = s .pre in record {
+      grid = search needs;
+      small = omega (arith, u .size, v .size, p .u, p .v);
+      columns = omega arith;
+      work-ones = omega (arith, u .size, v .size, p .u-room, p .v-room, l .work-ones);
+      work-twos = omega (arith, u .size, v .size, p .u-room, p .v-room, l .work-twos);
+    }
 
 same-length-3 : tie.Need-same-length-3
 same-length-3 c = search needs

@@ -22,17 +22,17 @@ shape-of-requires c κs = search needs
 add-rows : tie.Need-add-rows
 add-rows c =
     let s = start-from-shape-of (c .before) in
-    rw (c .before .shape-of .ensures) (omega (arith, bounds (s .args .z) (s .pre .0) .high))
+    rw (c .before .shape-of .ensures) (omega (arith, bounds (s .args .z) (s .pre .sizes) .high))
 
 add-rows-2 : tie.Need-add-rows-2
 add-rows-2 c =
     let s = start-from-shape-of (c .before .before) in
-    rw (c .before .before .shape-of .ensures) (omega (arith, bounds (s .args .z) (s .pre .0) .high))
+    rw (c .before .before .shape-of .ensures) (omega (arith, bounds (s .args .z) (s .pre .sizes) .high))
 
 add-rows-3 : tie.Need-add-rows-3
 add-rows-3 c =
     let s = start-from-shape-of (c .before .before) in
-    rw (c .before .before .shape-of .ensures) (omega (arith, bounds (s .args .z) (s .pre .0) .high))
+    rw (c .before .before .shape-of .ensures) (omega (arith, bounds (s .args .z) (s .pre .sizes) .high))
 
 zero-words-requires : tie.Need-zero-words-requires
 zero-words-requires c κs = search needs
@@ -46,13 +46,21 @@ fill-u-requires c κs =
     let after-zero-words = after-zero-words2 .before .before .before .before in
     let after-shape-of = after-zero-words .before .before .before .before in
     let s = start-from-shape-of after-shape-of in
-    let b = bounds (s .args .z) (s .pre .0) in
-    let r = s .pre .1 .0 in
-    let y = s .pre .1 .1 in
-    rw (after-shape-of .shape-of .ensures) (
-      zero-rows (s .args .z) _ _ (after-zero-words .zero-words .ensures) (after-zero-words2 .zero-words2 .ensures) (y .0) (y .1),
-      (r .hu, ((r .b, r .c), (omega arith, omega (arith, b .high), r .bSize, r .cSize, omega (arith, b .high), omega (arith, b .high)))),
-    )
+    let b = bounds (s .args .z) (s .pre .sizes) in
+    let r = s .pre .secret in
+    let y = s .pre in
+    rw (after-shape-of .shape-of .ensures) (record {
+      grid = zero-rows (s .args .z) _ _ (after-zero-words .zero-words .ensures) (after-zero-words2 .zero-words2 .ensures) (y .work-ones) (y .work-twos);
+      h-grid = r .hu;
+      b-row = r .b;
+      c-row = r .c;
+      room = omega arith;
+      few = omega (arith, b .high);
+      b-size = r .bSize;
+      c-size = r .cSize;
+      h-few = omega (arith, b .high);
+      narrow = omega (arith, b .high);
+    })
 
 fill-v-requires : tie.Need-fill-v-requires
 fill-v-requires c κs =
@@ -61,13 +69,19 @@ fill-v-requires c κs =
     let after-struct-known = after-zero-words-arg2 .before .before .before .before .before .before in
     let after-shape-of = after-struct-known .before in
     let s = start-from-shape-of after-shape-of in
-    let b = bounds (s .args .z) (s .pre .0) in
-    let r = s .pre .1 .0 in
+    let b = bounds (s .args .z) (s .pre .sizes) in
+    let r = s .pre .secret in
     let e = after-shape-of .shape-of .ensures in
-    rw e (
-      (rw e at (after-fill-u .fill-u .ensures)) .rows,
-      (r .hv, (r .c, (omega arith, omega (arith, b .high), r .cSize, omega (arith, b .high), omega (arith, b .high)))),
-    )
+    rw e (record {
+      grid = (rw e at (after-fill-u .fill-u .ensures)) .rows;
+      h-grid = r .hv;
+      c-row = r .c;
+      room = omega arith;
+      few = omega (arith, b .high);
+      c-size = r .cSize;
+      h-few = omega (arith, b .high);
+      narrow = omega (arith, b .high);
+    })
 
 same-length : tie.Need-same-length
 same-length c = search needs
@@ -88,7 +102,7 @@ returns c =
     let e = after-shape-of .shape-of .ensures in
     filled-done (a .z) (planes (now (a .hu-ones)) (now (a .hu-twos)) (now (a .hv-ones)) (now (a .hv-twos)) (now (a .b-ones)) (now (a .b-twos)) (now (a .c-ones))
     (now (a .c-twos))) _
-    (s .pre .1 .0) (rw e at (after-fill-u .fill-u .ensures)) (rw e at (after-fill-v .fill-v .ensures))
+    (s .pre .secret) (rw e at (after-fill-u .fill-u .ensures)) (rw e at (after-fill-v .fill-v .ensures))
 
 pub fill-matrix-spec : {M : Type 1} → statement M
 fill-matrix-spec =

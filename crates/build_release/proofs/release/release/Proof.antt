@@ -86,33 +86,38 @@ shape-of-requires c κs = search needs
 add-k : tie.Need-add-k
 add-k c =
     let s = start-from-shape-of c in
-    let b = bounds (s .args .z) (s .pre .0) in omega (arith, b .high, b .ku, b .kv)
+    let b = bounds (s .args .z) (s .pre .sizes) in omega (arith, b .high, b .ku, b .kv)
 
 add-rows : tie.Need-add-rows
 add-rows c =
     let s = start-from-shape-of (c .before) in
-    rw (c .before .shape-of .ensures) (omega (arith, bounds (s .args .z) (s .pre .0) .high))
+    rw (c .before .shape-of .ensures) (omega (arith, bounds (s .args .z) (s .pre .sizes) .high))
 
 add-kw : tie.Need-add-kw
 add-kw c =
     let s = start-from-shape-of (c .before) in
-    rw (c .before .shape-of .ensures) (omega (arith, bounds (s .args .z) (s .pre .0) .high))
+    rw (c .before .shape-of .ensures) (omega (arith, bounds (s .args .z) (s .pre .sizes) .high))
 
 fill-matrix-requires : tie.Need-fill-matrix-requires
 fill-matrix-requires c κs =
     let s = start-from-shape-of (c .before .before .before) in
-    let l = s .pre .1 .1 .1 .1 in (s .pre .0, (s .pre .1 .0, (l .3, l .4)))
+    let l = s .pre in record {
+      sizes = s .pre .sizes;
+      secret = s .pre .secret;
+      work-ones = l .work-ones-size;
+      work-twos = l .work-twos-size;
+    }
 
 copy-order-requires : tie.Need-copy-order-requires
 copy-order-requires c κs =
     let s = start-from-copy-order-arg c in
-    s .pre .1 .1 .0 .size ∙ sym (s .pre .1 .1 .1 .1 .0)
+    s .pre .is-order .size ∙ sym (s .pre .p-size)
 
 add-arrange : tie.Need-add-arrange
 add-arrange c =
     let after-shape-of = shape-of-from-struct-known2 c in
     let s = start-from-shape-of after-shape-of in
-    rw (after-shape-of .shape-of .ensures) (omega (arith, bounds (s .args .z) (s .pre .0) .high))
+    rw (after-shape-of .shape-of .ensures) (omega (arith, bounds (s .args .z) (s .pre .sizes) .high))
 
 arrange-requires : tie.Need-arrange-requires
 arrange-requires c κs =
@@ -122,26 +127,29 @@ arrange-requires c κs =
     let s = start-from-shape-of after-shape-of in
     let z = s .args .z in
     let o = now (s .args .start) in
-    let r = s .pre .1 .1 .0 in
-    let m = s .pre .1 .1 .1 .0 in
-    let b = bounds z (s .pre .0) in
+    let r = s .pre .is-order in
+    let m = s .pre .rank-full in
+    let b = bounds z (s .pre .sizes) in
     let p = products z b in
     let f = after-fill-matrix .fill-matrix .ensures in
     let e = after-copy-order .copy-order .ensures in
     let n = ready-size z (secret s) o f e (r .size) r m in
-    rw (after-shape-of .shape-of .ensures) (
-      f .rows,
-      (
-        (omega (arith, f .rows .size, p .work), omega arith, omega arith, omega (arith, n), omega (arith, b .high)),
-        (ready-order z (secret s) o f e (r .size) r m, ready-rank z (secret s) o f e (r .size) r m),
-      ),
-    )
+    rw (after-shape-of .shape-of .ensures) (record {
+      grid = f .rows;
+      small = omega (arith, f .rows .size, p .work);
+      half-fits = omega arith;
+      words = omega arith;
+      places-fit = omega (arith, n);
+      half-small = omega (arith, b .high);
+      is-order = ready-order z (secret s) o f e (r .size) r m;
+      rank-full = ready-rank z (secret s) o f e (r .size) r m;
+    })
 
 add-write-key : tie.Need-add-write-key
 add-write-key c =
     let after-shape-of = shape-of-from-struct-known3 c in
     let s = start-from-shape-of after-shape-of in
-    rw (after-shape-of .shape-of .ensures) (omega (arith, bounds (s .args .z) (s .pre .0) .high))
+    rw (after-shape-of .shape-of .ensures) (omega (arith, bounds (s .args .z) (s .pre .sizes) .high))
 
 write-key-requires : tie.Need-write-key-requires
 write-key-requires c κs =
@@ -154,22 +162,28 @@ write-key-requires c κs =
     let s = start-from-shape-of after-shape-of in
     let z = s .args .z in
     let o = now (s .args .start) in
-    let r = s .pre .1 .1 .0 in
-    let m = s .pre .1 .1 .1 .0 in
-    let l = s .pre .1 .1 .1 .1 in
-    let b = bounds z (s .pre .0) in
+    let r = s .pre .is-order in
+    let m = s .pre .rank-full in
+    let l = s .pre in
+    let b = bounds z (s .pre .sizes) in
     let p = products z b in
     let f = after-fill-matrix .fill-matrix .ensures in
     let e = after-copy-order .copy-order .ensures in
     let g = rw (after-shape-of .shape-of .ensures) at (after-arrange .arrange .ensures) in
     let n = final-good z (secret s) o f e (r .size) r m (g .0) .size in
-    rw (after-shape-of .shape-of .ensures) (
-      g .1 .1,
-      (
-        (omega (arith, g .1 .1 .size, p .work), omega arith, omega arith, omega (arith, n), omega (arith, b .high)),
-        (final-ready z (secret s) o f e (r .size) r m (g .0), (omega (arith, n, b .ku, b .kv), omega arith, l .1, l .2)),
-      ),
-    )
+    rw (after-shape-of .shape-of .ensures) (record {
+      grid = g .1 .1;
+      small = omega (arith, g .1 .1 .size, p .work);
+      half-fits = omega arith;
+      words = omega arith;
+      places-fit = omega (arith, n);
+      half-small = omega (arith, b .high);
+      is-order = final-ready z (secret s) o f e (r .size) r m (g .0);
+      columns = omega (arith, n, b .ku, b .kv);
+      room = omega arith;
+      ones-size = l .key-ones-size;
+      twos-size = l .key-twos-size;
+    })
 
 same-length : tie.Need-same-length
 same-length c = search needs
@@ -205,9 +219,9 @@ returns c =
     let s = start-from-shape-of after-shape-of in
     let z = s .args .z in
     let o = now (s .args .start) in
-    let r = s .pre .1 .1 .0 in
-    let m = s .pre .1 .1 .1 .0 in
-    let b = bounds z (s .pre .0) in
+    let r = s .pre .is-order in
+    let m = s .pre .rank-full in
+    let b = bounds z (s .pre .sizes) in
     let f = after-fill-matrix .fill-matrix .ensures in
     let e = after-copy-order .copy-order .ensures in
     let g = rw (after-shape-of .shape-of .ensures) at (after-arrange .arrange .ensures) in

@@ -33,11 +33,11 @@ loop-holds c =
 trit-at-requires : tie.Need-trit-at-requires Inv-loop μ-loop
 trit-at-requires c κs =
     let s = c .before .before .before .before in
-    (s .pre .0, omega (arith, s .pre .1))
+    (s .pre .twos-size, omega (arith, s .pre .trits-fit))
 
 add-trit-at : tie.Need-add-trit-at Inv-loop μ-loop
 add-trit-at c =
-    omega (arith, c .before .before .before .before .pre .2)
+    omega (arith, c .before .before .before .before .pre .stretch-small)
 
 returns : tie.Need-returns Inv-loop μ-loop
 returns c =

@@ -65,7 +65,11 @@ sub-test-planes c =
 test-planes-requires : tie.Need-test-planes-requires
 test-planes-requires c κs =
     let s = start-from-shared-slice-known8 c in
-    let b = bounds (s .args .z) (s .pre .0) in (s .pre .1 .0, s .pre .1 .1, omega (arith, b .high))
+    let b = bounds (s .args .z) (s .pre .0) in record {
+      ones-size = s .pre .1 .0;
+      twos-size = s .pre .1 .1;
+      small = omega (arith, b .high);
+    }
 
 code-requires : tie.Need-code-requires
 code-requires c κs = search needs
@@ -82,7 +86,11 @@ sub-test-planes-2 c =
 test-planes-requires-2 : tie.Need-test-planes-requires-2
 test-planes-requires-2 c κs =
     let s = start-from-else1 c in
-    let b = bounds (s .args .z) (s .pre .0) in (s .pre .1 .2, s .pre .1 .3, omega (arith, b .high))
+    let b = bounds (s .args .z) (s .pre .0) in record {
+      ones-size = s .pre .1 .2;
+      twos-size = s .pre .1 .3;
+      small = omega (arith, b .high);
+    }
 
 code-requires-2 : tie.Need-code-requires-2
 code-requires-2 c κs = search needs
@@ -97,7 +105,11 @@ returns-2 c =
 test-planes-requires-3 : tie.Need-test-planes-requires-3
 test-planes-requires-3 c κs =
     let s = start-from-else2 c in
-    let b = bounds (s .args .z) (s .pre .0) in (omega (arith, s .pre .1 .4), omega (arith, s .pre .1 .5), omega (arith, b .high))
+    let b = bounds (s .args .z) (s .pre .0) in record {
+      ones-size = omega (arith, s .pre .1 .4);
+      twos-size = omega (arith, s .pre .1 .5);
+      small = omega (arith, b .high);
+    }
 
 code-requires-3 : tie.Need-code-requires-3
 code-requires-3 c κs = search needs
@@ -116,7 +128,11 @@ returns-3 c =
 test-planes-requires-4 : tie.Need-test-planes-requires-4
 test-planes-requires-4 c κs =
     let s = start-from-else3 c in
-    let b = bounds (s .args .z) (s .pre .0) in (omega (arith, s .pre .1 .6), omega (arith, s .pre .1 .7), omega (arith, b .high))
+    let b = bounds (s .args .z) (s .pre .0) in record {
+      ones-size = omega (arith, s .pre .1 .6);
+      twos-size = omega (arith, s .pre .1 .7);
+      small = omega (arith, b .high);
+    }
 
 code-requires-4 : tie.Need-code-requires-4
 code-requires-4 c κs = search needs
@@ -141,8 +157,11 @@ has-zero-requires c κs =
     let t = code-from-else4 c in
     let s = start-from-code t in
     let b = bounds (s .args .z) (s .pre .0) in
-    let l = s .pre .1 in
-    (omega (arith, l .4, l .5, l .6, l .7), omega (arith, l .4, l .6), omega (arith, b .high))
+    let l = s .pre .1 in record {
+      twos-size = omega (arith, l .4, l .5, l .6, l .7);
+      trits-fit = omega (arith, l .4, l .6);
+      stretch-small = omega (arith, b .high);
+    }
 
 returns-5 : tie.Need-returns-5
 returns-5 c =

@@ -56,7 +56,7 @@ loop-holds c =
       omega arith,
       refl,
       record {
-        row = start .pre .1 .1 .0 .row;
+        row = start .pre .work .row;
         size = refl;
         trits = taken-none (tritAt (now (a .work-ones)) (now (a .work-twos))) (heldKey (a .held) (now (a .ones)) (now (a .twos)))
             (packedRow (a .held .k) (now (a .s)));
@@ -65,33 +65,30 @@ loop-holds c =
 
 shared-slice-read-trit : tie.Need-shared-slice-read-trit Inv-loop μ-loop
 shared-slice-read-trit c =
-    let l = start-from-in-loop (c .before) .pre .1 .1 .1 .0 in
+    let l = start-from-in-loop (c .before) .pre .s-size in
     omega arith
 
 trit-requires : tie.Need-trit-requires Inv-loop μ-loop
 trit-requires c κs =
     let start = start-from-in-loop (c .before) in
-    let l = start .pre .1 .1 .1 .0 in
-    let b = bytes-small (now (start .args .s)) (bytes-passed (now (start .args .s)) (start .pre .1 .1 .1 .1)) (c .before .before .loop .i / 5) (omega arith) in
-    (start .pre .1 .1 .1 .2, omega (arith, b))
+    let l = start .pre .s-size in
+    let b = bytes-small (now (start .args .s)) (bytes-passed (now (start .args .s)) (start .pre .s-tested)) (c .before .before .loop .i / 5) (omega arith) in record {
+      is-table = start .pre .is-table;
+      byte = omega (arith, b);
+      digit = omega (arith, b);
+    }
 
 take-row-requires : tie.Need-take-row-requires Inv-loop μ-loop
 take-row-requires c κs =
     let at-loop = c .before .before .before .before .before in
     let start = start-from-at-loop at-loop in
-    let v = at-loop .loop .inv .2 in (
-      start .pre .0,
-      (
-        start .pre .1 .0,
-        (
-          record { row = v .row; size = v .size ∙ start .pre .1 .1 .0 .size },
-          (
-            omega arith,
-            omega (arith, c .before .before .trit .ensures, digit-lt (getD (now (start .args .s)) (at-loop .loop .i / 5) 0) (at-loop .loop .i % 5)),
-          ),
-        ),
-      ),
-    )
+    let v = at-loop .loop .inv .2 in record {
+      whole = start .pre .whole;
+      readable = start .pre .readable;
+      work = record { row = v .row; size = v .size ∙ start .pre .work .size };
+      row-in = omega arith;
+      trit = omega (arith, c .before .before .trit .ensures, digit-lt (getD (now (start .args .s)) (at-loop .loop .i / 5) 0) (at-loop .loop .i % 5));
+    }
 
 add-taken : tie.Need-add-taken Inv-loop μ-loop
 add-taken c =
@@ -103,12 +100,12 @@ add-taken c =
     let t = turn-weight (packedRow (a .held .k) (now (a .s))) (at-loop .loop .i) (tritOf (after-trit .trit .result))
     (packed-trit (now (a .s)) (a .held .k) (at-loop .loop .i) (after-trit .trit .result) (omega arith) (after-trit .trit .ensures)) (at-loop .loop .inv .1)
     (after-take-row .take-row .ensures .0) in
-    omega (arith, t, weight-le (packedRow (a .held .k) (now (a .s))) (at-loop .loop .i + 1), sizes (a .held) (start .pre .0 .is-sound))
+    omega (arith, t, weight-le (packedRow (a .held .k) (now (a .s))) (at-loop .loop .i + 1), sizes (a .held) (start .pre .whole .is-sound))
 
 add-i : tie.Need-add-i Inv-loop μ-loop
 add-i c =
     let start = start-from-take-row (c .before .before .before .before) in
-    omega (arith, sizes (start .args .held) (start .pre .0 .is-sound))
+    omega (arith, sizes (start .args .held) (start .pre .whole .is-sound))
 
 loop-less : tie.Need-loop-less Inv-loop μ-loop
 loop-less c =

@@ -13,8 +13,14 @@ byte-table-requires c κs = search needs
 
 take-by-table-requires : tie.Need-take-by-table-requires
 take-by-table-requires c κs =
-    let p = start-from-byte-table (c .before .before .before) .pre in
-    (p .0, (p .1 .0, (p .1 .1 .0, (p .1 .1 .1 .0, p .1 .1 .1 .1, c .before .before .before .byte-table .ensures))))
+    let p = start-from-byte-table (c .before .before .before) .pre in record {
+      whole = p .whole;
+      readable = p .readable;
+      work = p .work;
+      s-size = p .s-size;
+      s-tested = p .s-tested;
+      is-table = c .before .before .before .byte-table .ensures;
+    }
 
 same-length : tie.Need-same-length
 same-length c = search needs

@@ -36,7 +36,7 @@ returns c =
     let u = tritAt (now (a .work-ones)) (now (a .work-twos)) in (
       ap (λ (x : ℕ). nonZero (tritOf x)) (sym (c .if1 .taken)),
       record {
-        row = start .pre .1 .1 .0 .row;
+        row = start .pre .work .row;
         size = refl;
         trits = take-none u (heldKey (a .held) (now (a .ones)) (now (a .twos)) (a .i)) (a .t) (c .if1 .taken);
       },
@@ -53,12 +53,15 @@ sub-row-requires c κs =
     let after-held-row = c .before .before .before .before in
     let start = start-from-held-row after-held-row in
     let a = start .args in
-    let w = start .pre .0 in
-    let l : a .i < a .held .k = start .pre .1 .1 .1 .0 in
-    let k = start .pre .1 .1 .0 in
+    let w = start .pre .whole in
+    let l : a .i < a .held .k = start .pre .row-in in
+    let k = start .pre .work in
     let ea = after-held-row .held-row .ensures in
-    let eb = c .before .before .before .held-row2 .ensures in
-    (k .row, (subst₂ Row (sym ea) (sym eb) (row-row w (a .i) l (start .pre .1 .0)), ap length ea ∙ ones-length w (a .i) l ∙ sym (k .size)))
+    let eb = c .before .before .before .held-row2 .ensures in record {
+      row = k .row;
+      source = subst₂ Row (sym ea) (sym eb) (row-row w (a .i) l (start .pre .readable));
+      size = ap length ea ∙ ones-length w (a .i) l ∙ sym (k .size);
+    }
 
 same-length : tie.Need-same-length
 same-length c = search needs
@@ -86,12 +89,15 @@ add-row-requires c κs =
     let after-held-row = c .before .before .before .before in
     let start = start-from-held-row after-held-row in
     let a = start .args in
-    let w = start .pre .0 in
-    let l : a .i < a .held .k = start .pre .1 .1 .1 .0 in
-    let k = start .pre .1 .1 .0 in
+    let w = start .pre .whole in
+    let l : a .i < a .held .k = start .pre .row-in in
+    let k = start .pre .work in
     let ea = after-held-row .held-row .ensures in
-    let eb = c .before .before .before .held-row2 .ensures in
-    (k .row, (subst₂ Row (sym ea) (sym eb) (row-row w (a .i) l (start .pre .1 .0)), ap length ea ∙ ones-length w (a .i) l ∙ sym (k .size)))
+    let eb = c .before .before .before .held-row2 .ensures in record {
+      row = k .row;
+      source = subst₂ Row (sym ea) (sym eb) (row-row w (a .i) l (start .pre .readable));
+      size = ap length ea ∙ ones-length w (a .i) l ∙ sym (k .size);
+    }
 
 same-length-3 : tie.Need-same-length-3
 same-length-3 c = search needs
@@ -112,7 +118,7 @@ returns-3 c =
     let ea = after-held-row .held-row .ensures in
     let eb = after-held-row2 .held-row2 .ensures in
     let u = tritAt (now (a .work-ones)) (now (a .work-twos)) in
-    let z : a .t ≡ 2 = omega (arith, else1 .if1 .left, else2 .if2 .left, start .pre .1 .1 .1 .1) in (
+    let z : a .t ≡ 2 = omega (arith, else1 .if1 .left, else2 .if2 .left, start .pre .trit) in (
       ap (λ (x : ℕ). nonZero (tritOf x)) (sym z),
       reads-to (after-add-row .add-row .ensures) (ap₂ (λ (x y : List ℕ). zipV addT u (tritAt x y)) ea eb ∙
           take-two u (heldKey (a .held) (now (a .ones)) (now (a .twos)) (a .i)) (a .t) z),

@@ -52,7 +52,7 @@ loop-holds c =
       omega arith,
       refl,
       record {
-        row = start .pre .1 .1 .0 .row;
+        row = start .pre .work .row;
         size = refl;
         trits = taken-none (tritAt (now (a .work-ones)) (now (a .work-twos))) (heldKey (a .held) (now (a .ones)) (now (a .twos)))
             (tritAt (now (a .s-ones)) (now (a .s-twos)));
@@ -61,26 +61,20 @@ loop-holds c =
 
 trit-at-requires : tie.Need-trit-at-requires Inv-loop μ-loop
 trit-at-requires c κs =
-    let p = start-from-in-loop c .pre .1 .1 .1 in
-    (p .1, omega (arith, p .0))
+    let p = start-from-in-loop c .pre in
+    (p .s-twos, omega (arith, p .s-trits))
 
 take-row-requires : tie.Need-take-row-requires Inv-loop μ-loop
 take-row-requires c κs =
     let at-loop = c .before .before .before .before in
     let start = start-from-at-loop at-loop in
-    let v = at-loop .loop .inv .2 in (
-      start .pre .0,
-      (
-        start .pre .1 .0,
-        (
-          record { row = v .row; size = v .size ∙ start .pre .1 .1 .0 .size },
-          (
-            omega arith,
-            omega (arith, c .before .before .trit-at .ensures, number-lt (tritAt (now (start .args .s-ones)) (now (start .args .s-twos)) (at-loop .loop .i))),
-          ),
-        ),
-      ),
-    )
+    let v = at-loop .loop .inv .2 in record {
+      whole = start .pre .whole;
+      readable = start .pre .readable;
+      work = record { row = v .row; size = v .size ∙ start .pre .work .size };
+      row-in = omega arith;
+      trit = omega (arith, c .before .before .trit-at .ensures, number-lt (tritAt (now (start .args .s-ones)) (now (start .args .s-twos)) (at-loop .loop .i)));
+    }
 
 add-taken : tie.Need-add-taken Inv-loop μ-loop
 add-taken c =
@@ -92,12 +86,12 @@ add-taken c =
     let t = turn-weight (tritAt (now (a .s-ones)) (now (a .s-twos))) (at-loop .loop .i) (tritOf (after-trit-at .trit-at .result))
     (ap tritOf (after-trit-at .trit-at .ensures) ∙ trit-number (tritAt (now (a .s-ones)) (now (a .s-twos)) (at-loop .loop .i))) (at-loop .loop .inv .1)
     (after-take-row .take-row .ensures .0) in
-    omega (arith, t, weight-le (tritAt (now (a .s-ones)) (now (a .s-twos))) (at-loop .loop .i + 1), sizes (a .held) (start .pre .0 .is-sound))
+    omega (arith, t, weight-le (tritAt (now (a .s-ones)) (now (a .s-twos))) (at-loop .loop .i + 1), sizes (a .held) (start .pre .whole .is-sound))
 
 add-i : tie.Need-add-i Inv-loop μ-loop
 add-i c =
     let start = start-from-take-row (c .before .before .before .before) in
-    omega (arith, sizes (start .args .held) (start .pre .0 .is-sound))
+    omega (arith, sizes (start .args .held) (start .pre .whole .is-sound))
 
 loop-less : tie.Need-loop-less Inv-loop μ-loop
 loop-less c =

@@ -40,15 +40,15 @@ copy-words-requires : tie.Need-copy-words-requires
 copy-words-requires c κs =
     let start = start-from-copy-words-arg c in
     let a = start .args in
-    fitted (a .held) (length (now (a .y-ones))) (length (now (a .y-twos))) (length (now (a .s-ones))) (length (now (a .s-twos))) (start .pre .1 .0) .y-ones ∙
-    sym (start .pre .1 .1 .1 .0)
+    fitted (a .held) (length (now (a .y-ones))) (length (now (a .y-twos))) (length (now (a .s-ones))) (length (now (a .s-twos))) (start .pre .lengths) .y-ones ∙
+    sym (start .pre .work-ones)
 
 copy-words-requires-2 : tie.Need-copy-words-requires-2
 copy-words-requires-2 c κs =
     let start = start-from-copy-words (c .before .before .before) in
     let a = start .args in
-    fitted (a .held) (length (now (a .y-ones))) (length (now (a .y-twos))) (length (now (a .s-ones))) (length (now (a .s-twos))) (start .pre .1 .0) .y-twos ∙
-    sym (start .pre .1 .1 .1 .1)
+    fitted (a .held) (length (now (a .y-ones))) (length (now (a .y-twos))) (length (now (a .s-ones))) (length (now (a .s-twos))) (start .pre .lengths) .y-twos ∙
+    sym (start .pre .work-twos)
 
 take-rows-requires : tie.Need-take-rows-requires
 take-rows-requires c κs =
@@ -60,25 +60,22 @@ take-rows-requires c κs =
     let after-shared-slice-known = after-shared-slice-known2 .before in
     let start = after-shared-slice-known .before in
     let a = start .args in
-    let f = fitted (a .held) (length (now (a .y-ones))) (length (now (a .y-twos))) (length (now (a .s-ones))) (length (now (a .s-twos))) (start .pre .1 .0) in
-    let t = contents (a .held) (now (a .ones)) (now (a .twos)) (now (a .y-ones)) (now (a .y-twos)) (now (a .s-ones)) (now (a .s-twos)) (start .pre .1 .1 .0) in
+    let f = fitted (a .held) (length (now (a .y-ones))) (length (now (a .y-twos))) (length (now (a .s-ones))) (length (now (a .s-twos))) (start .pre .lengths) in
+    let t = contents (a .held) (now (a .ones)) (now (a .twos)) (now (a .y-ones)) (now (a .y-twos)) (now (a .s-ones)) (now (a .s-twos)) (start .pre .contents) in
     let eo = after-copy-words .copy-words .ensures in
-    let et = after-copy-words2 .copy-words2 .ensures in (
-      start .pre .0,
-      (
-        readable ((a .held) .k) (rowTrits (a .held)) (t .0) (start .pre .0 .twos-size ∙ sym (start .pre .0 .ones-size))
-            (after-shared-slice-known .shared-slice-known .given) (after-shared-slice-known2 .shared-slice-known2 .given),
-        (
-          record {
-            row =
-                subst₂ Row (sym eo) (sym et) (readable 1 (rowTrits (a .held)) (t .1) (f .y-twos ∙ sym (f .y-ones))
-                (after-shared-slice-known3 .shared-slice-known3 .given) (after-shared-slice-known4 .shared-slice-known4 .given));
-            size = ap length eo ∙ f .y-ones;
-          },
-          (omega (arith, f .s-ones), f .s-twos ∙ sym (f .s-ones)),
-        ),
-      ),
-    )
+    let et = after-copy-words2 .copy-words2 .ensures in record {
+      whole = start .pre .whole;
+      readable = readable ((a .held) .k) (rowTrits (a .held)) (t .0) (start .pre .whole .twos-size ∙ sym (start .pre .whole .ones-size))
+          (after-shared-slice-known .shared-slice-known .given) (after-shared-slice-known2 .shared-slice-known2 .given);
+      work = record {
+        row =
+            subst₂ Row (sym eo) (sym et) (readable 1 (rowTrits (a .held)) (t .1) (f .y-twos ∙ sym (f .y-ones))
+            (after-shared-slice-known3 .shared-slice-known3 .given) (after-shared-slice-known4 .shared-slice-known4 .given));
+        size = ap length eo ∙ f .y-ones;
+      };
+      s-trits = omega (arith, f .s-ones);
+      s-twos = f .s-twos ∙ sym (f .s-ones);
+    }
 
 weight-requires : tie.Need-weight-requires
 weight-requires c κs =
@@ -92,8 +89,8 @@ weight-requires c κs =
         arith,
         r .size,
         ap length (after-copy-words .copy-words .ensures),
-        fitted (a .held) (length (now (a .y-ones))) (length (now (a .y-twos))) (length (now (a .s-ones))) (length (now (a .s-twos))) (start .pre .1 .0) .y-ones,
-        sizes (a .held) (start .pre .0 .is-sound),
+        fitted (a .held) (length (now (a .y-ones))) (length (now (a .y-twos))) (length (now (a .s-ones))) (length (now (a .s-twos))) (start .pre .lengths) .y-ones,
+        sizes (a .held) (start .pre .whole .is-sound),
       ),
     )
 
@@ -110,8 +107,8 @@ add-result c =
       after-take-rows .take-rows .ensures .0,
       weight-le (tritAt (now (a .s-ones)) (now (a .s-twos))) ((a .held) .k),
       ap length (after-copy-words .copy-words .ensures),
-      fitted (a .held) (length (now (a .y-ones))) (length (now (a .y-twos))) (length (now (a .s-ones))) (length (now (a .s-twos))) (start .pre .1 .0) .y-ones,
-      sizes (a .held) (start .pre .0 .is-sound),
+      fitted (a .held) (length (now (a .y-ones))) (length (now (a .y-twos))) (length (now (a .s-ones))) (length (now (a .s-twos))) (start .pre .lengths) .y-ones,
+      sizes (a .held) (start .pre .whole .is-sound),
     )
 
 same-length : tie.Need-same-length
@@ -129,11 +126,11 @@ returns c =
     let after-shared-slice-known3 = after-shared-slice-known4 .before in
     let start = after-shared-slice-known3 .before .before .before in
     let a = start .args in
-    let f = fitted (a .held) (length (now (a .y-ones))) (length (now (a .y-twos))) (length (now (a .s-ones))) (length (now (a .s-twos))) (start .pre .1 .0) in
-    let t = contents (a .held) (now (a .ones)) (now (a .twos)) (now (a .y-ones)) (now (a .y-twos)) (now (a .s-ones)) (now (a .s-twos)) (start .pre .1 .1 .0) in
+    let f = fitted (a .held) (length (now (a .y-ones))) (length (now (a .y-twos))) (length (now (a .s-ones))) (length (now (a .s-twos))) (start .pre .lengths) in
+    let t = contents (a .held) (now (a .ones)) (now (a .twos)) (now (a .y-ones)) (now (a .y-twos)) (now (a .s-ones)) (now (a .s-twos)) (start .pre .contents) in
     let eo = after-copy-words .copy-words .ensures in
     let et = after-copy-words2 .copy-words2 .ensures in
-    weighed (tritAt (now (a .y-ones)) (now (a .y-twos))) (tritAt (now (a .s-ones)) (now (a .s-twos))) (start .pre .0) (t .0)
+    weighed (tritAt (now (a .y-ones)) (now (a .y-twos))) (tritAt (now (a .s-ones)) (now (a .s-twos))) (start .pre .whole) (t .0)
     (row-ended (now (a .y-ones)) (now (a .y-twos)) (rowTrits (a .held)) (t .1) (f .y-ones) (f .y-twos))
     (record {
       row =

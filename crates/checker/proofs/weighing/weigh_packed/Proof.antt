@@ -47,17 +47,20 @@ take-packed-rows-from-weight c = c .before .before .before .before .before .befo
 
 row-trits-requires : tie.Need-row-trits-requires
 row-trits-requires c κs =
-    start-from-slice-known2 c .pre .0 .is-sound
+    start-from-slice-known2 c .pre .whole .is-sound
 
 write-packed-requires : tie.Need-write-packed-requires
 write-packed-requires c κs =
     let start = start-from-row-trits (c .before .before) in
     let a = start .args in
-    let f = packed-fitted (a .held) (length (now (a .y))) (length (now (a .s))) (start .pre .1 .0) in
-    let p = start .pre .1 .1 .1 in (
-      omega (arith, f, p, c .before .before .row-trits .ensures, sizes (a .held) (start .pre .0 .is-sound)),
-      packed-contents (a .held) (now (a .ones)) (now (a .twos)) (now (a .y)) (now (a .s)) (start .pre .1 .1 .0) .1,
-    )
+    let f = packed-fitted (a .held) (length (now (a .y))) (length (now (a .s))) (start .pre .lengths) in
+    let p = start .pre in record {
+      twos-size = omega (arith, f, p, c .before .before .row-trits .ensures, sizes (a .held) (start .pre .whole .is-sound));
+      enough = omega (arith, f, p, c .before .before .row-trits .ensures, sizes (a .held) (start .pre .whole .is-sound));
+      trits-fit = omega (arith, f, p, c .before .before .row-trits .ensures, sizes (a .held) (start .pre .whole .is-sound));
+      small = omega (arith, f, p, c .before .before .row-trits .ensures, sizes (a .held) (start .pre .whole .is-sound));
+      not-refused = packed-contents (a .held) (now (a .ones)) (now (a .twos)) (now (a .y)) (now (a .s)) (start .pre .contents) .1;
+    }
 
 take-packed-rows-requires : tie.Need-take-packed-rows-requires
 take-packed-rows-requires c κs =
@@ -66,18 +69,15 @@ take-packed-rows-requires c κs =
     let after-shared-slice-known = after-shared-slice-known2 .before in
     let start = after-shared-slice-known .before in
     let a = start .args in
-    let t = packed-contents (a .held) (now (a .ones)) (now (a .twos)) (now (a .y)) (now (a .s)) (start .pre .1 .1 .0) in
-    let u = after-write-packed .write-packed .ensures in (
-      start .pre .0,
-      (
-        readable ((a .held) .k) (rowTrits (a .held)) (t .0) (start .pre .0 .twos-size ∙ sym (start .pre .0 .ones-size))
-            (after-shared-slice-known .shared-slice-known .given) (after-shared-slice-known2 .shared-slice-known2 .given),
-        (
-          record { row = u .row; size = u .size ∙ start .pre .1 .1 .1 .0 },
-          (packed-fitted (a .held) (length (now (a .y))) (length (now (a .s))) (start .pre .1 .0) .1, t .2),
-        ),
-      ),
-    )
+    let t = packed-contents (a .held) (now (a .ones)) (now (a .twos)) (now (a .y)) (now (a .s)) (start .pre .contents) in
+    let u = after-write-packed .write-packed .ensures in record {
+      whole = start .pre .whole;
+      readable = readable ((a .held) .k) (rowTrits (a .held)) (t .0) (start .pre .whole .twos-size ∙ sym (start .pre .whole .ones-size))
+          (after-shared-slice-known .shared-slice-known .given) (after-shared-slice-known2 .shared-slice-known2 .given);
+      work = record { row = u .row; size = u .size ∙ start .pre .work-ones };
+      s-size = packed-fitted (a .held) (length (now (a .y))) (length (now (a .s))) (start .pre .lengths) .1;
+      s-tested = t .2;
+    }
 
 weight-requires : tie.Need-weight-requires
 weight-requires c κs =
@@ -86,7 +86,7 @@ weight-requires c κs =
     let start = start-from-write-packed after-write-packed in
     let r = after-take-packed-rows .take-packed-rows .ensures .1 in (
       r .row .same,
-      omega (arith, r .size, after-write-packed .write-packed .ensures .size, start .pre .1 .1 .1 .0, sizes (start .args .held) (start .pre .0 .is-sound)),
+      omega (arith, r .size, after-write-packed .write-packed .ensures .size, start .pre .work-ones, sizes (start .args .held) (start .pre .whole .is-sound)),
     )
 
 add-result : tie.Need-add-result
@@ -102,8 +102,8 @@ add-result c =
       after-take-packed-rows .take-packed-rows .ensures .0,
       weight-le (packedRow ((a .held) .k) (now (a .s))) ((a .held) .k),
       after-write-packed .write-packed .ensures .size,
-      start .pre .1 .1 .1 .0,
-      sizes (a .held) (start .pre .0 .is-sound),
+      start .pre .work-ones,
+      sizes (a .held) (start .pre .whole .is-sound),
     )
 
 same-length : tie.Need-same-length
@@ -119,10 +119,10 @@ returns c =
     let after-row-trits = after-write-packed .before .before .before in
     let start = start-from-row-trits after-row-trits in
     let a = start .args in
-    let t = packed-contents (a .held) (now (a .ones)) (now (a .twos)) (now (a .y)) (now (a .s)) (start .pre .1 .1 .0) in
-    weighed (packedRow (rowTrits (a .held)) (now (a .y))) (packedRow ((a .held) .k) (now (a .s))) (start .pre .0) (t .0)
+    let t = packed-contents (a .held) (now (a .ones)) (now (a .twos)) (now (a .y)) (now (a .s)) (start .pre .contents) in
+    weighed (packedRow (rowTrits (a .held)) (now (a .y))) (packedRow ((a .held) .k) (now (a .s))) (start .pre .whole) (t .0)
     (packed-out (now (a .y)) (rowTrits (a .held))) (reads-to (after-write-packed .write-packed .ensures)
-    (ap (λ (m : ℕ). packedRow m (now (a .y))) (after-row-trits .row-trits .ensures))) (start .pre .1 .1 .1 .0)
+    (ap (λ (m : ℕ). packedRow m (now (a .y))) (after-row-trits .row-trits .ensures))) (start .pre .work-ones)
     (after-take-packed-rows .take-packed-rows .ensures .1) (c .weight .ensures) (after-take-packed-rows .take-packed-rows .ensures .0)
 
 pub weigh-packed-spec : {M : Type 1} → statement M

@@ -63,16 +63,15 @@ add-first c = search needs
 
 reduce-requires : tie.Need-reduce-requires
 reduce-requires c κs =
-    let s = start-from-reduce-arg2 c in (
-      s .pre .0 .0,
-      (
-        s .pre .0 .1,
-        (
-          s .pre .1 .1 .0,
-          (s .pre .1 .1 .1 .0 .0, omega (arith, s .pre .1 .1 .1 .1 .1 .0 .2, s .pre .1 .1 .1 .1 .1 .0 .3), s .pre .1 .1 .1 .0 .3, s .pre .1 .1 .1 .0 .2),
-        ),
-      ),
-    )
+    let s = start-from-reduce-arg2 c in record {
+      grid = s .pre .grid;
+      h-grid = s .pre .h-grid;
+      is-order = s .pre .is-order;
+      small = s .pre .small;
+      r-in = omega (arith, s .pre .e-past, s .pre .e-in);
+      front = s .pre .front;
+      places-fit = s .pre .places-fit;
+    }
 
 same-length : tie.Need-same-length
 same-length c = search needs
@@ -90,87 +89,78 @@ supply-requires c κs =
     let after-reduce = reduce-from-else1 (c .before .before) in
     let s = start-from-reduce after-reduce in
     let a = s .args in
-    let q = after-reduce .reduce .ensures in (
-      q .1 .rows,
-      (
-        s .pre .1 .0 .2,
-        (
-          s .pre .1 .1 .0,
-          (
-            (
-              omega (arith, q .1 .rows .size, s .pre .0 .0 .size, s .pre .1 .1 .1 .0 .0),
-              s .pre .1 .1 .1 .0 .2,
-              s .pre .1 .1 .1 .0 .3,
-              s .pre .1 .1 .1 .1 .1 .0 .2,
-              s .pre .1 .1 .1 .1 .1 .0 .3,
-            ),
-            roomU (a .r) (a .g) (matrixAt (a .w) (now (a .ho)) (now (a .ht))) (matrixAt (a .w) (now (a .ones)) (now (a .twos))) (now (a .order))
-                (s .pre .1 .1 .0) (a .x) (a .e) (64 * a .w) (s .pre .1 .1 .1 .1 .1 .0 .0) (s .pre .1 .1 .1 .1 .1 .0 .2) (s .pre .1 .1 .1 .1 .1 .0 .4)
-                (sym (q .0) ∙ c .before .before .if1 .left) (64 * length (now (a .uo))) (q .1 .cells) (s .pre .1 .1 .1 .0 .3) (s .pre .1 .1 .1 .0 .4),
-          ),
-        ),
-      ),
-    )
+    let q = after-reduce .reduce .ensures in record {
+      grid = q .1 .rows;
+      source = s .pre .u-row;
+      is-order = s .pre .is-order;
+      small = omega (arith, q .1 .rows .size, s .pre .grid .size, s .pre .small);
+      places-fit = s .pre .places-fit;
+      front = s .pre .front;
+      e-past = s .pre .e-past;
+      e-in = s .pre .e-in;
+      enough = roomU (a .r) (a .g) (matrixAt (a .w) (now (a .ho)) (now (a .ht))) (matrixAt (a .w) (now (a .ones)) (now (a .twos))) (now (a .order))
+          (s .pre .is-order) (a .x) (a .e) (64 * a .w) (s .pre .x-past) (s .pre .e-past) (s .pre .apart)
+          (sym (q .0) ∙ c .before .before .if1 .left) (64 * length (now (a .uo))) (q .1 .cells) (s .pre .front) (s .pre .u-room);
+    }
 
 supply-forced-requires : tie.Need-supply-forced-requires
 supply-forced-requires c κs =
     let after-supply = supply-from-supply-forced-arg2 c in
     let s = start-from-supply after-supply in
-    let q = after-supply .supply .ensures in (
-      q .rows,
-      (
-        s .pre .1 .0,
-        (
-          s .pre .1 .1 .0,
-          (
-            (
-              omega (arith, q .rows .size, s .pre .0 .0 .size, s .pre .1 .1 .1 .0 .0),
-              s .pre .1 .1 .1 .0 .1,
-              s .pre .1 .1 .1 .0 .2,
-              s .pre .1 .1 .1 .0 .3,
-              s .pre .1 .1 .1 .1 .1 .0 .6,
-              s .pre .1 .1 .1 .1 .1 .0 .3,
-              s .pre .1 .1 .1 .1 .1 .0 .7,
-            ),
-            (s .pre .1 .1 .1 .1 .0 .0, s .pre .1 .1 .1 .1 .0 .1, omega (arith, s .pre .1 .1 .1 .0 .3, s .pre .1 .1 .1 .0 .4), omega arith),
-          ),
-        ),
-      ),
-    )
+    let q = after-supply .supply .ensures in record {
+      grid = q .rows;
+      b-row = s .pre .b-row;
+      c-row = s .pre .c-row;
+      u-row = s .pre .u-row;
+      is-order = s .pre .is-order;
+      small = omega (arith, q .rows .size, s .pre .grid .size, s .pre .small);
+      narrow = s .pre .narrow;
+      places-fit = s .pre .places-fit;
+      front = s .pre .front;
+      ev-in = s .pre .ev-in;
+      e-in = s .pre .e-in;
+      apart = s .pre .ev-apart;
+      b-room = s .pre .b-room;
+      c-room = s .pre .c-room;
+      u-room = omega (arith, s .pre .front, s .pre .u-room);
+      gap = omega arith;
+    }
 
 sub-rows-requires : tie.Need-sub-rows-requires
 sub-rows-requires c κs =
     let after-supply-forced = supply-forced-from-sub-rows-arg2 c in
     let s = start-from-supply-forced after-supply-forced in
-    (after-supply-forced .supply-forced .ensures .rows, (s .pre .1 .1 .1 .1 .1 .0 .1, s .pre .1 .1 .1 .1 .1 .0 .3, s .pre .1 .1 .1 .1 .1 .0 .4))
+    (after-supply-forced .supply-forced .ensures .rows, (s .pre .x-in, s .pre .e-in, s .pre .apart))
 
 solve-pivots-requires : tie.Need-solve-pivots-requires
 solve-pivots-requires c κs =
     let after-sub-rows = sub-rows-from-solve-pivots-arg2 c in
     let s = start-from-sub-rows after-sub-rows in
-    let q = after-sub-rows .sub-rows .ensures in (
-      q .rows,
-      (
-        s .pre .1 .1 .0,
-        (
-          (omega (arith, q .rows .size, s .pre .0 .0 .size, s .pre .1 .1 .1 .0 .0), s .pre .1 .1 .1 .0 .1, s .pre .1 .1 .1 .0 .2, s .pre .1 .1 .1 .0 .3),
-          (s .pre .1 .1 .1 .1 .1 .0 .2, s .pre .1 .1 .1 .1 .1 .0 .3, s .pre .1 .1 .1 .1 .1 .0 .1, s .pre .1 .1 .1 .1 .1 .0 .4),
-        ),
-      ),
-    )
+    let q = after-sub-rows .sub-rows .ensures in record {
+      grid = q .rows;
+      is-order = s .pre .is-order;
+      small = omega (arith, q .rows .size, s .pre .grid .size, s .pre .small);
+      narrow = s .pre .narrow;
+      places-fit = s .pre .places-fit;
+      front = s .pre .front;
+      e-past = s .pre .e-past;
+      e-in = s .pre .e-in;
+      x-in = s .pre .x-in;
+      apart = s .pre .apart;
+    }
 
 same-length-3 : tie.Need-same-length-3
 same-length-3 c =
     let after-solve-pivots = c .before .before .before .before in
     let s = start-from-solve-pivots after-solve-pivots in
-    omega (arith, after-solve-pivots .solve-pivots .ensures .rows .size, s .pre .0 .0 .size)
+    omega (arith, after-solve-pivots .solve-pivots .ensures .rows .size, s .pre .grid .size)
 
 same-length-4 : tie.Need-same-length-4
 same-length-4 c =
     let after-solve-pivots = c .before .before .before .before in
     let s = start-from-solve-pivots after-solve-pivots in
     let q = after-solve-pivots .solve-pivots .ensures .rows in
-    omega (arith, q .size, q .row .same, s .pre .0 .0 .size, s .pre .0 .0 .row .same)
+    omega (arith, q .size, q .row .same, s .pre .grid .size, s .pre .grid .row .same)
 
 returns-2 : tie.Need-returns-2
 returns-2 c =
@@ -184,14 +174,14 @@ returns-2 c =
     let a = s .args in
     let q = after-reduce .reduce .ensures in
     let l = after-solve-pivots .solve-pivots .ensures in
-    let z = s .pre .1 .1 .1 .1 .1 .1 in (
+    let z = s .pre in (
       has-rank (q .0) (else1 .if1 .left),
       (
         l .rows,
         is-solved (halfU-done (a .r) (a .g) (matrixAt (a .w) (now (a .ho)) (now (a .ht))) (matrixAt (a .w) (now (a .ones)) (now (a .twos))) (now (a .order))
-            (s .pre .1 .1 .0) (a .x) (a .e) (64 * a .w) (s .pre .1 .1 .1 .1 .1 .0 .0) (s .pre .1 .1 .1 .1 .1 .0 .2) (s .pre .1 .1 .1 .1 .1 .0 .4)
+            (s .pre .is-order) (a .x) (a .e) (64 * a .w) (s .pre .x-past) (s .pre .e-past) (s .pre .apart)
             (sym (q .0) ∙ else1 .if1 .left) (tritAt (now (a .bo)) (now (a .bt))) (tritAt (now (a .co)) (now (a .ct))) (tritAt (now (a .uo)) (now (a .ut)))
-            (a .ev) (z .1) (s .pre .1 .1 .1 .1 .1 .0 .5) (s .pre .1 .1 .1 .1 .1 .0 .7) (z .0) (s .pre .1 .1 .1 .0 .2) (q .1 .cells)
+            (a .ev) (z .e-zero) (s .pre .ev-past) (s .pre .ev-apart) (z .x-ends) (s .pre .places-fit) (q .1 .cells)
             (after-supply .supply .ensures .cells) (after-supply-forced .supply-forced .ensures .cells) (after-sub-rows .sub-rows .ensures .cells) (l .cells)),
       ),
     )

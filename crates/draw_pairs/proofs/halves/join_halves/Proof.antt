@@ -24,15 +24,31 @@ add-product-from-add-product2 c = c .before .before .before .before .before .bef
 add-product-requires : tie.Need-add-product-requires
 add-product-requires c κs =
     let s = start-from-add-product-arg2 c in
-    let p = s .pre .1 .1 in
-    (s .pre .0, (s .pre .1 .0 .0, (p .0, p .1, p .2, λ z. p .4 (sym z), p .3, p .5)))
+    let p = s .pre in record {
+      grid = s .pre .grid;
+      source = s .pre .b-row;
+      a-in = p .u-in;
+      i-in = p .v-in;
+      t-in = p .t-in;
+      apart = λ z. p .v-apart (sym z);
+      a-apart = p .u-apart;
+      size = p .b-size;
+    }
 
 add-product-requires-2 : tie.Need-add-product-requires-2
 add-product-requires-2 c κs =
     let after-add-product = add-product-from-add-product-arg4 c in
     let s = start-from-add-product after-add-product in
-    let p = s .pre .1 .1 in
-    (after-add-product .add-product .ensures .rows, (s .pre .1 .0 .1, (p .1, p .0, p .2, λ z. p .3 (sym z), p .4, p .6)))
+    let p = s .pre in record {
+      grid = after-add-product .add-product .ensures .rows;
+      source = s .pre .c-row;
+      a-in = p .v-in;
+      i-in = p .u-in;
+      t-in = p .t-in;
+      apart = λ z. p .u-apart (sym z);
+      a-apart = p .v-apart;
+      size = p .c-size;
+    }
 
 same-length : tie.Need-same-length
 same-length c =

@@ -32,15 +32,31 @@ add-t c =
 sub-product-requires : tie.Need-sub-product-requires
 sub-product-requires c κs =
     let s = start-from-sub-product-arg2 c in
-    let p = s .pre .1 .1 .0 in
-    (s .pre .0, (s .pre .1 .0 .1, (omega arith, omega arith, omega arith, λ z. omega arith, λ z. omega arith, s .pre .1 .1 .2)))
+    let p = s .pre .l-in in record {
+      grid = s .pre .grid;
+      source = s .pre .c-row;
+      a-in = omega arith;
+      i-in = omega arith;
+      t-in = omega arith;
+      apart = λ z. omega arith;
+      a-apart = λ z. omega arith;
+      size = s .pre .c-size;
+    }
 
 sub-product-requires-2 : tie.Need-sub-product-requires-2
 sub-product-requires-2 c κs =
     let after-sub-product = sub-product-from-sub-product-arg4 c in
     let s = start-from-sub-product after-sub-product in
-    let p = s .pre .1 .1 .0 in
-    (after-sub-product .sub-product .ensures .rows, (search needs, (omega arith, omega arith, omega arith, λ z. omega arith, λ z. omega arith, search needs)))
+    let p = s .pre .l-in in record {
+      grid = after-sub-product .sub-product .ensures .rows;
+      source = search needs;
+      a-in = omega arith;
+      i-in = omega arith;
+      t-in = omega arith;
+      apart = λ z. omega arith;
+      a-apart = λ z. omega arith;
+      size = search needs;
+    }
 
 same-length : tie.Need-same-length
 same-length c =

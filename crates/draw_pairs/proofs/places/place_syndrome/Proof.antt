@@ -38,26 +38,26 @@ start-from-after-loop c = start-from-at-loop (c .before)
 
 add-r : tie.Need-add-r Inv-loop μ-loop
 add-r c =
-    omega (arith, start-from-shared-slice-known3 c .pre .1 .1 .1 .0 .1)
+    omega (arith, start-from-shared-slice-known3 c .pre .l-in)
 
 loop-holds : tie.Need-loop-holds Inv-loop μ-loop
 loop-holds c =
     let s = start-from-shared-slice-known3 c in
     let a = s .args in (
       omega arith,
-      place-begun (a .l) (a .half) (now (a .p)) (s .pre .1 .1 .0) (tritAt (now (a .yo)) (now (a .yt))) (matrixAt (a .w) (now (a .ones)) (now (a .twos)))
-          (s .pre .0) refl (s .pre .1 .0 .0) (s .pre .1 .0 .1),
+      place-begun (a .l) (a .half) (now (a .p)) (s .pre .is-order) (tritAt (now (a .yo)) (now (a .yt))) (matrixAt (a .w) (now (a .ones)) (now (a .twos)))
+          (s .pre .grid) refl (s .pre .u-zero) (s .pre .v-zero),
     )
 
 mul-q : tie.Need-mul-q Inv-loop μ-loop
 mul-q c =
     let s = start-from-in-loop c in
-    omega (arith, s .pre .1 .1 .0 .size, s .pre .1 .1 .1 .1 .0)
+    omega (arith, s .pre .is-order .size, s .pre .places-fit)
 
 shared-slice-read-q : tie.Need-shared-slice-read-q Inv-loop μ-loop
 shared-slice-read-q c =
     let s = start-from-in-loop (c .before) in
-    omega (arith, s .pre .1 .1 .0 .size, s .pre .1 .1 .1 .1 .0)
+    omega (arith, s .pre .is-order .size, s .pre .places-fit)
 
 cast-q : tie.Need-cast-q Inv-loop μ-loop
 cast-q c =
@@ -67,7 +67,7 @@ cast-q c =
 trit-at-requires : tie.Need-trit-at-requires Inv-loop μ-loop
 trit-at-requires c κs =
     let s = start-from-in-loop (c .before) in
-    (s .pre .1 .1 .1 .1 .2, omega (arith, s .pre .1 .1 .1 .1 .1))
+    (s .pre .y-twos, omega (arith, s .pre .y-room))
 
 put-place-requires : tie.Need-put-place-requires Inv-loop μ-loop
 put-place-requires c κs =
@@ -75,18 +75,16 @@ put-place-requires c κs =
     let s = start-from-at-loop at-loop in
     let a = s .args in
     let l = at-loop .loop in
-    let p = s .pre .1 .1 .1 .0 in
-    let q = order-below (a .half + a .half) (now (a .p)) (s .pre .1 .1 .0) (l .i) (omega (arith, s .pre .1 .1 .1 .1 .0)) in (
-      l .inv .1 .rows,
-      (
-        omega (arith, l .inv .1 .rows .size, s .pre .0 .size, p .0),
-        omega (arith, p .1),
-        omega (arith, p .1),
-        p .2,
-        q,
-        read-lt _ _ _ _ (c .before .before .trit-at .ensures),
-      ),
-    )
+    let p = s .pre in
+    let q = order-below (a .half + a .half) (now (a .p)) (s .pre .is-order) (l .i) (omega (arith, s .pre .places-fit)) in record {
+      grid = l .inv .1 .rows;
+      small = omega (arith, l .inv .1 .rows .size, s .pre .grid .size, p .small);
+      u-in = omega (arith, p .l-in);
+      v-in = omega (arith, p .l-in);
+      half-fits = p .half-fits;
+      place = q;
+      trit = read-lt _ _ _ _ (c .before .before .trit-at .ensures);
+    }
 
 add-i : tie.Need-add-i Inv-loop μ-loop
 add-i c =
@@ -105,26 +103,26 @@ loop-again c =
     let a = s .args in
     let l = at-loop .loop in (
       omega arith,
-      place-turn (a .l) (a .half) (now (a .p)) (s .pre .1 .1 .0) (tritAt (now (a .yo)) (now (a .yt))) (matrixAt (a .w) (now (a .ones)) (now (a .twos))) (l .i)
-          (after-trit-at .trit-at .result) (omega (arith, s .pre .1 .1 .1 .1 .0)) (l .inv .1) (read-trit _ _ (after-trit-at .trit-at .ensures))
+      place-turn (a .l) (a .half) (now (a .p)) (s .pre .is-order) (tritAt (now (a .yo)) (now (a .yt))) (matrixAt (a .w) (now (a .ones)) (now (a .twos))) (l .i)
+          (after-trit-at .trit-at .result) (omega (arith, s .pre .places-fit)) (l .inv .1) (read-trit _ _ (after-trit-at .trit-at .ensures))
           (after-put-place .put-place .ensures),
     )
 
 same-length : tie.Need-same-length Inv-loop μ-loop
 same-length c =
-    omega (arith, c .before .loop .inv .1 .rows .size, start-from-after-loop c .pre .0 .size)
+    omega (arith, c .before .loop .inv .1 .rows .size, start-from-after-loop c .pre .grid .size)
 
 same-length-2 : tie.Need-same-length-2 Inv-loop μ-loop
 same-length-2 c =
     let start = start-from-after-loop c in
-    omega (arith, c .before .loop .inv .1 .rows .size, c .before .loop .inv .1 .rows .row .same, start .pre .0 .size, start .pre .0 .row .same)
+    omega (arith, c .before .loop .inv .1 .rows .size, c .before .loop .inv .1 .rows .row .same, start .pre .grid .size, start .pre .grid .row .same)
 
 returns : tie.Need-returns Inv-loop μ-loop
 returns c =
     let s = start-from-after-loop c in
     let a = s .args in
     let l = c .before .loop in
-    place-done (a .l) (a .half) (now (a .p)) (s .pre .1 .1 .0) (tritAt (now (a .yo)) (now (a .yt))) (matrixAt (a .w) (now (a .ones)) (now (a .twos))) (l .i)
+    place-done (a .l) (a .half) (now (a .p)) (s .pre .is-order) (tritAt (now (a .yo)) (now (a .yt))) (matrixAt (a .w) (now (a .ones)) (now (a .twos))) (l .i)
     (a .count) (omega arith) (l .inv .1)
 
 pub place-syndrome-spec : {M : Type 1} → statement M

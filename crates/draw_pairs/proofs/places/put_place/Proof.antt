@@ -12,14 +12,24 @@ use Rattle.draw_pairs.proofs.places.put_place.Tie as tie
 put-at-requires : tie.Need-put-at-requires
 put-at-requires c κs =
     let s = c .before .before .before .before .before in
-    let p = s .pre .1 in
-    (s .pre .0, (p .0, p .1, omega (arith, p .3, c .before .before .if1 .taken), p .5))
+    let p = s .pre in record {
+      grid = s .pre .grid;
+      small = p .small;
+      i-in = p .u-in;
+      place = omega (arith, p .half-fits, c .before .before .if1 .taken);
+      trit = p .trit;
+    }
 
 put-at-requires-2 : tie.Need-put-at-requires-2
 put-at-requires-2 c κs =
     let s = c .before .before .before .before .before in
-    let p = s .pre .1 in
-    (s .pre .0, (p .0, p .2, omega (arith, p .3, p .4, c .before .before .if1 .left), p .5))
+    let p = s .pre in record {
+      grid = s .pre .grid;
+      small = p .small;
+      i-in = p .v-in;
+      place = omega (arith, p .half-fits, p .place, c .before .before .if1 .left);
+      trit = p .trit;
+    }
 
 same-length : tie.Need-same-length
 same-length c =

@@ -36,22 +36,22 @@ start-from-after-loop c = start-from-at-loop (c .before)
 
 loop-holds : tie.Need-loop-holds Inv-loop μ-loop
 loop-holds c =
-    (omega arith, start-from-slice-known2 c .pre .1 .0)
+    (omega arith, start-from-slice-known2 c .pre .nothing-put)
 
 add-q : tie.Need-add-q Inv-loop μ-loop
 add-q c =
     let s = start-from-in-loop c in
-    omega (arith, s .pre .1 .1 .1 .1 .0, s .pre .1 .1 .0 .size)
+    omega (arith, s .pre .places-fit, s .pre .is-order .size)
 
 mul-q : tie.Need-mul-q Inv-loop μ-loop
 mul-q c =
     let s = start-from-in-loop c in
-    omega (arith, s .pre .1 .1 .1 .1 .0)
+    omega (arith, s .pre .places-fit)
 
 shared-slice-read-q : tie.Need-shared-slice-read-q Inv-loop μ-loop
 shared-slice-read-q c =
     let s = start-from-in-loop (c .before) in
-    omega (arith, s .pre .1 .1 .1 .1 .0)
+    omega (arith, s .pre .places-fit)
 
 cast-q : tie.Need-cast-q Inv-loop μ-loop
 cast-q c =
@@ -64,30 +64,26 @@ trit-of-place-requires c κs =
     let s = start-from-in-loop (c .before) in
     let a = s .args in
     let l = c .before .before .loop in
-    let p = s .pre .1 .1 .1 .0 in (
-      s .pre .0,
-      (
-        p .0,
-        omega (arith, p .1, p .2),
-        omega (arith, p .1, p .2),
-        p .3,
-        order-below (a .half + a .half) (now (a .p)) (s .pre .1 .1 .0) (a .from + l .j) (omega (arith, s .pre .1 .1 .0 .size, s .pre .1 .1 .1 .1 .0)),
-      ),
-    )
+    let p = s .pre in record {
+      grid = s .pre .grid;
+      small = p .small;
+      u-in = omega (arith, p .u-in, p .v-in);
+      v-in = omega (arith, p .u-in, p .v-in);
+      half-fits = p .half-fits;
+      place = order-below (a .half + a .half) (now (a .p)) (s .pre .is-order) (a .from + l .j) (omega (arith, s .pre .is-order .size, s .pre .places-fit));
+    }
 
 put-trit-requires : tie.Need-put-trit-requires Inv-loop μ-loop
 put-trit-requires c κs =
     let at-loop = c .before .before .before .before .before in
     let s = start-from-at-loop at-loop in
     let a = s .args in
-    let l = at-loop .loop in (
-      l .inv .1 .row,
-      (
-        omega (arith, l .inv .1 .size, s .pre .1 .1 .1 .1 .1),
-        trit-lt (writtenFrom (a .half) (matrixAt (a .w) (now (a .ones)) (now (a .twos)) (a .u)) (matrixAt (a .w) (now (a .ones)) (now (a .twos)) (a .v))
-            (now (a .p)) (a .from) (l .j)) _ (c .before .before .trit-of-place .ensures),
-      ),
-    )
+    let l = at-loop .loop in record {
+      row = l .inv .1 .row;
+      place = omega (arith, l .inv .1 .size, s .pre .room);
+      trit = trit-lt (writtenFrom (a .half) (matrixAt (a .w) (now (a .ones)) (now (a .twos)) (a .u)) (matrixAt (a .w) (now (a .ones)) (now (a .twos)) (a .v))
+          (now (a .p)) (a .from) (l .j)) _ (c .before .before .trit-of-place .ensures);
+    }
 
 add-j : tie.Need-add-j Inv-loop μ-loop
 add-j c =
@@ -117,7 +113,7 @@ same-length c =
 
 same-length-2 : tie.Need-same-length-2 Inv-loop μ-loop
 same-length-2 c =
-    omega (arith, c .before .loop .inv .1 .size, c .before .loop .inv .1 .row .same, start-from-after-loop c .pre .1 .0 .row .same)
+    omega (arith, c .before .loop .inv .1 .size, c .before .loop .inv .1 .row .same, start-from-after-loop c .pre .nothing-put .row .same)
 
 returns : tie.Need-returns Inv-loop μ-loop
 returns c =

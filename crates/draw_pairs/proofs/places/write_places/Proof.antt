@@ -39,14 +39,18 @@ put-places-requires c κs =
     let a = s .args in
     let e = after-zero-words .zero-words .ensures in
     let n = ap length e ∙ length-zeros (length (now (a .oo))) in
-    let p = s .pre .1 .1 .1 in (
-      s .pre .0,
-      (
-        zeros-hold (writtenFrom (a .half) (matrixAt (a .w) (now (a .ones)) (now (a .twos)) (a .u)) (matrixAt (a .w) (now (a .ones)) (now (a .twos)) (a .v))
-            (now (a .p)) (a .from)) e (after-zero-words2 .zero-words2 .ensures) (p .2),
-        (s .pre .1 .0, (s .pre .1 .1 .0, (p .0, omega (arith, n, p .1)))),
-      ),
-    )
+    let p = s .pre in record {
+      grid = s .pre .grid;
+      nothing-put = zeros-hold (writtenFrom (a .half) (matrixAt (a .w) (now (a .ones)) (now (a .twos)) (a .u)) (matrixAt (a .w) (now (a .ones)) (now (a .twos)) (a .v))
+          (now (a .p)) (a .from)) e (after-zero-words2 .zero-words2 .ensures) (p .twos-size);
+      is-order = s .pre .is-order;
+      small = s .pre .small;
+      u-in = s .pre .u-in;
+      v-in = s .pre .v-in;
+      half-fits = s .pre .half-fits;
+      places-fit = p .places-fit;
+      room = omega (arith, n, p .room);
+    }
 
 same-length : tie.Need-same-length
 same-length c =

@@ -28,7 +28,7 @@ start-from-after-loop c = c .before .before .before .before .before
 loop-holds : tie.Need-loop-holds Inv-loop μ-loop
 loop-holds c =
     let s = c .before .before .before in
-    (omega arith, none-tried (now (s .args .order)) (s .pre .0))
+    (omega arith, none-tried (now (s .args .order)) (s .pre .grid))
 
 mul-q : tie.Need-mul-q Inv-loop μ-loop
 mul-q c = omega arith
@@ -44,8 +44,12 @@ count-column-requires c κs =
     let at-loop = c .before .before .before .before in
     let s = at-loop .before .before .before .before in
     let l = at-loop .loop in
-    let p = place-below (now (s .args .order)) (length (now (s .args .order))) (l .i) (s .pre .1 .0) (omega arith) in
-    (l .inv .1 .grid .rows, (omega (arith, l .inv .1 .grid .rows .size), omega (arith, p), omega (arith, l .inv .1 .room)))
+    let p = place-below (now (s .args .order)) (length (now (s .args .order))) (l .i) (s .pre .is-order) (omega arith) in record {
+      grid = l .inv .1 .grid .rows;
+      small = omega (arith, l .inv .1 .grid .rows .size);
+      column = omega (arith, p);
+      at-most = omega (arith, l .inv .1 .room);
+    }
 
 add-i : tie.Need-add-i Inv-loop μ-loop
 add-i c = omega arith
@@ -76,7 +80,7 @@ returns c =
     let e : l .i ≡ a .m = omega arith in
     let g = rw e at (l .inv .1) in
     let n = length (now (a .order)) in
-    (went-count n g (first-below n (a .m) (now (a .order)) (s .pre .1 .0)), went-grid g)
+    (went-count n g (first-below n (a .m) (now (a .order)) (s .pre .is-order)), went-grid g)
 
 pub eliminate-by-spec : {M : Type 1} → statement M
 eliminate-by-spec =

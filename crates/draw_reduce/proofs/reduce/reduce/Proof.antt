@@ -34,7 +34,7 @@ part-reduce-copied-end : tie.Need-part-reduce-copied-end
 part-reduce-copied-end c =
     let s = start-from-shared-slice-known3 c in
     let a = s .args in
-    omega (arith, s .pre .0 .size, s .pre .1 .0 .size, mul-le-mul-right (a .w) (s .pre .1 .1 .1 .1))
+    omega (arith, s .pre .grid .size, s .pre .h-grid .size, mul-le-mul-right (a .w) (s .pre .r-in))
 
 sub-reduce-copied-2 : tie.Need-sub-reduce-copied-2
 sub-reduce-copied-2 c = search needs
@@ -46,19 +46,26 @@ part-reduce-copied-end-2 : tie.Need-part-reduce-copied-end-2
 part-reduce-copied-end-2 c =
     let s = start-from-reduce-copied-arg c in
     let a = s .args in
-    omega (arith, s .pre .0 .row .same, s .pre .0 .size, s .pre .1 .0 .size, mul-le-mul-right (a .w) (s .pre .1 .1 .1 .1))
+    omega (arith, s .pre .grid .row .same, s .pre .grid .size, s .pre .h-grid .size, mul-le-mul-right (a .w) (s .pre .r-in))
 
 reduce-copied-requires : tie.Need-reduce-copied-requires
 reduce-copied-requires c κs =
     let s = start-from-reduce-copied-arg2 c in
     let a = s .args in
     let n = length (now (a .ho)) in
-    let b = s .pre .1 .1 .1 in
-    let m = mul-le-mul-right (a .w) (b .1) in
-    let h = s .pre .1 .0 in
-    let lo = length-mid 0 (n - 0) (now (a .ones)) (omega (arith, s .pre .0 .size, h .size, m)) in
-    let lt = length-mid 0 (n - 0) (now (a .twos)) (omega (arith, s .pre .0 .row .same, s .pre .0 .size, h .size, m)) in
-    (h, ((omega (arith, lo, h .size), omega (arith, lt, h .size)), (s .pre .1 .1 .0, (omega (arith, lo, h .size, m, s .pre .0 .size, b .0), b .2, b .3))))
+    let b = s .pre in
+    let m = mul-le-mul-right (a .w) (b .r-in) in
+    let h = s .pre .h-grid in
+    let lo = length-mid 0 (n - 0) (now (a .ones)) (omega (arith, s .pre .grid .size, h .size, m)) in
+    let lt = length-mid 0 (n - 0) (now (a .twos)) (omega (arith, s .pre .grid .row .same, s .pre .grid .size, h .size, m)) in record {
+      h-grid = h;
+      ones-size = omega (arith, lo, h .size);
+      twos-size = omega (arith, lt, h .size);
+      is-order = s .pre .is-order;
+      small = omega (arith, lo, h .size, m, s .pre .grid .size, b .small);
+      front = b .front;
+      places-fit = b .places-fit;
+    }
 
 same-length : tie.Need-same-length
 same-length c = search needs
@@ -72,7 +79,7 @@ returns c =
     let s = start-from-reduce-copied after-reduce-copied in
     let a = s .args in
     let d = after-reduce-copied .reduce-copied .ensures in
-    (d .0, front-grid (a .w) (a .r) (s .pre .0) (s .pre .1 .1 .1 .1) (length (now (a .ho)) - 0) (omega (arith, s .pre .1 .0 .size)) (d .1))
+    (d .0, front-grid (a .w) (a .r) (s .pre .grid) (s .pre .r-in) (length (now (a .ho)) - 0) (omega (arith, s .pre .h-grid .size)) (d .1))
 
 pub reduce-spec : {M : Type 1} → statement M
 reduce-spec =

@@ -31,10 +31,13 @@ eliminate-by-requires c κs =
     let after-copy-words = after-copy-words2 .before .before .before .before in
     let s = start-from-copy-words after-copy-words in
     let e = after-copy-words .copy-words .ensures in
-    let b = s .pre .1 .1 .1 in (
-      copied-rows e (after-copy-words2 .copy-words2 .ensures) (s .pre .0),
-      (s .pre .1 .1 .0, (omega (arith, ap length e, s .pre .0 .size, s .pre .1 .0 .0, b .0), b .1, b .2)),
-    )
+    let b = s .pre in record {
+      grid = copied-rows e (after-copy-words2 .copy-words2 .ensures) (s .pre .h-grid);
+      is-order = s .pre .is-order;
+      small = omega (arith, ap length e, s .pre .h-grid .size, s .pre .ones-size, b .small);
+      front = b .front;
+      places-fit = b .places-fit;
+    }
 
 same-length : tie.Need-same-length
 same-length c = search needs

@@ -100,7 +100,11 @@ test-planes-requires : tie.Need-test-planes-requires
 test-planes-requires c κs =
     let s = start-from-else1 c in
     let b = bounds (s .args .z) (s .pre .0) in
-    let l = s .pre .1 in (omega (arith, l .1), omega (arith, l .2), omega (arith, b .high))
+    let l = s .pre .1 in record {
+      ones-size = omega (arith, l .1);
+      twos-size = omega (arith, l .2);
+      small = omega (arith, b .high);
+    }
 
 code-requires : tie.Need-code-requires
 code-requires c κs = search needs
@@ -137,7 +141,11 @@ test-planes-requires-2 : tie.Need-test-planes-requires-2
 test-planes-requires-2 c κs =
     let s = start-from-else3 c in
     let b = bounds (s .args .z) (s .pre .0) in
-    let l = s .pre .1 in (omega (arith, l .4), omega (arith, l .5), omega (arith, b .high, b .kv))
+    let l = s .pre .1 in record {
+      ones-size = omega (arith, l .4);
+      twos-size = omega (arith, l .5);
+      small = omega (arith, b .high, b .kv);
+    }
 
 code-requires-2 : tie.Need-code-requires-2
 code-requires-2 c κs = search needs
@@ -191,7 +199,11 @@ test-planes-requires-3 : tie.Need-test-planes-requires-3
 test-planes-requires-3 c κs =
     let s = start-from-else5 c in
     let b = bounds (s .args .z) (s .pre .0) in
-    let l = s .pre .1 in (omega (arith, l .7), omega (arith, l .8), omega (arith, b .high, b .ku))
+    let l = s .pre .1 in record {
+      ones-size = omega (arith, l .7);
+      twos-size = omega (arith, l .8);
+      small = omega (arith, b .high, b .ku);
+    }
 
 code-requires-3 : tie.Need-code-requires-3
 code-requires-3 c κs = search needs
@@ -232,7 +244,11 @@ has-zero-requires : tie.Need-has-zero-requires
 has-zero-requires c κs =
     let s = start-from-else6 c in
     let b = bounds (s .args .z) (s .pre .0) in
-    let l = s .pre .1 in (l .8 ∙ sym (l .7), omega (arith, l .7, b .gu), omega (arith, b .high, b .ku, b .gu))
+    let l = s .pre .1 in record {
+      twos-size = l .8 ∙ sym (l .7);
+      trits-fit = omega (arith, l .7, b .gu);
+      stretch-small = omega (arith, b .high, b .ku, b .gu);
+    }
 
 returns-7 : tie.Need-returns-7
 unfolding choicesRefusal

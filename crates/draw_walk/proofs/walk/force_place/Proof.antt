@@ -10,7 +10,7 @@ use Rattle.trits.specs.Trit.{Trit, tritOf, putV, mulT, subT}
 use denote.Ref.{now}
 use native.Mathlib.Omega.{arith}
 use mathlib.Core.Path.{ap}
-use Prim.Native.Nat.{_+_, _-_, _*_}
+use Prim.Native.Nat.{_+_, _*_}
 use Rattle.draw_walk.proofs.walk.force_place.Statement.{statement}
 use Rattle.draw_walk.proofs.walk.force_place.Tie as tie
 
@@ -38,33 +38,39 @@ mul-trit-at c =
     let s = start-from-trit-at-arg2 c in
     let a = s .args in
     let h = row-le (a .w) {i = a .ev} {m = a .rows} (omega arith) in
-    omega (arith, h, s .pre .0 .size)
+    omega (arith, h, s .pre .grid .size)
 
 mul-trit-at-2 : tie.Need-mul-trit-at-2
 mul-trit-at-2 c =
     let s = start-from-trit-at-arg2 c in
     let a = s .args in
     let h = row-le (a .w) {i = a .ev} {m = a .rows} (omega arith) in
-    omega (arith, h, s .pre .0 .size)
+    omega (arith, h, s .pre .grid .size)
 
 add-trit-at : tie.Need-add-trit-at
 add-trit-at c =
     let s = start-from-trit-at-arg2 c in
     let a = s .args in
     let h = row-le (a .w) {i = a .ev} {m = a .rows} (omega arith) in
-    omega (arith, h, s .pre .0 .size)
+    omega (arith, h, s .pre .grid .size)
 
 trit-at-requires : tie.Need-trit-at-requires
 trit-at-requires c κs =
     let s = start-from-trit-at-arg2 c in
     let a = s .args in
     let h = row-le (a .w) {i = a .ev} {m = a .rows} (omega arith) in
-    (s .pre .0 .row .same, omega (arith, h, s .pre .0 .size))
+    (s .pre .grid .row .same, omega (arith, h, s .pre .grid .size))
 
 put-from-requires : tie.Need-put-from-requires
 put-from-requires c κs =
-    let s = start-from-then1 (c .before .before) in
-    (s .pre .0, (s .pre .1 .0 .2, (s .pre .1 .1 .0, s .pre .1 .1 .1, s .pre .1 .1 .3, s .pre .1 .1 .6)))
+    let s = start-from-then1 (c .before .before) in record {
+      grid = s .pre .grid;
+      source = s .pre .u-row;
+      small = s .pre .small;
+      place = s .pre .place;
+      e-in = s .pre .e-in;
+      source-place = s .pre .u-room;
+    }
 
 same-length : tie.Need-same-length
 same-length c = search needs
@@ -81,41 +87,39 @@ returns c =
     let a = s .args in
     grid-row (matrixAt (a .w) (now (a .ones)) (now (a .twos))) (a .e) (after-put-from .put-from .ensures)
     (ap (λ (x : Trit). putV ((matrixAt (a .w) (now (a .ones)) (now (a .twos))) (a .e)) (a .q) x)
-    (forced-none (a .w) (now (a .ones)) (now (a .twos)) (a .ev) (a .q) _ (s .pre .1 .1 .1) (after-trit-at .trit-at .ensures)
+    (forced-none (a .w) (now (a .ones)) (now (a .twos)) (a .ev) (a .q) _ (s .pre .place) (after-trit-at .trit-at .ensures)
     (tritAt (now (a .bo)) (now (a .bt))) (tritAt (now (a .co)) (now (a .ct))) (tritAt (now (a .uo)) (now (a .ut)) (a .j)) (then1 .if1 .taken)))
 
 trit-at-requires-2 : tie.Need-trit-at-requires-2
 trit-at-requires-2 c κs =
     let s = start-from-else1 c in
-    (s .pre .1 .0 .0 .same, s .pre .1 .1 .4)
+    (s .pre .b-row .same, s .pre .b-room)
 
 trit-at-requires-3 : tie.Need-trit-at-requires-3
 trit-at-requires-3 c κs =
     let s = start-from-trit-at2 c in
-    (s .pre .1 .0 .1 .same, s .pre .1 .1 .5)
+    (s .pre .c-row .same, s .pre .c-room)
 
 forced-trit-requires : tie.Need-forced-trit-requires
 forced-trit-requires c κs =
-    let a = start-from-trit-at3 c .args in (
-      trit-lt (tritAt (now (a .bo)) (now (a .bt)) (a .q)) _ (c .before .trit-at2 .ensures),
-      trit-lt (tritAt (now (a .co)) (now (a .ct)) (a .q)) _ (c .trit-at3 .ensures),
-      trit-lt (tritAt (now (a .ones)) (now (a .twos)) (64 * (a .ev * a .w) + a .q)) _ (c .before .before .before .trit-at .ensures),
-    )
+    let a = start-from-trit-at3 c .args in record {
+      b-trit = trit-lt (tritAt (now (a .bo)) (now (a .bt)) (a .q)) _ (c .before .trit-at2 .ensures);
+      c-trit = trit-lt (tritAt (now (a .co)) (now (a .ct)) (a .q)) _ (c .trit-at3 .ensures);
+      v-trit = trit-lt (tritAt (now (a .ones)) (now (a .twos)) (64 * (a .ev * a .w) + a .q)) _ (c .before .before .before .trit-at .ensures);
+    }
 
 put-at-requires : tie.Need-put-at-requires
 put-at-requires c κs =
     let after-trit-at2 = c .before .before .before .before in
     let after-trit-at = after-trit-at2 .before .before in
-    let s = start-from-trit-at after-trit-at in (
-      s .pre .0,
-      (
-        s .pre .1 .1 .0,
-        s .pre .1 .1 .3,
-        s .pre .1 .1 .1,
-        trit-lt (mulT (subT (tritOf (c .before .before .before .trit-at3 .result)) (tritOf (after-trit-at2 .trit-at2 .result)))
-            (tritOf (after-trit-at .trit-at .result))) _ (c .before .before .forced-trit .ensures),
-      ),
-    )
+    let s = start-from-trit-at after-trit-at in record {
+      grid = s .pre .grid;
+      small = s .pre .small;
+      i-in = s .pre .e-in;
+      place = s .pre .place;
+      trit = trit-lt (mulT (subT (tritOf (c .before .before .before .trit-at3 .result)) (tritOf (after-trit-at2 .trit-at2 .result)))
+          (tritOf (after-trit-at .trit-at .result))) _ (c .before .before .forced-trit .ensures);
+    }
 
 same-length-3 : tie.Need-same-length-3
 same-length-3 c = search needs
@@ -134,7 +138,7 @@ returns-2 c =
     let s = start-from-trit-at after-trit-at in
     let a = s .args in
     put-number (matrixAt (a .w) (now (a .ones)) (now (a .twos))) (a .e) (a .q) _ _
-    (forced-some (a .w) (now (a .ones)) (now (a .twos)) (a .ev) (a .q) _ (s .pre .1 .1 .1) (after-trit-at .trit-at .ensures)
+    (forced-some (a .w) (now (a .ones)) (now (a .twos)) (a .ev) (a .q) _ (s .pre .place) (after-trit-at .trit-at .ensures)
     (tritAt (now (a .bo)) (now (a .bt))) (tritAt (now (a .co)) (now (a .ct))) (tritAt (now (a .uo)) (now (a .ut)) (a .j)) (else1 .if1 .left)
     (after-trit-at2 .trit-at2 .ensures) (after-trit-at3 .trit-at3 .ensures) (after-forced-trit .forced-trit .ensures)) (after-put-at .put-at .ensures)
 

@@ -17,7 +17,7 @@ mul-result-2 c = small-product (omega arith) (omega arith)
 
 returns : tie.Need-returns
 returns c =
-    forced-number (c .args .b) (c .args .c) (c .args .v) (c .pre .0) (c .pre .1) (c .pre .2)
+    forced-number (c .args .b) (c .args .c) (c .args .v) (c .pre .b-trit) (c .pre .c-trit) (c .pre .v-trit)
 
 pub forced-trit-spec : {M : Type 1} → statement M
 forced-trit-spec = tie.close (tie.spec mul-result add-result mul-result-2 returns)

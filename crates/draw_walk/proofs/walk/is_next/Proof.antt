@@ -17,34 +17,34 @@ mul-trit-at c =
     let s = c .before .before .before in
     let a = s .args in
     let h = row-le (a .w) {i = a .c} {m = a .rows} (omega arith) in
-    omega (arith, h, s .pre .0 .size)
+    omega (arith, h, s .pre .grid .size)
 
 mul-trit-at-2 : tie.Need-mul-trit-at-2
 mul-trit-at-2 c =
     let s = c .before .before .before in
     let a = s .args in
     let h = row-le (a .w) {i = a .c} {m = a .rows} (omega arith) in
-    omega (arith, h, s .pre .0 .size)
+    omega (arith, h, s .pre .grid .size)
 
 add-trit-at : tie.Need-add-trit-at
 add-trit-at c =
     let s = c .before .before .before in
     let a = s .args in
     let h = row-le (a .w) {i = a .c} {m = a .rows} (omega arith) in
-    omega (arith, h, s .pre .0 .size)
+    omega (arith, h, s .pre .grid .size)
 
 trit-at-requires : tie.Need-trit-at-requires
 trit-at-requires c κs =
     let s = c .before .before .before in
     let a = s .args in
     let h = row-le (a .w) {i = a .c} {m = a .rows} (omega arith) in
-    (s .pre .0 .row .same, omega (arith, h, s .pre .0 .size))
+    (s .pre .grid .row .same, omega (arith, h, s .pre .grid .size))
 
 returns-2 : tie.Need-returns-2
 returns-2 c =
     let s = c .before .before .before .before in
     let a = s .args in
-    next-row (a .r) (a .w) (now (a .ones)) (now (a .twos)) (a .c) (a .q) (omega arith) (s .pre .1 .1) (c .trit-at .ensures)
+    next-row (a .r) (a .w) (now (a .ones)) (now (a .twos)) (a .c) (a .q) (omega arith) (s .pre .place) (c .trit-at .ensures)
 
 pub is-next-spec : {M : Type 1} → statement M
 is-next-spec =

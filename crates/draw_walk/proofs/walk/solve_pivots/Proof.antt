@@ -34,7 +34,7 @@ loop-holds c =
     let a = s .args in (
       omega arith,
       walking-none (a .e) (now (a .order)) (λ B. taken (a .r) B 0 (take 0 (now (a .order))))
-          (times (64 * a .w) (matrixAt (a .w) (now (a .ones)) (now (a .twos))) ((matrixAt (a .w) (now (a .ones)) (now (a .twos))) (a .x))) (s .pre .0)
+          (times (64 * a .w) (matrixAt (a .w) (now (a .ones)) (now (a .twos))) ((matrixAt (a .w) (now (a .ones)) (now (a .twos))) (a .x))) (s .pre .grid)
           (taken-nil (a .r) (matrixAt (a .w) (now (a .ones)) (now (a .twos))) (now (a .order))),
     )
 
@@ -54,10 +54,15 @@ solve-place-requires c κs =
     let s = at-loop .before .before .before .before in
     let a = s .args in
     let l = at-loop .loop in
-    let q = place-below (now (a .order)) (length (now (a .order))) (l .i) (s .pre .1 .0) (omega arith) in (
-      l .inv .1 .grid .rows,
-      (omega (arith, l .inv .1 .grid .rows .size, s .pre .0 .size), s .pre .1 .1 .0 .1, omega (arith, q), omega arith, s .pre .1 .1 .1 .2, s .pre .1 .1 .1 .1),
-    )
+    let q = place-below (now (a .order)) (length (now (a .order))) (l .i) (s .pre .is-order) (omega arith) in record {
+      grid = l .inv .1 .grid .rows;
+      small = omega (arith, l .inv .1 .grid .rows .size, s .pre .grid .size);
+      narrow = s .pre .narrow;
+      place = omega (arith, q);
+      r-in = omega arith;
+      x-in = s .pre .x-in;
+      e-in = s .pre .e-in;
+    }
 
 add-i : tie.Need-add-i Inv-loop μ-loop
 add-i c = omega arith
@@ -74,20 +79,20 @@ loop-again c =
     let l = at-loop .loop in
     let e = after-solve-place .solve-place .ensures in (
       omega arith,
-      solve-turn (now (a .order)) (matrixAt (a .w) (now (a .ones)) (now (a .twos))) (s .pre .1 .0) (omega arith) (s .pre .1 .1 .1 .0) (a .x) (64 * a .w)
-          (s .pre .1 .1 .1 .3) (l .inv .1) (e .0) (e .1),
+      solve-turn (now (a .order)) (matrixAt (a .w) (now (a .ones)) (now (a .twos))) (s .pre .is-order) (omega arith) (s .pre .e-past) (a .x) (64 * a .w)
+          (s .pre .apart) (l .inv .1) (e .0) (e .1),
     )
 
 same-length : tie.Need-same-length Inv-loop μ-loop
 same-length c =
     let s = start-from-after-loop c in
-    omega (arith, c .before .loop .inv .1 .grid .rows .size, s .pre .0 .size)
+    omega (arith, c .before .loop .inv .1 .grid .rows .size, s .pre .grid .size)
 
 same-length-2 : tie.Need-same-length-2 Inv-loop μ-loop
 same-length-2 c =
     let s = start-from-after-loop c in
     let g = c .before .loop .inv .1 .grid .rows in
-    omega (arith, g .size, g .row .same, s .pre .0 .size, s .pre .0 .row .same)
+    omega (arith, g .size, g .row .same, s .pre .grid .size, s .pre .grid .row .same)
 
 returns : tie.Need-returns Inv-loop μ-loop
 returns c =

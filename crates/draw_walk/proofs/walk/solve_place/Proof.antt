@@ -31,30 +31,36 @@ start-from-else1 c = c .before .before .before .before .before .before
 
 is-next-requires : tie.Need-is-next-requires
 is-next-requires c κs =
-    let s = c .before .before .before .before in
-    (s .pre .0, (s .pre .1 .0, s .pre .1 .2, s .pre .1 .3))
+    let s = c .before .before .before .before in record {
+      grid = s .pre .grid;
+      small = s .pre .small;
+      place = s .pre .place;
+      r-in = s .pre .r-in;
+    }
 
 row-dot-requires : tie.Need-row-dot-requires
 row-dot-requires c κs =
     let s = start-from-then1 (c .before .before) in
     let a = s .args in
     let h = next-lt (a .r) (matrixAt (a .w) (now (a .ones)) (now (a .twos))) (a .c) (a .q)
-    (sym (c .before .before .before .is-next .ensures) ∙ c .before .before .if1 .taken) in
-    (s .pre .0, (s .pre .1 .1, omega (arith, h, s .pre .1 .3), s .pre .1 .4))
+    (sym (c .before .before .before .is-next .ensures) ∙ c .before .before .if1 .taken) in record {
+      grid = s .pre .grid;
+      narrow = s .pre .narrow;
+      i-in = omega (arith, h, s .pre .r-in);
+      j-in = s .pre .x-in;
+    }
 
 put-at-requires : tie.Need-put-at-requires
 put-at-requires c κs =
     let s = start-from-row-dot (c .before .before) in
-    let a = s .args in (
-      s .pre .0,
-      (
-        s .pre .1 .0,
-        s .pre .1 .5,
-        s .pre .1 .2,
-        trit-lt (dotV ((matrixAt (a .w) (now (a .ones)) (now (a .twos))) (a .c)) ((matrixAt (a .w) (now (a .ones)) (now (a .twos))) (a .x)) (64 * a .w)) _
-            (c .before .before .row-dot .ensures),
-      ),
-    )
+    let a = s .args in record {
+      grid = s .pre .grid;
+      small = s .pre .small;
+      i-in = s .pre .e-in;
+      place = s .pre .place;
+      trit = trit-lt (dotV ((matrixAt (a .w) (now (a .ones)) (now (a .twos))) (a .c)) ((matrixAt (a .w) (now (a .ones)) (now (a .twos))) (a .x)) (64 * a .w)) _
+          (c .before .before .row-dot .ensures);
+    }
 
 add-result : tie.Need-add-result
 add-result c =
@@ -97,7 +103,7 @@ returns-2 c =
     let s = start-from-else1 c in
     let a = s .args in
     let y = sym (c .before .is-next .ensures) ∙ c .if1 .left in
-    (no-count (a .c) y, grid-own (s .pre .0) (a .e) (pick-second _ ((matrixAt (a .w) (now (a .ones)) (now (a .twos))) (a .e)) y))
+    (no-count (a .c) y, grid-own (s .pre .grid) (a .e) (pick-second _ ((matrixAt (a .w) (now (a .ones)) (now (a .twos))) (a .e)) y))
 
 pub solve-place-spec : {M : Type 1} → statement M
 solve-place-spec =

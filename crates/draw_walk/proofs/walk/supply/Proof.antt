@@ -40,7 +40,7 @@ loop-holds c =
     let s = start-from-shared-slice-known3 c in
     let a = s .args in (
       omega arith,
-      walking-none (a .e) (now (a .order)) (λ B. passed (a .r) B 0 (take 0 (now (a .order)))) (tritAt (now (a .vo)) (now (a .vt))) (s .pre .0)
+      walking-none (a .e) (now (a .order)) (λ B. passed (a .r) B 0 (take 0 (now (a .order)))) (tritAt (now (a .vo)) (now (a .vt))) (s .pre .grid)
           (passed-nil (a .r) (matrixAt (a .w) (now (a .ones)) (now (a .twos))) (now (a .order))),
     )
 
@@ -62,7 +62,7 @@ sub-supply-place c =
     let l = at-loop .loop in
     omega (
       arith,
-      passed-count (now (a .order)) (matrixAt (a .w) (now (a .ones)) (now (a .twos))) {i = l .i} (s .pre .1 .1 .0) (omega arith) (s .pre .1 .1 .1 .0 .3)
+      passed-count (now (a .order)) (matrixAt (a .w) (now (a .ones)) (now (a .twos))) {i = l .i} (s .pre .is-order) (omega arith) (s .pre .e-past)
           (l .inv .1),
     )
 
@@ -72,18 +72,17 @@ supply-place-requires c κs =
     let s = start-from-at-loop at-loop in
     let a = s .args in
     let l = at-loop .loop in
-    let q = place-below (now (a .order)) (length (now (a .order))) (l .i) (s .pre .1 .1 .0) (omega arith) in
-    let p = passed-count (now (a .order)) (matrixAt (a .w) (now (a .ones)) (now (a .twos))) {i = l .i} (s .pre .1 .1 .0) (omega arith) (s .pre .1 .1 .1 .0 .3) (l .inv .1) in (
-      l .inv .1 .grid .rows,
-      (
-        s .pre .1 .0,
-        (
-          (omega (arith, l .inv .1 .grid .rows .size, s .pre .0 .size), omega (arith, q), omega arith, s .pre .1 .1 .1 .0 .4),
-          supply-room (now (a .order)) (matrixAt (a .w) (now (a .ones)) (now (a .twos))) (s .pre .1 .1 .0) (omega arith) (s .pre .1 .1 .1 .0 .3) (l .inv .1)
-              (a .m) (64 * length (now (a .vo))) (omega arith) (s .pre .1 .1 .1 .1) (omega (arith, p)),
-        ),
-      ),
-    )
+    let q = place-below (now (a .order)) (length (now (a .order))) (l .i) (s .pre .is-order) (omega arith) in
+    let p = passed-count (now (a .order)) (matrixAt (a .w) (now (a .ones)) (now (a .twos))) {i = l .i} (s .pre .is-order) (omega arith) (s .pre .e-past) (l .inv .1) in record {
+      grid = l .inv .1 .grid .rows;
+      source = s .pre .source;
+      small = omega (arith, l .inv .1 .grid .rows .size, s .pre .grid .size);
+      place = omega (arith, q);
+      r-in = omega arith;
+      e-in = s .pre .e-in;
+      enough = supply-room (now (a .order)) (matrixAt (a .w) (now (a .ones)) (now (a .twos))) (s .pre .is-order) (omega arith) (s .pre .e-past) (l .inv .1)
+          (a .m) (64 * length (now (a .vo))) (omega arith) (s .pre .enough) (omega (arith, p));
+    }
 
 add-i : tie.Need-add-i Inv-loop μ-loop
 add-i c = omega arith
@@ -100,20 +99,20 @@ loop-again c =
     let l = at-loop .loop in
     let e = after-supply-place .supply-place .ensures in (
       omega arith,
-      supply-turn (now (a .order)) (matrixAt (a .w) (now (a .ones)) (now (a .twos))) (s .pre .1 .1 .0) (omega arith) (s .pre .1 .1 .1 .0 .3)
+      supply-turn (now (a .order)) (matrixAt (a .w) (now (a .ones)) (now (a .twos))) (s .pre .is-order) (omega arith) (s .pre .e-past)
           (tritAt (now (a .vo)) (now (a .vt))) (l .inv .1) (e .0) (e .1),
     )
 
 same-length : tie.Need-same-length Inv-loop μ-loop
 same-length c =
     let s = start-from-after-loop c in
-    omega (arith, c .before .loop .inv .1 .grid .rows .size, s .pre .0 .size)
+    omega (arith, c .before .loop .inv .1 .grid .rows .size, s .pre .grid .size)
 
 same-length-2 : tie.Need-same-length-2 Inv-loop μ-loop
 same-length-2 c =
     let s = start-from-after-loop c in
     let g = c .before .loop .inv .1 .grid .rows in
-    omega (arith, g .size, g .row .same, s .pre .0 .size, s .pre .0 .row .same)
+    omega (arith, g .size, g .row .same, s .pre .grid .size, s .pre .grid .row .same)
 
 returns : tie.Need-returns Inv-loop μ-loop
 returns c =

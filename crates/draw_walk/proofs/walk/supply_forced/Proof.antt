@@ -47,7 +47,7 @@ loop-holds c =
     let a = s .args in (
       (omega arith, omega arith),
       forced-start (now (a .order)) (matrixAt (a .w) (now (a .ones)) (now (a .twos))) (a .from) (a .from) (a .e) (a .ev) (tritAt (now (a .bo)) (now (a .bt)))
-          (tritAt (now (a .co)) (now (a .ct))) (tritAt (now (a .uo)) (now (a .ut))) (a .g) (s .pre .0) refl refl,
+          (tritAt (now (a .co)) (now (a .ct))) (tritAt (now (a .uo)) (now (a .ut))) (a .g) (s .pre .grid) refl refl,
     )
 
 mul-q : tie.Need-mul-q Inv-loop μ-loop
@@ -66,8 +66,8 @@ sub-j c = omega arith
 add-j : tie.Need-add-j Inv-loop μ-loop
 add-j c =
     let s = start-from-in-loop (c .before) in
-    let p = s .pre .1 .1 .1 in
-    omega (arith, p .0 .1, p .0 .2, p .0 .3, p .1 .3)
+    let p = s .pre in
+    omega (arith, p .narrow, p .places-fit, p .front, p .gap)
 
 force-place-requires : tie.Need-force-place-requires Inv-loop μ-loop
 force-place-requires c κs =
@@ -75,27 +75,25 @@ force-place-requires c κs =
     let s = start-from-at-loop at-loop in
     let a = s .args in
     let l = at-loop .loop in
-    let q = place-below (now (a .order)) (length (now (a .order))) (l .i) (s .pre .1 .1 .0) (omega arith) in (
-      l .inv .1 .rows,
-      (
-        s .pre .1 .0,
-        (
-          omega (arith, l .inv .1 .rows .size, s .pre .0 .size),
-          omega (arith, q),
-          s .pre .1 .1 .1 .0 .4,
-          s .pre .1 .1 .1 .0 .5,
-          omega (arith, q),
-          omega (arith, q),
-          omega arith,
-        ),
-      ),
-    )
+    let q = place-below (now (a .order)) (length (now (a .order))) (l .i) (s .pre .is-order) (omega arith) in record {
+      grid = l .inv .1 .rows;
+      b-row = s .pre .b-row;
+      c-row = s .pre .c-row;
+      u-row = s .pre .u-row;
+      small = omega (arith, l .inv .1 .rows .size, s .pre .grid .size);
+      place = omega (arith, q);
+      ev-in = s .pre .ev-in;
+      e-in = s .pre .e-in;
+      b-room = omega (arith, q);
+      c-room = omega (arith, q);
+      u-room = omega arith;
+    }
 
 add-i : tie.Need-add-i Inv-loop μ-loop
 add-i c =
     let s = start-from-force-place (c .before .before .before .before) in
-    let p = s .pre .1 .1 .1 in
-    omega (arith, p .0 .1, p .0 .2)
+    let p = s .pre in
+    omega (arith, p .narrow, p .places-fit)
 
 loop-less : tie.Need-loop-less Inv-loop μ-loop
 loop-less c = omega arith
@@ -108,20 +106,20 @@ loop-again c =
     let l = after-force-place .before .before .before .before .before .loop in (
       (omega arith, omega arith),
       forced-turn (now (a .order)) (matrixAt (a .w) (now (a .ones)) (now (a .twos))) (a .from) (l .i) (a .e) (a .ev) (tritAt (now (a .bo)) (now (a .bt)))
-          (tritAt (now (a .co)) (now (a .ct))) (tritAt (now (a .uo)) (now (a .ut))) (a .g) (s .pre .1 .1 .0) (omega arith) (omega arith) (s .pre .1 .1 .1 .0 .6)
+          (tritAt (now (a .co)) (now (a .ct))) (tritAt (now (a .uo)) (now (a .ut))) (a .g) (s .pre .is-order) (omega arith) (omega arith) (s .pre .apart)
           (l .inv .1) (after-force-place .force-place .ensures),
     )
 
 same-length : tie.Need-same-length Inv-loop μ-loop
 same-length c =
     let s = start-from-after-loop c in
-    omega (arith, c .before .loop .inv .1 .rows .size, s .pre .0 .size)
+    omega (arith, c .before .loop .inv .1 .rows .size, s .pre .grid .size)
 
 same-length-2 : tie.Need-same-length-2 Inv-loop μ-loop
 same-length-2 c =
     let s = start-from-after-loop c in
     let g = c .before .loop .inv .1 .rows in
-    omega (arith, g .size, g .row .same, s .pre .0 .size, s .pre .0 .row .same)
+    omega (arith, g .size, g .row .same, s .pre .grid .size, s .pre .grid .row .same)
 
 returns : tie.Need-returns Inv-loop μ-loop
 returns c =

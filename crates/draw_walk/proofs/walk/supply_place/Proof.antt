@@ -25,8 +25,12 @@ start-from-else1 c = start-from-is-next (c .before)
 
 is-next-requires : tie.Need-is-next-requires
 is-next-requires c κs =
-    let s = start-from-is-next-arg2 c in
-    (s .pre .0, (s .pre .1 .1 .0 .0, s .pre .1 .1 .0 .1, s .pre .1 .1 .0 .2))
+    let s = start-from-is-next-arg2 c in record {
+      grid = s .pre .grid;
+      small = s .pre .small;
+      place = s .pre .place;
+      r-in = s .pre .r-in;
+    }
 
 add-result : tie.Need-add-result
 add-result c =
@@ -45,13 +49,19 @@ returns c =
     let s = start-from-then1 c in
     let a = s .args in
     let y = sym (c .before .is-next .ensures) ∙ c .if1 .taken in
-    (yes-count (a .c) y, grid-own (s .pre .0) (a .e) (pick-first (matrixAt (a .w) (now (a .ones)) (now (a .twos)) (a .e)) _ y))
+    (yes-count (a .c) y, grid-own (s .pre .grid) (a .e) (pick-first (matrixAt (a .w) (now (a .ones)) (now (a .twos)) (a .e)) _ y))
 
 put-from-requires : tie.Need-put-from-requires
 put-from-requires c κs =
     let s = start-from-else1 (c .before .before) in
-    let y = sym (c .before .before .before .is-next .ensures) ∙ c .before .before .if1 .left in
-    (s .pre .0, (s .pre .1 .0, (s .pre .1 .1 .0 .0, s .pre .1 .1 .0 .1, s .pre .1 .1 .0 .3, other-case (s .pre .1 .1 .1) y)))
+    let y = sym (c .before .before .before .is-next .ensures) ∙ c .before .before .if1 .left in record {
+      grid = s .pre .grid;
+      source = s .pre .source;
+      small = s .pre .small;
+      place = s .pre .place;
+      e-in = s .pre .e-in;
+      source-place = other-case (s .pre .enough) y;
+    }
 
 same-length-3 : tie.Need-same-length-3
 same-length-3 c = search needs

@@ -21,34 +21,48 @@ shape-of-requires : tie.Need-shape-of-requires
 shape-of-requires c κs = search needs
 
 add-rows : tie.Need-add-rows
-add-rows c = omega (arith, start-from-shape-of c .pre .1 .1 .1 .0)
+add-rows c = omega (arith, start-from-shape-of c .pre .small)
 
 add-v : tie.Need-add-v
-add-v c = omega (arith, start-from-shape-of c .pre .1 .1 .1 .0)
+add-v c = omega (arith, start-from-shape-of c .pre .small)
 
 add-u : tie.Need-add-u
-add-u c = omega (arith, start-from-shape-of c .pre .1 .1 .1 .0)
+add-u c = omega (arith, start-from-shape-of c .pre .small)
 
 add-join-halves : tie.Need-add-join-halves
-add-join-halves c = omega (arith, start-from-shape-of (c .before .before) .pre .1 .1 .1 .0)
+add-join-halves c = omega (arith, start-from-shape-of (c .before .before) .pre .small)
 
 join-halves-requires : tie.Need-join-halves-requires
 join-halves-requires c κs =
     let s = start-from-shape-of (c .before .before) in
-    let y = s .pre .1 .1 .0 in
-    rw (c .before .before .shape-of .ensures) (
-      s .pre .1 .1 .1 .1,
-      (s .pre .1 .0, (omega arith, omega arith, omega arith, λ w. omega arith, λ w. omega arith, y .0, y .1)),
-    )
+    let y = s .pre in
+    rw (c .before .before .shape-of .ensures) (record {
+      grid = s .pre .grid;
+      b-row = s .pre .b-row;
+      c-row = s .pre .c-row;
+      u-in = omega arith;
+      v-in = omega arith;
+      t-in = omega arith;
+      u-apart = λ w. omega arith;
+      v-apart = λ w. omega arith;
+      b-size = y .b-size;
+      c-size = y .c-size;
+    })
 
 pair-weight-requires : tie.Need-pair-weight-requires
 pair-weight-requires c κs =
     let after-join-halves = c .before .before .before .before .before .before in
     let after-shape-of = after-join-halves .before .before .before in
     let s = start-from-shape-of after-shape-of in
-    let b = bounds (s .args .z) (s .pre .0) in
+    let b = bounds (s .args .z) (s .pre .sizes) in
     let e = after-shape-of .shape-of .ensures in
-    rw e ((rw e at (after-join-halves .join-halves .ensures)) .rows, (omega (arith, s .pre .1 .1 .1 .0), omega (arith, b .high), omega arith, omega arith))
+    rw e (record {
+      grid = (rw e at (after-join-halves .join-halves .ensures)) .rows;
+      few = omega (arith, s .pre .small);
+      narrow = omega (arith, b .high);
+      u-in = omega arith;
+      v-in = omega arith;
+    })
 
 same-length : tie.Need-same-length
 same-length c = search needs

@@ -51,42 +51,58 @@ part-word-requires : tie.Need-part-word-requires
 part-word-requires c κs =
     let s = start-from-part-word-arg2 c in
     let a = s .args in
-    let b = bounds (a .z) (s .pre .0) in
-    let r = s .pre .1 .0 in
+    let b = bounds (a .z) (s .pre .sizes) in
+    let r = s .pre .ready in
     let k = r .secret in
-    let m = s .pre .1 .1 in
+    let m = s .pre in
     let i =
     (given (planes (now (a .hu-ones)) (now (a .hu-twos)) (now (a .hv-ones)) (now (a .hv-twos)) (now (a .b-ones)) (now (a .b-twos)) (now (a .c-ones))
     (now (a .c-twos))) (now (a .p)) (now (a .y-ones)) (now (a .y-twos)) (now (a .v-order)) (now (a .v-ones)) (now (a .v-twos)) (now (a .u-order))
-    (now (a .u-ones)) (now (a .u-twos))) in
-    (s .pre .0, ((k .b, k .c), ((k .bSize, k .cSize), (r .p, ((r .ySize, r .y .same), (m .2, m .3, m .4))))))
+    (now (a .u-ones)) (now (a .u-twos))) in record {
+      sizes = s .pre .sizes;
+      b-row = k .b;
+      c-row = k .c;
+      b-size = k .bSize;
+      c-size = k .cSize;
+      is-order = r .p;
+      y-size = r .ySize;
+      y-twos = r .y .same;
+      small = m .small;
+      work-ones-size = m .work-ones-size;
+      work-twos-size = m .work-twos-size;
+    }
 
 solve-halves-requires : tie.Need-solve-halves-requires
 solve-halves-requires c κs =
     let after-part-word = part-word-from-solve-halves-arg2 c in
     let s = start-from-part-word after-part-word in
     let a = s .args in
-    let b = bounds (a .z) (s .pre .0) in
-    let r = s .pre .1 .0 in
+    let b = bounds (a .z) (s .pre .sizes) in
+    let r = s .pre .ready in
     let k = r .secret in
-    let m = s .pre .1 .1 in
+    let m = s .pre in
     let i =
     (given (planes (now (a .hu-ones)) (now (a .hu-twos)) (now (a .hv-ones)) (now (a .hv-twos)) (now (a .b-ones)) (now (a .b-twos)) (now (a .c-ones))
     (now (a .c-twos))) (now (a .p)) (now (a .y-ones)) (now (a .y-twos)) (now (a .v-order)) (now (a .v-ones)) (now (a .v-twos)) (now (a .u-order))
     (now (a .u-ones)) (now (a .u-twos))) in
-    let t = after-part-word .part-word .ensures .1 in (
-      s .pre .0,
-      (
-        k,
-        (
-          (r .orderV, r .orderU, r .v, r .u),
-          (
-            (r .vSize, r .uSize),
-            ((m .0, m .1, m .2), (after-part-word .part-word .ensures .0, (upto-row _ (t .left), upto-row _ (t .right), t .emptyV, t .emptyU))),
-          ),
-        ),
-      ),
-    )
+    let t = after-part-word .part-word .ensures .1 in record {
+      sizes = s .pre .sizes;
+      secret = k;
+      v-is-order = r .orderV;
+      u-is-order = r .orderU;
+      v-row = r .v;
+      u-row = r .u;
+      v-size = r .vSize;
+      u-size = r .uSize;
+      u-few = m .u-few;
+      v-few = m .v-few;
+      small = m .small;
+      grid = after-part-word .part-word .ensures .0;
+      u-ends = upto-row _ (t .left);
+      v-ends = upto-row _ (t .right);
+      ev-zero = t .emptyV;
+      eu-zero = t .emptyU;
+    }
 
 code-requires : tie.Need-code-requires
 code-requires c κs = search needs
@@ -102,10 +118,10 @@ returns c =
     let after-solve-halves = solve-halves-from-then1 c in
     let s = start-from-solve-halves after-solve-halves in
     let a = s .args in
-    let b = bounds (a .z) (s .pre .0) in
-    let r = s .pre .1 .0 in
+    let b = bounds (a .z) (s .pre .sizes) in
+    let r = s .pre .ready in
     let k = r .secret in
-    let m = s .pre .1 .1 in
+    let m = s .pre in
     let i =
     (given (planes (now (a .hu-ones)) (now (a .hu-twos)) (now (a .hv-ones)) (now (a .hv-twos)) (now (a .b-ones)) (now (a .b-twos)) (now (a .c-ones))
     (now (a .c-twos))) (now (a .p)) (now (a .y-ones)) (now (a .y-twos)) (now (a .v-order)) (now (a .v-ones)) (now (a .v-twos)) (now (a .u-order))
@@ -121,15 +137,22 @@ join-word-requires c κs =
     let after-solve-halves = solve-halves-from-else1 (c .before .before) in
     let s = start-from-solve-halves after-solve-halves in
     let a = s .args in
-    let b = bounds (a .z) (s .pre .0) in
-    let r = s .pre .1 .0 in
+    let b = bounds (a .z) (s .pre .sizes) in
+    let r = s .pre .ready in
     let k = r .secret in
-    let m = s .pre .1 .1 in
+    let m = s .pre in
     let i =
     (given (planes (now (a .hu-ones)) (now (a .hu-twos)) (now (a .hv-ones)) (now (a .hv-twos)) (now (a .b-ones)) (now (a .b-twos)) (now (a .c-ones))
     (now (a .c-twos))) (now (a .p)) (now (a .y-ones)) (now (a .y-twos)) (now (a .v-order)) (now (a .v-ones)) (now (a .v-twos)) (now (a .u-order))
-    (now (a .u-ones)) (now (a .u-twos))) in
-    (s .pre .0, ((k .b, k .c), ((k .bSize, k .cSize), (m .2, after-solve-halves .solve-halves .ensures .1))))
+    (now (a .u-ones)) (now (a .u-twos))) in record {
+      sizes = s .pre .sizes;
+      b-row = k .b;
+      c-row = k .c;
+      b-size = k .bSize;
+      c-size = k .cSize;
+      small = m .small;
+      grid = after-solve-halves .solve-halves .ensures .1;
+    }
 
 same-length-3 : tie.Need-same-length-3
 same-length-3 c = search needs
@@ -146,10 +169,10 @@ returns-2 c =
     let after-part-word = part-word-from-solve-halves after-solve-halves in
     let s = start-from-part-word after-part-word in
     let a = s .args in
-    let b = bounds (a .z) (s .pre .0) in
-    let r = s .pre .1 .0 in
+    let b = bounds (a .z) (s .pre .sizes) in
+    let r = s .pre .ready in
     let k = r .secret in
-    let m = s .pre .1 .1 in
+    let m = s .pre in
     let i =
     (given (planes (now (a .hu-ones)) (now (a .hu-twos)) (now (a .hv-ones)) (now (a .hv-twos)) (now (a .b-ones)) (now (a .b-twos)) (now (a .c-ones))
     (now (a .c-twos))) (now (a .p)) (now (a .y-ones)) (now (a .y-twos)) (now (a .v-order)) (now (a .v-ones)) (now (a .v-twos)) (now (a .u-order))
@@ -178,10 +201,10 @@ returns-3 c =
     let after-part-word = part-word-from-solve-halves after-solve-halves in
     let s = start-from-part-word after-part-word in
     let a = s .args in
-    let b = bounds (a .z) (s .pre .0) in
-    let r = s .pre .1 .0 in
+    let b = bounds (a .z) (s .pre .sizes) in
+    let r = s .pre .ready in
     let k = r .secret in
-    let m = s .pre .1 .1 in
+    let m = s .pre in
     let i =
     (given (planes (now (a .hu-ones)) (now (a .hu-twos)) (now (a .hv-ones)) (now (a .hv-twos)) (now (a .b-ones)) (now (a .b-twos)) (now (a .c-ones))
     (now (a .c-twos))) (now (a .p)) (now (a .y-ones)) (now (a .y-twos)) (now (a .v-order)) (now (a .v-ones)) (now (a .v-twos)) (now (a .u-order))

@@ -31,10 +31,10 @@ shape-of-requires c κs = search needs
 add-count : tie.Need-add-count
 add-count c =
     let s = start-from-shape-of (c .before) in
-    rw (c .before .shape-of .ensures) (omega (arith, bounds (s .args .z) (s .pre .0) .high))
+    rw (c .before .shape-of .ensures) (omega (arith, bounds (s .args .z) (s .pre .sizes) .high))
 
 add-rows : tie.Need-add-rows
-add-rows c = omega (arith, start-from-shape-of (c .before) .pre .1 .1 .1 .1 .1 .0)
+add-rows c = omega (arith, start-from-shape-of (c .before) .pre .small)
 
 clear-requires : tie.Need-clear-requires
 clear-requires c κs = search needs
@@ -45,21 +45,26 @@ place-syndrome-requires c κs =
     let after-shape-of = after-clear .before .before .before .before in
     let s = start-from-shape-of after-shape-of in
     let a = s .args in
-    let b = bounds (a .z) (s .pre .0) in
-    let m = s .pre .1 .1 .1 .1 .1 in
-    let y = s .pre .1 .1 .1 .1 .0 in
+    let b = bounds (a .z) (s .pre .sizes) in
+    let m = s .pre in
+    let y = s .pre in
     let q = after-clear .clear .ensures in
     let h = b .high in
-    let big = prod (a .l + 5) (halfWords (a .z)) 8197 128 (omega (arith, m .0)) (omega (arith, h)) in
-    let r = space-rows _ _ (a .l + 5) (halfWords (a .z)) (q .0) (q .1) (m .1) (m .2) in
-    let none = space-empty _ _ (a .l + 5) (halfWords (a .z)) (q .0) (q .1) (m .1) (m .2) in
-    rw (after-shape-of .shape-of .ensures) (
-      r,
-      (
-        (none (a .l), none (a .l + 1)),
-        (s .pre .1 .1 .1 .0, ((omega (arith, r .size, big), omega arith, omega (arith, h)), (omega (arith, b .ku, b .kv), omega (arith, y .0), y .1))),
-      ),
-    )
+    let big = prod (a .l + 5) (halfWords (a .z)) 8197 128 (omega (arith, m .small)) (omega (arith, h)) in
+    let r = space-rows _ _ (a .l + 5) (halfWords (a .z)) (q .0) (q .1) (m .work-ones-size) (m .work-twos-size) in
+    let none = space-empty _ _ (a .l + 5) (halfWords (a .z)) (q .0) (q .1) (m .work-ones-size) (m .work-twos-size) in
+    rw (after-shape-of .shape-of .ensures) (record {
+      grid = r;
+      u-zero = none (a .l);
+      v-zero = none (a .l + 1);
+      is-order = s .pre .is-order;
+      small = omega (arith, r .size, big);
+      l-in = omega arith;
+      half-fits = omega (arith, h);
+      places-fit = omega (arith, b .ku, b .kv);
+      y-room = omega (arith, y .y-size);
+      y-twos = y .y-twos;
+    })
 
 part-halves-requires : tie.Need-part-halves-requires
 part-halves-requires c κs =
@@ -68,7 +73,14 @@ part-halves-requires c κs =
     let after-shape-of = after-work-ones .before .before .before .before .before in
     let s = start-from-shape-of after-shape-of in
     let e = after-shape-of .shape-of .ensures in
-    rw e ((rw e at (after-place-syndrome .place-syndrome .ensures)) .rows, (s .pre .1 .0, (omega arith, s .pre .1 .1 .0 .0, s .pre .1 .1 .0 .1)))
+    rw e (record {
+      grid = (rw e at (after-place-syndrome .place-syndrome .ensures)) .rows;
+      b-row = s .pre .b-row;
+      c-row = s .pre .c-row;
+      l-in = omega arith;
+      b-size = s .pre .b-size;
+      c-size = s .pre .c-size;
+    })
 
 same-length : tie.Need-same-length
 same-length c = search needs
@@ -86,14 +98,14 @@ returns c =
     let after-shape-of = after-clear .before .before .before .before in
     let s = start-from-shape-of after-shape-of in
     let a = s .args in
-    let m = s .pre .1 .1 .1 .1 .1 in
+    let m = s .pre in
     let q = after-clear .clear .ensures in
     let e = after-shape-of .shape-of .ensures in
     let h = rw e at (after-part-halves .part-halves .ensures) in (
       h .rows,
       word-parted (a .z) (a .l) (pairsOf (now (a .b-ones)) (now (a .b-twos)) (now (a .c-ones)) (now (a .c-twos)))
           (startWord (a .z) (now (a .p)) (tritAt (now (a .y-ones)) (now (a .y-twos)))) (halfWords (a .z)) _ _ _ _ _ _
-          (space-empty _ _ (a .l + 5) (halfWords (a .z)) (q .0) (q .1) (m .1) (m .2)) (rw e at (after-place-syndrome .place-syndrome .ensures)) h,
+          (space-empty _ _ (a .l + 5) (halfWords (a .z)) (q .0) (q .1) (m .work-ones-size) (m .work-twos-size)) (rw e at (after-place-syndrome .place-syndrome .ensures)) h,
     )
 
 pub part-word-spec : {M : Type 1} → statement M

@@ -37,45 +37,47 @@ shape-of-requires : tie.Need-shape-of-requires
 shape-of-requires c κs = search needs
 
 add-rows : tie.Need-add-rows
-add-rows c = omega (arith, start-from-shape-of c .pre .1 .1 .1 .1 .0 .2)
+add-rows c = omega (arith, start-from-shape-of c .pre .small)
 
 add-v : tie.Need-add-v
-add-v c = omega (arith, start-from-shape-of c .pre .1 .1 .1 .1 .0 .2)
+add-v c = omega (arith, start-from-shape-of c .pre .small)
 
 add-u : tie.Need-add-u
-add-u c = omega (arith, start-from-shape-of c .pre .1 .1 .1 .1 .0 .2)
+add-u c = omega (arith, start-from-shape-of c .pre .small)
 
 add-draw-v : tie.Need-add-draw-v
-add-draw-v c = omega (arith, start-from-shape-of (c .before .before) .pre .1 .1 .1 .1 .0 .2)
+add-draw-v c = omega (arith, start-from-shape-of (c .before .before) .pre .small)
 
 draw-v-requires : tie.Need-draw-v-requires
 draw-v-requires c κs =
     let s = start-from-shape-of (c .before .before) in
     let a = s .args in
-    let b = bounds (a .z) (s .pre .0) in
-    let o = s .pre .1 .1 .0 in
-    let y = s .pre .1 .1 .1 .0 in
-    let m = s .pre .1 .1 .1 .1 .0 in
-    let R = s .pre .1 .1 .1 .1 .1 .0 in
-    let E = s .pre .1 .1 .1 .1 .1 .1 in
+    let b = bounds (a .z) (s .pre .sizes) in
+    let o = s .pre in
+    let y = s .pre in
+    let m = s .pre in
+    let R = s .pre .grid in
+    let E = s .pre in
     let h = b .high in
-    let big = prod (a .l + 5) (halfWords (a .z)) 8197 128 (omega (arith, m .2)) (omega (arith, h)) in
-    rw (c .before .before .shape-of .ensures) (
-      (R, s .pre .1 .0 .hv, o .2),
-      (
-        order-own (o .0),
-        (
-          (
-            omega (arith, R .size, big),
-            omega (arith, h),
-            omega (arith, o .0 .size),
-            omega (arith, o .0 .size, b .gv, b .kv),
-            omega (arith, o .0 .size, y .0, b .kv),
-          ),
-          ((omega (arith, m .1), omega arith, omega (arith, m .1), omega arith, λ w. omega arith), (ends-own (o .0) (E .1), E .2)),
-        ),
-      ),
-    )
+    let big = prod (a .l + 5) (halfWords (a .z)) 8197 128 (omega (arith, m .small)) (omega (arith, h)) in
+    rw (c .before .before .shape-of .ensures) (record {
+      grid = R;
+      h-grid = s .pre .secret .hv;
+      v-row = o .v-row;
+      is-order = order-own (o .v-is-order);
+      small = omega (arith, R .size, big);
+      narrow = omega (arith, h);
+      places-fit = omega (arith, o .v-is-order .size);
+      front = omega (arith, o .v-is-order .size, b .gv, b .kv);
+      v-room = omega (arith, o .v-is-order .size, y .v-size, b .kv);
+      x-past = omega (arith, m .v-few);
+      x-in = omega arith;
+      e-past = omega (arith, m .v-few);
+      e-in = omega arith;
+      apart = λ w. omega arith;
+      x-ends = ends-own (o .v-is-order) (E .v-ends);
+      e-zero = E .ev-zero;
+    })
 
 same-length : tie.Need-same-length
 same-length c = search needs
@@ -89,9 +91,9 @@ returns c =
     let after-shape-of = after-draw-v .before .before .before in
     let s = start-from-shape-of after-shape-of in
     let a = s .args in
-    let o = s .pre .1 .1 .0 in
+    let o = s .pre in
     let v = rw (after-shape-of .shape-of .ensures) at (after-draw-v .draw-v .ensures) in (
-      rw (sym (test-v (a .z) (a .l) (secret s) (chosen s) (o .0 .size)) ∙ sym (v .0) ∙ not-true (after-draw-v .draw-v .result) (c .if1 .taken)),
+      rw (sym (test-v (a .z) (a .l) (secret s) (chosen s) (o .v-is-order .size)) ∙ sym (v .0) ∙ not-true (after-draw-v .draw-v .result) (c .if1 .taken)),
       v .1 .0,
       unsolved (lit< tt),
     )
@@ -103,45 +105,42 @@ draw-u-requires c κs =
     let after-shape-of = after-draw-v .before .before .before in
     let s = start-from-shape-of after-shape-of in
     let a = s .args in
-    let b = bounds (a .z) (s .pre .0) in
-    let k = s .pre .1 .0 in
-    let o = s .pre .1 .1 .0 in
-    let y = s .pre .1 .1 .1 .0 in
-    let m = s .pre .1 .1 .1 .1 .0 in
-    let E = s .pre .1 .1 .1 .1 .1 .1 in
+    let b = bounds (a .z) (s .pre .sizes) in
+    let k = s .pre .secret in
+    let o = s .pre in
+    let y = s .pre in
+    let m = s .pre in
+    let E = s .pre in
     let h = b .high in
-    let big = prod (a .l + 5) (halfWords (a .z)) 8197 128 (omega (arith, m .2)) (omega (arith, h)) in
+    let big = prod (a .l + 5) (halfWords (a .z)) 8197 128 (omega (arith, m .small)) (omega (arith, h)) in
     let v = rw (after-shape-of .shape-of .ensures) at (after-draw-v .draw-v .ensures) in
     let hv = v .1 .1 .solved (not-false (after-draw-v .draw-v .result) (c .before .before .if1 .left)) in
     let Q = v .1 .0 in
-    rw (after-shape-of .shape-of .ensures) (
-      (Q, k .hu),
-      (
-        (k .b, k .c, o .3),
-        (
-          order-own (o .1),
-          (
-            (
-              omega (arith, Q .size, big),
-              omega (arith, h),
-              omega (arith, o .1 .size),
-              omega (arith, o .1 .size, b .gu, b .ku),
-              omega (arith, o .1 .size, y .1, b .ku),
-            ),
-            (
-              (omega (arith, o .1 .size, k .bSize), omega (arith, o .1 .size, k .cSize)),
-              (
-                (m .0, omega arith, omega (arith, m .0), omega arith, λ w. omega arith, omega (arith, m .0), omega arith, λ w. omega arith),
-                (
-                  ends-own (o .1) (ends-to (kept-x (a .z) (a .l) (secret s) (chosen s) (o .0 .size) hv (m .1)) (E .0)),
-                  kept-u (a .z) (a .l) (secret s) (chosen s) (o .0 .size) hv (m .1) ∙ E .3,
-                ),
-              ),
-            ),
-          ),
-        ),
-      ),
-    )
+    rw (after-shape-of .shape-of .ensures) (record {
+      grid = Q;
+      h-grid = k .hu;
+      b-row = k .b;
+      c-row = k .c;
+      u-row = o .u-row;
+      is-order = order-own (o .u-is-order);
+      small = omega (arith, Q .size, big);
+      narrow = omega (arith, h);
+      places-fit = omega (arith, o .u-is-order .size);
+      front = omega (arith, o .u-is-order .size, b .gu, b .ku);
+      u-room = omega (arith, o .u-is-order .size, y .u-size, b .ku);
+      b-room = omega (arith, o .u-is-order .size, k .bSize);
+      c-room = omega (arith, o .u-is-order .size, k .cSize);
+      x-past = m .u-few;
+      x-in = omega arith;
+      e-past = omega (arith, m .u-few);
+      e-in = omega arith;
+      apart = λ w. omega arith;
+      ev-past = omega (arith, m .u-few);
+      ev-in = omega arith;
+      ev-apart = λ w. omega arith;
+      x-ends = ends-own (o .u-is-order) (ends-to (kept-x (a .z) (a .l) (secret s) (chosen s) (o .v-is-order .size) hv (m .v-few)) (E .u-ends));
+      e-zero = kept-u (a .z) (a .l) (secret s) (chosen s) (o .v-is-order .size) hv (m .v-few) ∙ E .eu-zero;
+    })
 
 same-length-3 : tie.Need-same-length-3
 same-length-3 c = search needs
@@ -157,12 +156,12 @@ returns-2 c =
     let after-shape-of = after-draw-v .before .before .before in
     let s = start-from-shape-of after-shape-of in
     let a = s .args in
-    let o = s .pre .1 .1 .0 in
+    let o = s .pre in
     let v = rw (after-shape-of .shape-of .ensures) at (after-draw-v .draw-v .ensures) in
     let u = rw (after-shape-of .shape-of .ensures) at (after-draw-u .draw-u .ensures) in (
       rw (
-        sym (test-v (a .z) (a .l) (secret s) (chosen s) (o .0 .size)) ∙ sym (v .0) ∙ not-false (after-draw-v .draw-v .result) (else1 .if1 .left),
-        sym (test-u (a .z) (a .l) (secret s) (chosen s) (o .1 .size)) ∙ sym (u .0) ∙ not-true (after-draw-u .draw-u .result) (c .if2 .taken),
+        sym (test-v (a .z) (a .l) (secret s) (chosen s) (o .v-is-order .size)) ∙ sym (v .0) ∙ not-false (after-draw-v .draw-v .result) (else1 .if1 .left),
+        sym (test-u (a .z) (a .l) (secret s) (chosen s) (o .u-is-order .size)) ∙ sym (u .0) ∙ not-true (after-draw-u .draw-u .result) (c .if2 .taken),
       ),
       u .1 .0,
       unsolved (lit< tt),
@@ -182,18 +181,18 @@ returns-3 c =
     let after-shape-of = after-draw-v .before .before .before in
     let s = start-from-shape-of after-shape-of in
     let a = s .args in
-    let o = s .pre .1 .1 .0 in
-    let m = s .pre .1 .1 .1 .1 .0 in
+    let o = s .pre in
+    let m = s .pre in
     let v = rw (after-shape-of .shape-of .ensures) at (after-draw-v .draw-v .ensures) in
     let u = rw (after-shape-of .shape-of .ensures) at (after-draw-u .draw-u .ensures) in
     let passed-v = not-false (after-draw-v .draw-v .result) (else1 .if1 .left) in
     let passed-u = not-false (after-draw-u .draw-u .result) (c .if2 .left) in (
       rw (
-        sym (test-v (a .z) (a .l) (secret s) (chosen s) (o .0 .size)) ∙ sym (v .0) ∙ passed-v,
-        sym (test-u (a .z) (a .l) (secret s) (chosen s) (o .1 .size)) ∙ sym (u .0) ∙ passed-u,
+        sym (test-v (a .z) (a .l) (secret s) (chosen s) (o .v-is-order .size)) ∙ sym (v .0) ∙ passed-v,
+        sym (test-u (a .z) (a .l) (secret s) (chosen s) (o .u-is-order .size)) ∙ sym (u .0) ∙ passed-u,
       ),
       u .1 .0,
-      halves-solved (a .z) (a .l) (secret s) (chosen s) (o .0 .size) (v .1 .1 .solved passed-v) (m .1) (o .1 .size) (m .0) (u .1 .1 .solved passed-u),
+      halves-solved (a .z) (a .l) (secret s) (chosen s) (o .v-is-order .size) (v .1 .1 .solved passed-v) (m .v-few) (o .u-is-order .size) (m .u-few) (u .1 .1 .solved passed-u),
     )
 
 pub solve-halves-spec : {M : Type 1} → statement M

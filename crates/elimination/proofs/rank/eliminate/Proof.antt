@@ -19,13 +19,16 @@ abbrev μ-loop : tie.MeasureT-loop
 
 loop-holds : tie.Need-loop-holds Inv-loop μ-loop
 loop-holds c =
-    (omega arith, went-none (c .before .before .pre .0))
+    (omega arith, went-none (c .before .before .pre .grid))
 
 count-column-requires : tie.Need-count-column-requires Inv-loop μ-loop
-count-column-requires c κs = (
-  c .before .before .before .loop .inv .1 .grid .rows,
-  (omega (arith, c .before .before .before .loop .inv .1 .grid .rows .size), omega arith, c .before .before .before .loop .inv .1 .room),
-)
+count-column-requires c κs =
+    record {
+      grid = c .before .before .before .loop .inv .1 .grid .rows;
+      small = omega (arith, c .before .before .before .loop .inv .1 .grid .rows .size);
+      column = omega arith;
+      at-most = c .before .before .before .loop .inv .1 .room;
+    }
 
 add-i : tie.Need-add-i Inv-loop μ-loop
 add-i c = omega arith

@@ -22,19 +22,33 @@ clear-rows-from-clear-rows2 c = c .before .before .before .before .before .befor
 
 clear-rows-requires : tie.Need-clear-rows-requires
 clear-rows-requires c κs =
-    let s = c .before .before .before .before in
-    (s .pre .0, ((s .pre .1 .0, s .pre .1 .1, s .pre .1 .2, omega arith, omega arith), inl (omega arith)))
+    let s = c .before .before .before .before in record {
+      grid = s .pre .grid;
+      small = s .pre .small;
+      column = s .pre .column;
+      pivot = s .pre .pivot;
+      ordered = omega arith;
+      end = omega arith;
+      beside = inl (omega arith);
+    }
 
 add-clear-rows : tie.Need-add-clear-rows
 add-clear-rows c =
-    omega (arith, start-from-clear-rows-arg4 c .pre .1 .2)
+    omega (arith, start-from-clear-rows-arg4 c .pre .pivot)
 
 clear-rows-requires-2 : tie.Need-clear-rows-requires-2
 clear-rows-requires-2 c κs =
     let after-clear-rows = clear-rows-from-clear-rows-arg4 c in
     let s = start-from-clear-rows after-clear-rows in
-    let g = after-clear-rows .clear-rows .ensures .rows in
-    (g, ((omega (arith, g .size, s .pre .0 .size), s .pre .1 .1, s .pre .1 .2, omega arith, omega arith), inr (omega arith)))
+    let g = after-clear-rows .clear-rows .ensures .rows in record {
+      grid = g;
+      small = omega (arith, g .size, s .pre .grid .size);
+      column = s .pre .column;
+      pivot = s .pre .pivot;
+      ordered = omega arith;
+      end = omega arith;
+      beside = inr (omega arith);
+    }
 
 same-length : tie.Need-same-length
 same-length c = search needs
@@ -47,7 +61,7 @@ returns c =
     let after-clear-rows2 = c .before .before .before .before in
     let after-clear-rows = clear-rows-from-clear-rows2 after-clear-rows2 in
     let s = start-from-clear-rows after-clear-rows in
-    column-done (s .args .at) (s .args .c) (s .pre .0) (after-clear-rows .clear-rows .ensures) (after-clear-rows2 .clear-rows2 .ensures)
+    column-done (s .args .at) (s .args .c) (s .pre .grid) (after-clear-rows .clear-rows .ensures) (after-clear-rows2 .clear-rows2 .ensures)
 
 pub clear-column-spec : {M : Type 1} → statement M
 clear-column-spec =

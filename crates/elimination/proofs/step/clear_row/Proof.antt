@@ -29,26 +29,26 @@ mul-trit-at : tie.Need-mul-trit-at
 mul-trit-at c =
     let s = c .before .before .before .before in
     let a = s .args in
-    omega (arith, row-le (a .w) {i = a .i} {m = a .rows} (s .pre .1 .3), s .pre .0 .size)
+    omega (arith, row-le (a .w) {i = a .i} {m = a .rows} (s .pre .i-in), s .pre .grid .size)
 
 mul-trit-at-2 : tie.Need-mul-trit-at-2
 mul-trit-at-2 c =
     let s = c .before .before .before .before in
     let a = s .args in
-    omega (arith, row-le (a .w) {i = a .i} {m = a .rows} (s .pre .1 .3), s .pre .0 .size)
+    omega (arith, row-le (a .w) {i = a .i} {m = a .rows} (s .pre .i-in), s .pre .grid .size)
 
 add-trit-at : tie.Need-add-trit-at
 add-trit-at c =
     let s = c .before .before .before .before in
     let a = s .args in
-    omega (arith, row-le (a .w) {i = a .i} {m = a .rows} (s .pre .1 .3), s .pre .0 .size)
+    omega (arith, row-le (a .w) {i = a .i} {m = a .rows} (s .pre .i-in), s .pre .grid .size)
 
 trit-at-requires : tie.Need-trit-at-requires
 trit-at-requires c κs =
     let s = c .before .before .before .before in
     let a = s .args in
-    let h = row-le (a .w) {i = a .i} {m = a .rows} (s .pre .1 .3) in
-    (s .pre .0 .row .same, omega (arith, h, s .pre .0 .size))
+    let h = row-le (a .w) {i = a .i} {m = a .rows} (s .pre .i-in) in
+    (s .pre .grid .row .same, omega (arith, h, s .pre .grid .size))
 
 sub-rows-requires : tie.Need-sub-rows-requires
 sub-rows-requires c κs = search needs
@@ -69,7 +69,7 @@ returns c =
     let after-trit-at = then1 .before in
     let s = start-from-trit-at after-trit-at in
     let a = s .args in
-    let e = read-one (a .w) (now (a .ones)) (now (a .twos)) (a .i) (a .c) _ (s .pre .1 .1) (after-trit-at .trit-at .ensures) (then1 .if1 .taken) in
+    let e = read-one (a .w) (now (a .ones)) (now (a .twos)) (a .i) (a .c) _ (s .pre .column) (after-trit-at .trit-at .ensures) (then1 .if1 .taken) in
     grid-to (after-sub-rows .sub-rows .ensures) (clear-one (a .i) (a .at) (a .c) (matrixAt (a .w) (now (a .ones)) (now (a .twos))) e)
 
 same-length-3 : tie.Need-same-length-3
@@ -85,7 +85,7 @@ returns-2 c =
     let after-trit-at = then2 .before .before in
     let s = start-from-trit-at after-trit-at in
     let a = s .args in
-    let e = read-two (a .w) (now (a .ones)) (now (a .twos)) (a .i) (a .c) _ (s .pre .1 .1) (after-trit-at .trit-at .ensures) (then2 .if2 .taken) in
+    let e = read-two (a .w) (now (a .ones)) (now (a .twos)) (a .i) (a .c) _ (s .pre .column) (after-trit-at .trit-at .ensures) (then2 .if2 .taken) in
     grid-to (after-add-rows .add-rows .ensures) (clear-two (a .i) (a .at) (a .c) (matrixAt (a .w) (now (a .ones)) (now (a .twos))) e)
 
 same-length-5 : tie.Need-same-length-5
@@ -98,9 +98,9 @@ returns-3 : tie.Need-returns-3
 returns-3 c =
     let s = start-from-else2 c in
     let a = s .args in
-    let e = read-none (a .w) (now (a .ones)) (now (a .twos)) (a .i) (a .c) _ (s .pre .1 .1) (c .before .before .trit-at .ensures) (c .before .if1 .left)
+    let e = read-none (a .w) (now (a .ones)) (now (a .twos)) (a .i) (a .c) _ (s .pre .column) (c .before .before .trit-at .ensures) (c .before .if1 .left)
     (c .if2 .left) in
-    grid-of (s .pre .0) (clear-none (a .i) (a .at) (a .c) (matrixAt (a .w) (now (a .ones)) (now (a .twos))) e)
+    grid-of (s .pre .grid) (clear-none (a .i) (a .at) (a .c) (matrixAt (a .w) (now (a .ones)) (now (a .twos))) e)
 
 pub clear-row-spec : {M : Type 1} → statement M
 clear-row-spec =

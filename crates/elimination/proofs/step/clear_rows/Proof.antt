@@ -24,14 +24,20 @@ loop-holds : tie.Need-loop-holds Inv-loop μ-loop
 loop-holds c =
     let s = c .before .before in
     let a = s .args in
-    ((omega arith, s .pre .1 .0 .3), grid-of (s .pre .0) (taken-none (a .at) (a .c) (matrixAt (a .w) (now (a .ones)) (now (a .twos))) (a .from)))
+    ((omega arith, s .pre .ordered), grid-of (s .pre .grid) (taken-none (a .at) (a .c) (matrixAt (a .w) (now (a .ones)) (now (a .twos))) (a .from)))
 
 clear-row-requires : tie.Need-clear-row-requires Inv-loop μ-loop
 clear-row-requires c κs =
     let s = c .before .before .before .before .before .before in
     let l = c .before .before .before .loop in
-    let g = l .inv .1 .rows in
-    (g, (omega (arith, g .size, s .pre .0 .size), s .pre .1 .0 .1, s .pre .1 .0 .2, omega arith, apart-from (s .pre .1 .1) (l .inv .0 .0) (omega arith)))
+    let g = l .inv .1 .rows in record {
+      grid = g;
+      small = omega (arith, g .size, s .pre .grid .size);
+      column = s .pre .column;
+      pivot = s .pre .pivot;
+      i-in = omega arith;
+      apart = apart-from (s .pre .beside) (l .inv .0 .0) (omega arith);
+    }
 
 add-i : tie.Need-add-i Inv-loop μ-loop
 add-i c = omega arith
@@ -48,17 +54,17 @@ loop-again c =
     let l = at-loop .loop in (
       (omega arith, omega arith),
       rows-turn (a .at) (a .c) (matrixAt (a .w) (now (a .ones)) (now (a .twos))) (a .from) (l .inv .1) (l .inv .0 .0)
-          (apart-from (s .pre .1 .1) (l .inv .0 .0) (omega arith)) (after-clear-row .clear-row .ensures),
+          (apart-from (s .pre .beside) (l .inv .0 .0) (omega arith)) (after-clear-row .clear-row .ensures),
     )
 
 same-length : tie.Need-same-length Inv-loop μ-loop
 same-length c =
-    omega (arith, c .before .loop .inv .1 .rows .size, c .before .before .before .before .pre .0 .size)
+    omega (arith, c .before .loop .inv .1 .rows .size, c .before .before .before .before .pre .grid .size)
 
 same-length-2 : tie.Need-same-length-2 Inv-loop μ-loop
 same-length-2 c =
     let start = c .before .before .before .before in
-    omega (arith, c .before .loop .inv .1 .rows .size, start .pre .0 .size, c .before .loop .inv .1 .rows .row .same, start .pre .0 .row .same)
+    omega (arith, c .before .loop .inv .1 .rows .size, start .pre .grid .size, c .before .loop .inv .1 .rows .row .same, start .pre .grid .row .same)
 
 returns : tie.Need-returns Inv-loop μ-loop
 returns c =

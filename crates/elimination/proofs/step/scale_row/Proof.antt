@@ -28,31 +28,31 @@ mul-trit-at : tie.Need-mul-trit-at
 mul-trit-at c =
     let s = c .before .before .before .before in
     let a = s .args in
-    omega (arith, row-le (a .w) {i = a .at} {m = a .rows} (s .pre .1 .0 .2), s .pre .0 .size, s .pre .0 .row .same)
+    omega (arith, row-le (a .w) {i = a .at} {m = a .rows} (s .pre .pivot), s .pre .grid .size, s .pre .grid .row .same)
 
 mul-trit-at-2 : tie.Need-mul-trit-at-2
 mul-trit-at-2 c =
     let s = c .before .before .before .before in
     let a = s .args in
-    omega (arith, row-le (a .w) {i = a .at} {m = a .rows} (s .pre .1 .0 .2), s .pre .0 .size, s .pre .0 .row .same)
+    omega (arith, row-le (a .w) {i = a .at} {m = a .rows} (s .pre .pivot), s .pre .grid .size, s .pre .grid .row .same)
 
 add-trit-at : tie.Need-add-trit-at
 add-trit-at c =
     let s = c .before .before .before .before in
     let a = s .args in
-    omega (arith, row-le (a .w) {i = a .at} {m = a .rows} (s .pre .1 .0 .2), s .pre .0 .size, s .pre .0 .row .same)
+    omega (arith, row-le (a .w) {i = a .at} {m = a .rows} (s .pre .pivot), s .pre .grid .size, s .pre .grid .row .same)
 
 trit-at-requires : tie.Need-trit-at-requires
 trit-at-requires c κs =
     let s = c .before .before .before .before in
     let a = s .args in
-    let h = row-le (a .w) {i = a .at} {m = a .rows} (s .pre .1 .0 .2) in
-    (s .pre .0 .row .same, omega (arith, h, s .pre .0 .size))
+    let h = row-le (a .w) {i = a .at} {m = a .rows} (s .pre .pivot) in
+    (s .pre .grid .row .same, omega (arith, h, s .pre .grid .size))
 
 negate-requires : tie.Need-negate-requires
 negate-requires c κs =
     let start = start-from-then1 (c .before .before) in
-    (start .pre .0, start .pre .1 .0 .2)
+    (start .pre .grid, start .pre .pivot)
 
 same-length : tie.Need-same-length
 same-length c = search needs
@@ -67,7 +67,7 @@ returns c =
     let after-trit-at = then1 .before in
     let s = start-from-trit-at after-trit-at in
     let a = s .args in
-    let e = read-two (a .w) (now (a .ones)) (now (a .twos)) (a .at) (a .c) _ (s .pre .1 .0 .1) (after-trit-at .trit-at .ensures) (then1 .if1 .taken) in
+    let e = read-two (a .w) (now (a .ones)) (now (a .twos)) (a .at) (a .c) _ (s .pre .column) (after-trit-at .trit-at .ensures) (then1 .if1 .taken) in
     grid-to (after-negate .negate .ensures) (scaled-two (a .at) (a .c) (matrixAt (a .w) (now (a .ones)) (now (a .twos))) e)
 
 same-length-3 : tie.Need-same-length-3
@@ -80,8 +80,8 @@ returns-2 : tie.Need-returns-2
 returns-2 c =
     let s = start-from-else1 c in
     let a = s .args in
-    let e = read-unit (a .w) (now (a .ones)) (now (a .twos)) (a .at) (a .c) _ (s .pre .1 .0 .1) (c .before .trit-at .ensures) (s .pre .1 .1) (c .if1 .left) in
-    grid-of (s .pre .0) (scaled-one (a .at) (a .c) (matrixAt (a .w) (now (a .ones)) (now (a .twos))) e)
+    let e = read-unit (a .w) (now (a .ones)) (now (a .twos)) (a .at) (a .c) _ (s .pre .column) (c .before .trit-at .ensures) (s .pre .set) (c .if1 .left) in
+    grid-of (s .pre .grid) (scaled-one (a .at) (a .c) (matrixAt (a .w) (now (a .ones)) (now (a .twos))) e)
 
 pub scale-row-spec : {M : Type 1} → statement M
 scale-row-spec =

@@ -8,7 +8,6 @@ use Rattle.trits.specs.Rows.{matrixAt}
 use denote.Ref.{now}
 use native.Mathlib.Omega.{arith}
 use mathlib.Core.Path.{sym, _∙_}
-use Prim.Native.Nat.{_-_}
 use Rattle.elimination.proofs.step.step.Statement.{statement}
 use Rattle.elimination.proofs.step.step.Tie as tie
 
@@ -51,15 +50,18 @@ returns c =
     let s = start-from-then1 c in
     let a = s .args in
     let n = no-pivot (a .rows) (a .at) (a .c) (matrixAt (a .w) (now (a .ones)) (now (a .twos))) (sym (c .before .find-pivot .ensures) ∙ c .if1 .taken) in
-    (n .0, grid-of (s .pre .0) (n .1))
+    (n .0, grid-of (s .pre .grid) (n .1))
 
 swap-rows-requires : tie.Need-swap-rows-requires
 swap-rows-requires c κs =
     let s = start-from-else1 (c .before .before) in
     let a = s .args in
     let f = c .before .before .before .find-pivot .ensures in
-    let h = chosen (a .rows) (a .at) (a .c) _ (matrixAt (a .w) (now (a .ones)) (now (a .twos))) (s .pre .1 .2) f (c .before .before .if1 .left) in
-    (s .pre .0, (omega arith, h .1))
+    let h = chosen (a .rows) (a .at) (a .c) _ (matrixAt (a .w) (now (a .ones)) (now (a .twos))) (s .pre .at-most) f (c .before .before .if1 .left) in record {
+      grid = s .pre .grid;
+      a-in = omega arith;
+      b-in = h .1;
+    }
 
 scale-row-requires : tie.Need-scale-row-requires
 scale-row-requires c κs =
@@ -70,13 +72,13 @@ scale-row-requires c κs =
     let a = s .args in
     let f = after-find-pivot .find-pivot .ensures in
     let g = after-swap-rows .swap-rows .ensures in
-    let h = chosen (a .rows) (a .at) (a .c) _ (matrixAt (a .w) (now (a .ones)) (now (a .twos))) (s .pre .1 .2) f (else1 .if1 .left) in (
-      g .rows,
-      (
-        (omega arith, s .pre .1 .1, omega arith),
-        moved-set (a .rows) (a .at) (a .c) _ (matrixAt (a .w) (now (a .ones)) (now (a .twos))) (s .pre .1 .2) f (else1 .if1 .left) g,
-      ),
-    )
+    let h = chosen (a .rows) (a .at) (a .c) _ (matrixAt (a .w) (now (a .ones)) (now (a .twos))) (s .pre .at-most) f (else1 .if1 .left) in record {
+      grid = g .rows;
+      small = omega arith;
+      column = s .pre .column;
+      pivot = omega arith;
+      set = moved-set (a .rows) (a .at) (a .c) _ (matrixAt (a .w) (now (a .ones)) (now (a .twos))) (s .pre .at-most) f (else1 .if1 .left) g;
+    }
 
 clear-column-requires : tie.Need-clear-column-requires
 clear-column-requires c κs =
@@ -87,8 +89,12 @@ clear-column-requires c κs =
     let a = s .args in
     let f = after-find-pivot .find-pivot .ensures in
     let g = after-scale-row .scale-row .ensures in
-    let h = chosen (a .rows) (a .at) (a .c) _ (matrixAt (a .w) (now (a .ones)) (now (a .twos))) (s .pre .1 .2) f (else1 .if1 .left) in
-    (g .rows, (omega (arith, g .rows .size, s .pre .0 .size), s .pre .1 .1, omega (arith, h .0, h .1)))
+    let h = chosen (a .rows) (a .at) (a .c) _ (matrixAt (a .w) (now (a .ones)) (now (a .twos))) (s .pre .at-most) f (else1 .if1 .left) in record {
+      grid = g .rows;
+      small = omega (arith, g .rows .size, s .pre .grid .size);
+      column = s .pre .column;
+      pivot = omega (arith, h .0, h .1);
+    }
 
 same-length-3 : tie.Need-same-length-3
 same-length-3 c = search needs
@@ -106,7 +112,7 @@ returns-2 c =
     let s = start-from-find-pivot after-find-pivot in
     let a = s .args in
     let f = after-find-pivot .find-pivot .ensures in
-    step-done (a .rows) (a .at) (a .c) _ (matrixAt (a .w) (now (a .ones)) (now (a .twos))) (s .pre .1 .2) f (else1 .if1 .left)
+    step-done (a .rows) (a .at) (a .c) _ (matrixAt (a .w) (now (a .ones)) (now (a .twos))) (s .pre .at-most) f (else1 .if1 .left)
     (after-swap-rows .swap-rows .ensures)
     (after-scale-row .scale-row .ensures) (after-clear-column .clear-column .ensures)
 

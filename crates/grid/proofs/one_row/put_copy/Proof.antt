@@ -24,19 +24,19 @@ mul-a : tie.Need-mul-a
 mul-a c =
     let s = c .before .before .before .before in
     let a = s .args in
-    omega (arith, row-le (a .w) {i = a .j} {m = a .rows} (s .pre .1 .1 .0), s .pre .0 .size, s .pre .0 .row .same)
+    omega (arith, row-le (a .w) {i = a .j} {m = a .rows} (s .pre .j-in), s .pre .grid .size, s .pre .grid .row .same)
 
 add-e : tie.Need-add-e
 add-e c =
     let s = c .before .before .before .before in
     let a = s .args in
-    omega (arith, row-le (a .w) {i = a .j} {m = a .rows} (s .pre .1 .1 .0), s .pre .0 .size, s .pre .0 .row .same)
+    omega (arith, row-le (a .w) {i = a .j} {m = a .rows} (s .pre .j-in), s .pre .grid .size, s .pre .grid .row .same)
 
 mul-copy-words : tie.Need-mul-copy-words
 mul-copy-words c =
     let s = c .before .before .before .before in
     let a = s .args in
-    omega (arith, row-le (a .w) {i = a .j} {m = a .rows} (s .pre .1 .1 .0), s .pre .0 .size, s .pre .0 .row .same)
+    omega (arith, row-le (a .w) {i = a .j} {m = a .rows} (s .pre .j-in), s .pre .grid .size, s .pre .grid .row .same)
 
 sub-copy-words : tie.Need-sub-copy-words
 sub-copy-words c = search needs
@@ -48,23 +48,23 @@ part-copy-words-end : tie.Need-part-copy-words-end
 part-copy-words-end c =
     let s = c .before .before .before .before in
     let a = s .args in
-    omega (arith, row-le (a .w) {i = a .j} {m = a .rows} (s .pre .1 .1 .0), s .pre .0 .size, s .pre .0 .row .same)
+    omega (arith, row-le (a .w) {i = a .j} {m = a .rows} (s .pre .j-in), s .pre .grid .size, s .pre .grid .row .same)
 
 copy-words-requires : tie.Need-copy-words-requires
 copy-words-requires c κs =
     let s = start-from-copy-words-arg c in
     let a = s .args in
     let k = a .j * a .w + a .w - a .j * a .w in
-    let h = row-le (a .w) {i = a .j} {m = a .rows} (s .pre .1 .1 .0) in
-    let lo = length-mid (a .j * a .w) k (now (a .ones)) (omega (arith, h, s .pre .0 .size)) in
-    let lt = length-mid (a .j * a .w) k (now (a .twos)) (omega (arith, h, s .pre .0 .size, s .pre .0 .row .same)) in
-    omega (arith, lo, s .pre .1 .1 .1)
+    let h = row-le (a .w) {i = a .j} {m = a .rows} (s .pre .j-in) in
+    let lo = length-mid (a .j * a .w) k (now (a .ones)) (omega (arith, h, s .pre .grid .size)) in
+    let lt = length-mid (a .j * a .w) k (now (a .twos)) (omega (arith, h, s .pre .grid .size, s .pre .grid .row .same)) in
+    omega (arith, lo, s .pre .size)
 
 mul-copy-words-2 : tie.Need-mul-copy-words-2
 mul-copy-words-2 c =
     let s = start-from-copy-words (c .before .before) in
     let a = s .args in
-    omega (arith, row-le (a .w) {i = a .j} {m = a .rows} (s .pre .1 .1 .0), s .pre .0 .size, s .pre .0 .row .same)
+    omega (arith, row-le (a .w) {i = a .j} {m = a .rows} (s .pre .j-in), s .pre .grid .size, s .pre .grid .row .same)
 
 sub-copy-words-2 : tie.Need-sub-copy-words-2
 sub-copy-words-2 c = search needs
@@ -76,17 +76,17 @@ part-copy-words-end-2 : tie.Need-part-copy-words-end-2
 part-copy-words-end-2 c =
     let s = start-from-copy-words (c .before .before) in
     let a = s .args in
-    omega (arith, row-le (a .w) {i = a .j} {m = a .rows} (s .pre .1 .1 .0), s .pre .0 .size, s .pre .0 .row .same)
+    omega (arith, row-le (a .w) {i = a .j} {m = a .rows} (s .pre .j-in), s .pre .grid .size, s .pre .grid .row .same)
 
 copy-words-requires-2 : tie.Need-copy-words-requires-2
 copy-words-requires-2 c κs =
     let s = start-from-copy-words (c .before .before .before) in
     let a = s .args in
     let k = a .j * a .w + a .w - a .j * a .w in
-    let h = row-le (a .w) {i = a .j} {m = a .rows} (s .pre .1 .1 .0) in
-    let lo = length-mid (a .j * a .w) k (now (a .ones)) (omega (arith, h, s .pre .0 .size)) in
-    let lt = length-mid (a .j * a .w) k (now (a .twos)) (omega (arith, h, s .pre .0 .size, s .pre .0 .row .same)) in
-    omega (arith, lt, s .pre .1 .1 .1, s .pre .1 .0 .same)
+    let h = row-le (a .w) {i = a .j} {m = a .rows} (s .pre .j-in) in
+    let lo = length-mid (a .j * a .w) k (now (a .ones)) (omega (arith, h, s .pre .grid .size)) in
+    let lt = length-mid (a .j * a .w) k (now (a .twos)) (omega (arith, h, s .pre .grid .size, s .pre .grid .row .same)) in
+    omega (arith, lt, s .pre .size, s .pre .source .same)
 
 same-length : tie.Need-same-length
 same-length c = search needs
@@ -100,13 +100,13 @@ returns c =
     let s = start-from-copy-words after-copy-words in
     let a = s .args in
     let k = a .j * a .w + a .w - a .j * a .w in
-    put-grid (a .w) (a .j) (s .pre .0) (s .pre .1 .1 .0) k (omega arith) (s .pre .1 .1 .1 ∙ omega arith)
+    put-grid (a .w) (a .j) (s .pre .grid) (s .pre .j-in) k (omega arith) (s .pre .size ∙ omega arith)
     (record {
-      row = copied-row (after-copy-words .copy-words .ensures) (c .before .before .copy-words2 .ensures) (s .pre .1 .0);
+      row = copied-row (after-copy-words .copy-words .ensures) (c .before .before .copy-words2 .ensures) (s .pre .source);
       size = ap length (after-copy-words .copy-words .ensures);
       trits = ap₂ tritAt (after-copy-words .copy-words .ensures) (c .before .before .copy-words2 .ensures);
     })
-    (λ q l. sym (past-words (a .w) (s .pre .1 .0) (s .pre .1 .1 .1) q l))
+    (λ q l. sym (past-words (a .w) (s .pre .source) (s .pre .size) q l))
 
 pub put-copy-spec : {M : Type 1} → statement M
 put-copy-spec =

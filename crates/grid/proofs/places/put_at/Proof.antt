@@ -16,29 +16,32 @@ mul-put-trit : tie.Need-mul-put-trit
 mul-put-trit c =
     let s = c .before .before .before .before in
     let a = s .args in
-    let h = row-le (a .w) {i = a .i} {m = a .rows} (s .pre .1 .1) in
-    omega (arith, h, s .pre .0 .size, s .pre .1 .0, s .pre .1 .2)
+    let h = row-le (a .w) {i = a .i} {m = a .rows} (s .pre .i-in) in
+    omega (arith, h, s .pre .grid .size, s .pre .small, s .pre .place)
 
 mul-put-trit-2 : tie.Need-mul-put-trit-2
 mul-put-trit-2 c =
     let s = c .before .before .before .before in
     let a = s .args in
-    let h = row-le (a .w) {i = a .i} {m = a .rows} (s .pre .1 .1) in
-    omega (arith, h, s .pre .0 .size, s .pre .1 .0, s .pre .1 .2)
+    let h = row-le (a .w) {i = a .i} {m = a .rows} (s .pre .i-in) in
+    omega (arith, h, s .pre .grid .size, s .pre .small, s .pre .place)
 
 add-put-trit : tie.Need-add-put-trit
 add-put-trit c =
     let s = c .before .before .before .before in
     let a = s .args in
-    let h = row-le (a .w) {i = a .i} {m = a .rows} (s .pre .1 .1) in
-    omega (arith, h, s .pre .0 .size, s .pre .1 .0, s .pre .1 .2)
+    let h = row-le (a .w) {i = a .i} {m = a .rows} (s .pre .i-in) in
+    omega (arith, h, s .pre .grid .size, s .pre .small, s .pre .place)
 
 put-trit-requires : tie.Need-put-trit-requires
 put-trit-requires c κs =
     let s = c .before .before .before .before in
     let a = s .args in
-    let h = row-le (a .w) {i = a .i} {m = a .rows} (s .pre .1 .1) in
-    (s .pre .0 .row, (omega (arith, h, s .pre .0 .size, s .pre .1 .2), s .pre .1 .3))
+    let h = row-le (a .w) {i = a .i} {m = a .rows} (s .pre .i-in) in record {
+      row = s .pre .grid .row;
+      place = omega (arith, h, s .pre .grid .size, s .pre .place);
+      trit = s .pre .trit;
+    }
 
 same-length : tie.Need-same-length
 same-length c =
@@ -53,7 +56,7 @@ returns c =
     let after-put-trit = c .before .before .before .before in
     let s = start-from-put-trit after-put-trit in
     let a = s .args in
-    put-cell (a .i) (a .q) (tritOf (a .t)) (s .pre .0) (s .pre .1 .2) (after-put-trit .put-trit .ensures)
+    put-cell (a .i) (a .q) (tritOf (a .t)) (s .pre .grid) (s .pre .place) (after-put-trit .put-trit .ensures)
 
 pub put-at-spec : {M : Type 1} → statement M
 put-at-spec =

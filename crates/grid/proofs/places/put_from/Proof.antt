@@ -15,15 +15,18 @@ start-from-trit-at c = c .before .before .before .before .before
 trit-at-requires : tie.Need-trit-at-requires
 trit-at-requires c κs =
     let s = c .before .before .before .before in
-    (s .pre .1 .0 .same, s .pre .1 .1 .3)
+    (s .pre .source .same, s .pre .source-place)
 
 put-at-requires : tie.Need-put-at-requires
 put-at-requires c κs =
     let s = start-from-trit-at (c .before .before) in
-    let a = s .args in (
-      s .pre .0,
-      (s .pre .1 .1 .0, s .pre .1 .1 .2, s .pre .1 .1 .1, trit-lt (tritAt (now (a .vo)) (now (a .vt)) (a .j)) _ (c .before .before .trit-at .ensures)),
-    )
+    let a = s .args in record {
+      grid = s .pre .grid;
+      small = s .pre .small;
+      i-in = s .pre .e-in;
+      place = s .pre .place;
+      trit = trit-lt (tritAt (now (a .vo)) (now (a .vt)) (a .j)) _ (c .before .before .trit-at .ensures);
+    }
 
 same-length : tie.Need-same-length
 same-length c = search needs

@@ -23,14 +23,20 @@ put-product-from-add-rows c = c .before .before .before .before .before .before 
 
 put-product-requires : tie.Need-put-product-requires
 put-product-requires c κs =
-    let s = start-from-put-product-arg2 c in
-    (s .pre .0, (s .pre .1 .0, (s .pre .1 .1 .2, s .pre .1 .1 .1, s .pre .1 .1 .3, s .pre .1 .1 .5)))
+    let s = start-from-put-product-arg2 c in record {
+      grid = s .pre .grid;
+      source = s .pre .source;
+      t-in = s .pre .t-in;
+      i-in = s .pre .i-in;
+      apart = s .pre .apart;
+      size = s .pre .size;
+    }
 
 add-rows-requires : tie.Need-add-rows-requires
 add-rows-requires c κs =
     let after-put-product = put-product-from-add-rows-arg2 c in
     let s = start-from-put-product after-put-product in
-    (after-put-product .put-product .ensures .rows, (s .pre .1 .1 .0, s .pre .1 .1 .2, s .pre .1 .1 .4))
+    (after-put-product .put-product .ensures .rows, (s .pre .a-in, s .pre .t-in, s .pre .a-apart))
 
 same-length : tie.Need-same-length
 same-length c =
@@ -46,7 +52,7 @@ returns c =
     let after-put-product = put-product-from-add-rows after-add-rows in
     let s = start-from-put-product after-put-product in
     let n = s .args in
-    joined-grid (n .w) (now (n .ones)) (now (n .twos)) addT (n .a) (n .i) (n .t) (tritAt (now (n .so)) (now (n .st))) (s .pre .1 .1 .4)
+    joined-grid (n .w) (now (n .ones)) (now (n .twos)) addT (n .a) (n .i) (n .t) (tritAt (now (n .so)) (now (n .st))) (s .pre .a-apart)
     (after-put-product .put-product .ensures) (after-add-rows .add-rows .ensures)
 
 pub add-product-spec : {M : Type 1} → statement M

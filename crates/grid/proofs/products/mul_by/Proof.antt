@@ -25,19 +25,19 @@ mul-a : tie.Need-mul-a
 mul-a c =
     let s = c .before .before .before .before in
     let a = s .args in
-    omega (arith, row-le (a .w) {i = a .i} {m = a .rows} (s .pre .1 .1 .0), s .pre .0 .size, s .pre .0 .row .same)
+    omega (arith, row-le (a .w) {i = a .i} {m = a .rows} (s .pre .i-in), s .pre .grid .size, s .pre .grid .row .same)
 
 add-e : tie.Need-add-e
 add-e c =
     let s = c .before .before .before .before in
     let a = s .args in
-    omega (arith, row-le (a .w) {i = a .i} {m = a .rows} (s .pre .1 .1 .0), s .pre .0 .size, s .pre .0 .row .same)
+    omega (arith, row-le (a .w) {i = a .i} {m = a .rows} (s .pre .i-in), s .pre .grid .size, s .pre .grid .row .same)
 
 mul-mul-row : tie.Need-mul-mul-row
 mul-mul-row c =
     let s = c .before .before .before .before in
     let a = s .args in
-    omega (arith, row-le (a .w) {i = a .i} {m = a .rows} (s .pre .1 .1 .0), s .pre .0 .size, s .pre .0 .row .same)
+    omega (arith, row-le (a .w) {i = a .i} {m = a .rows} (s .pre .i-in), s .pre .grid .size, s .pre .grid .row .same)
 
 sub-mul-row : tie.Need-sub-mul-row
 sub-mul-row c =
@@ -51,13 +51,13 @@ part-mul-row-end : tie.Need-part-mul-row-end
 part-mul-row-end c =
     let s = c .before .before .before .before in
     let a = s .args in
-    omega (arith, row-le (a .w) {i = a .i} {m = a .rows} (s .pre .1 .1 .0), s .pre .0 .size, s .pre .0 .row .same)
+    omega (arith, row-le (a .w) {i = a .i} {m = a .rows} (s .pre .i-in), s .pre .grid .size, s .pre .grid .row .same)
 
 mul-mul-row-2 : tie.Need-mul-mul-row-2
 mul-mul-row-2 c =
     let s = start-from-mul-row-arg c in
     let a = s .args in
-    omega (arith, row-le (a .w) {i = a .i} {m = a .rows} (s .pre .1 .1 .0), s .pre .0 .size, s .pre .0 .row .same)
+    omega (arith, row-le (a .w) {i = a .i} {m = a .rows} (s .pre .i-in), s .pre .grid .size, s .pre .grid .row .same)
 
 sub-mul-row-2 : tie.Need-sub-mul-row-2
 sub-mul-row-2 c =
@@ -71,16 +71,19 @@ part-mul-row-end-2 : tie.Need-part-mul-row-end-2
 part-mul-row-end-2 c =
     let s = start-from-mul-row-arg c in
     let a = s .args in
-    omega (arith, row-le (a .w) {i = a .i} {m = a .rows} (s .pre .1 .1 .0), s .pre .0 .size, s .pre .0 .row .same)
+    omega (arith, row-le (a .w) {i = a .i} {m = a .rows} (s .pre .i-in), s .pre .grid .size, s .pre .grid .row .same)
 
 mul-row-requires : tie.Need-mul-row-requires
 mul-row-requires c κs =
     let s = start-from-mul-row-arg2 c in
     let a = s .args in
     let k = a .i * a .w + a .w - a .i * a .w in
-    let h = row-le (a .w) {i = a .i} {m = a .rows} (s .pre .1 .1 .0) in
-    let lo = length-mid (a .i * a .w) k (now (a .ones)) (omega (arith, h, s .pre .0 .size)) in
-    (part-row (s .pre .0 .row) (a .i * a .w) k (omega (arith, h, s .pre .0 .size)), (s .pre .1 .0, omega (arith, lo, s .pre .1 .1 .1)))
+    let h = row-le (a .w) {i = a .i} {m = a .rows} (s .pre .i-in) in
+    let lo = length-mid (a .i * a .w) k (now (a .ones)) (omega (arith, h, s .pre .grid .size)) in record {
+      row = part-row (s .pre .grid .row) (a .i * a .w) k (omega (arith, h, s .pre .grid .size));
+      source = s .pre .source;
+      size = omega (arith, lo, s .pre .size);
+    }
 
 same-length : tie.Need-same-length
 same-length c =
@@ -96,9 +99,9 @@ returns c =
     let s = start-from-mul-row after-mul-row in
     let a = s .args in
     let k = a .i * a .w + a .w - a .i * a .w in
-    let h = row-le (a .w) {i = a .i} {m = a .rows} (s .pre .1 .1 .0) in
-    let lo = length-mid (a .i * a .w) k (now (a .ones)) (omega (arith, h, s .pre .0 .size)) in
-    mul-grid (a .w) (a .i) (s .pre .0) (s .pre .1 .1 .0) k (tritAt (now (a .so)) (now (a .st))) (omega arith) lo (after-mul-row .mul-row .ensures)
+    let h = row-le (a .w) {i = a .i} {m = a .rows} (s .pre .i-in) in
+    let lo = length-mid (a .i * a .w) k (now (a .ones)) (omega (arith, h, s .pre .grid .size)) in
+    mul-grid (a .w) (a .i) (s .pre .grid) (s .pre .i-in) k (tritAt (now (a .so)) (now (a .st))) (omega arith) lo (after-mul-row .mul-row .ensures)
 
 pub mul-by-spec : {M : Type 1} → statement M
 mul-by-spec =

@@ -32,19 +32,23 @@ add-rows-from-mul-by c = c .before .before .before .before .before .before .befo
 zero-row-requires : tie.Need-zero-row-requires
 zero-row-requires c κs =
     let s = start-from-zero-row-arg2 c in
-    (s .pre .0, s .pre .1 .1 .0)
+    (s .pre .grid, s .pre .t-in)
 
 add-rows-requires : tie.Need-add-rows-requires
 add-rows-requires c κs =
     let after-zero-row = zero-row-from-add-rows-arg2 c in
     let s = start-from-zero-row after-zero-row in
-    (after-zero-row .zero-row .ensures .rows, (s .pre .1 .1 .0, s .pre .1 .1 .1, s .pre .1 .1 .2))
+    (after-zero-row .zero-row .ensures .rows, (s .pre .t-in, s .pre .i-in, s .pre .apart))
 
 mul-by-requires : tie.Need-mul-by-requires
 mul-by-requires c κs =
     let after-add-rows = add-rows-from-mul-by-arg2 c in
-    let s = start-from-add-rows after-add-rows in
-    (after-add-rows .add-rows .ensures .rows, (s .pre .1 .0, (s .pre .1 .1 .0, s .pre .1 .1 .3)))
+    let s = start-from-add-rows after-add-rows in record {
+      grid = after-add-rows .add-rows .ensures .rows;
+      source = s .pre .source;
+      i-in = s .pre .t-in;
+      size = s .pre .size;
+    }
 
 same-length : tie.Need-same-length
 same-length c =
@@ -61,7 +65,7 @@ returns c =
     let after-zero-row = zero-row-from-add-rows after-add-rows in
     let s = start-from-zero-row after-zero-row in
     let a = s .args in
-    made-grid (a .w) (now (a .ones)) (now (a .twos)) (a .t) (a .i) (tritAt (now (a .so)) (now (a .st))) (s .pre .1 .1 .2) (after-zero-row .zero-row .ensures)
+    made-grid (a .w) (now (a .ones)) (now (a .twos)) (a .t) (a .i) (tritAt (now (a .so)) (now (a .st))) (s .pre .apart) (after-zero-row .zero-row .ensures)
     (after-add-rows .add-rows .ensures) (after-mul-by .mul-by .ensures)
 
 pub put-product-spec : {M : Type 1} → statement M

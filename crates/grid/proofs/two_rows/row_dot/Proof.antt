@@ -25,7 +25,7 @@ mul-a c =
     let a = s .args in
     let h = row-le (a .w) {i = a .i} {m = a .rows} (omega arith) in
     let k = row-le (a .w) {i = a .j} {m = a .rows} (omega arith) in
-    omega (arith, h, k, s .pre .0 .size, s .pre .0 .row .same)
+    omega (arith, h, k, s .pre .grid .size, s .pre .grid .row .same)
 
 add-b : tie.Need-add-b
 add-b c =
@@ -33,7 +33,7 @@ add-b c =
     let a = s .args in
     let h = row-le (a .w) {i = a .i} {m = a .rows} (omega arith) in
     let k = row-le (a .w) {i = a .j} {m = a .rows} (omega arith) in
-    omega (arith, h, k, s .pre .0 .size, s .pre .0 .row .same)
+    omega (arith, h, k, s .pre .grid .size, s .pre .grid .row .same)
 
 mul-c : tie.Need-mul-c
 mul-c c =
@@ -41,7 +41,7 @@ mul-c c =
     let a = s .args in
     let h = row-le (a .w) {i = a .i} {m = a .rows} (omega arith) in
     let k = row-le (a .w) {i = a .j} {m = a .rows} (omega arith) in
-    omega (arith, h, k, s .pre .0 .size, s .pre .0 .row .same)
+    omega (arith, h, k, s .pre .grid .size, s .pre .grid .row .same)
 
 add-d : tie.Need-add-d
 add-d c =
@@ -49,7 +49,7 @@ add-d c =
     let a = s .args in
     let h = row-le (a .w) {i = a .i} {m = a .rows} (omega arith) in
     let k = row-le (a .w) {i = a .j} {m = a .rows} (omega arith) in
-    omega (arith, h, k, s .pre .0 .size, s .pre .0 .row .same)
+    omega (arith, h, k, s .pre .grid .size, s .pre .grid .row .same)
 
 mul-dot : tie.Need-mul-dot
 mul-dot c =
@@ -57,7 +57,7 @@ mul-dot c =
     let a = s .args in
     let h = row-le (a .w) {i = a .i} {m = a .rows} (omega arith) in
     let k = row-le (a .w) {i = a .j} {m = a .rows} (omega arith) in
-    omega (arith, h, k, s .pre .0 .size, s .pre .0 .row .same)
+    omega (arith, h, k, s .pre .grid .size, s .pre .grid .row .same)
 
 sub-dot : tie.Need-sub-dot
 sub-dot c = search needs
@@ -71,7 +71,7 @@ part-dot-end c =
     let a = s .args in
     let h = row-le (a .w) {i = a .i} {m = a .rows} (omega arith) in
     let k = row-le (a .w) {i = a .j} {m = a .rows} (omega arith) in
-    omega (arith, h, k, s .pre .0 .size, s .pre .0 .row .same)
+    omega (arith, h, k, s .pre .grid .size, s .pre .grid .row .same)
 
 mul-dot-2 : tie.Need-mul-dot-2
 mul-dot-2 c =
@@ -79,7 +79,7 @@ mul-dot-2 c =
     let a = s .args in
     let h = row-le (a .w) {i = a .i} {m = a .rows} (omega arith) in
     let k = row-le (a .w) {i = a .j} {m = a .rows} (omega arith) in
-    omega (arith, h, k, s .pre .0 .size, s .pre .0 .row .same)
+    omega (arith, h, k, s .pre .grid .size, s .pre .grid .row .same)
 
 sub-dot-2 : tie.Need-sub-dot-2
 sub-dot-2 c = search needs
@@ -93,7 +93,7 @@ part-dot-end-2 c =
     let a = s .args in
     let h = row-le (a .w) {i = a .i} {m = a .rows} (omega arith) in
     let k = row-le (a .w) {i = a .j} {m = a .rows} (omega arith) in
-    omega (arith, h, k, s .pre .0 .size, s .pre .0 .row .same)
+    omega (arith, h, k, s .pre .grid .size, s .pre .grid .row .same)
 
 mul-dot-3 : tie.Need-mul-dot-3
 mul-dot-3 c =
@@ -101,7 +101,7 @@ mul-dot-3 c =
     let a = s .args in
     let h = row-le (a .w) {i = a .i} {m = a .rows} (omega arith) in
     let k = row-le (a .w) {i = a .j} {m = a .rows} (omega arith) in
-    omega (arith, h, k, s .pre .0 .size, s .pre .0 .row .same)
+    omega (arith, h, k, s .pre .grid .size, s .pre .grid .row .same)
 
 sub-dot-3 : tie.Need-sub-dot-3
 sub-dot-3 c = search needs
@@ -115,7 +115,7 @@ part-dot-end-3 c =
     let a = s .args in
     let h = row-le (a .w) {i = a .i} {m = a .rows} (omega arith) in
     let k = row-le (a .w) {i = a .j} {m = a .rows} (omega arith) in
-    omega (arith, h, k, s .pre .0 .size, s .pre .0 .row .same)
+    omega (arith, h, k, s .pre .grid .size, s .pre .grid .row .same)
 
 mul-dot-4 : tie.Need-mul-dot-4
 mul-dot-4 c =
@@ -123,7 +123,7 @@ mul-dot-4 c =
     let a = s .args in
     let h = row-le (a .w) {i = a .i} {m = a .rows} (omega arith) in
     let k = row-le (a .w) {i = a .j} {m = a .rows} (omega arith) in
-    omega (arith, h, k, s .pre .0 .size, s .pre .0 .row .same)
+    omega (arith, h, k, s .pre .grid .size, s .pre .grid .row .same)
 
 sub-dot-4 : tie.Need-sub-dot-4
 sub-dot-4 c = search needs
@@ -137,22 +137,26 @@ part-dot-end-4 c =
     let a = s .args in
     let h = row-le (a .w) {i = a .i} {m = a .rows} (omega arith) in
     let k = row-le (a .w) {i = a .j} {m = a .rows} (omega arith) in
-    omega (arith, h, k, s .pre .0 .size, s .pre .0 .row .same)
+    omega (arith, h, k, s .pre .grid .size, s .pre .grid .row .same)
 
 dot-requires : tie.Need-dot-requires
 dot-requires c κs =
     let s = start-from-dot-arg4 c in
     let a = s .args in
-    let x = lent-part (s .pre .0) (a .i) (omega arith) (a .i * a .w + a .w - a .i * a .w) (omega arith) in
-    let y = lent-part (s .pre .0) (a .j) (omega arith) (a .j * a .w + a .w - a .j * a .w) (omega arith) in
-    (x .row, (y .row, (y .size ∙ sym (x .size), omega (arith, x .size))))
+    let x = lent-part (s .pre .grid) (a .i) (omega arith) (a .i * a .w + a .w - a .i * a .w) (omega arith) in
+    let y = lent-part (s .pre .grid) (a .j) (omega arith) (a .j * a .w + a .w - a .j * a .w) (omega arith) in record {
+      left = x .row;
+      right = y .row;
+      size = y .size ∙ sym (x .size);
+      small = omega (arith, x .size);
+    }
 
 returns : tie.Need-returns
 returns c =
     let s = start-from-dot c in
     let a = s .args in
-    rows-product (lent-part (s .pre .0) (a .i) (omega arith) (a .i * a .w + a .w - a .i * a .w) (omega arith))
-    (lent-part (s .pre .0) (a .j) (omega arith) (a .j * a .w + a .w - a .j * a .w) (omega arith)) (c .dot .ensures)
+    rows-product (lent-part (s .pre .grid) (a .i) (omega arith) (a .i * a .w + a .w - a .i * a .w) (omega arith))
+    (lent-part (s .pre .grid) (a .j) (omega arith) (a .j * a .w + a .w - a .j * a .w) (omega arith)) (c .dot .ensures)
 
 pub row-dot-spec : {M : Type 1} → statement M
 row-dot-spec =

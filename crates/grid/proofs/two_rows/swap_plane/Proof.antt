@@ -16,16 +16,16 @@ abbrev μ-loop : tie.MeasureT-loop
 
 mul-at : tie.Need-mul-at Inv-loop μ-loop
 mul-at c =
-    omega (arith, row-le (c .args .w) {i = c .args .a} {m = c .args .rows} (c .pre .1 .0))
+    omega (arith, row-le (c .args .w) {i = c .args .a} {m = c .args .rows} (c .pre .a-in))
 
 mul-from : tie.Need-mul-from Inv-loop μ-loop
 mul-from c =
-    omega (arith, row-le (c .args .w) {i = c .args .b} {m = c .args .rows} (c .pre .1 .1))
+    omega (arith, row-le (c .args .w) {i = c .args .b} {m = c .args .rows} (c .pre .b-in))
 
 loop-holds : tie.Need-loop-holds Inv-loop μ-loop
 loop-holds c =
-    let h = row-le (c .args .w) {i = c .args .a} {m = c .args .rows} (c .pre .1 .0) in
-    let g = row-le (c .args .w) {i = c .args .b} {m = c .args .rows} (c .pre .1 .1) in
+    let h = row-le (c .args .w) {i = c .args .a} {m = c .args .rows} (c .pre .a-in) in
+    let g = row-le (c .args .w) {i = c .args .b} {m = c .args .rows} (c .pre .b-in) in
     ((omega arith, omega arith, omega arith), swap-none _ _ _ _)
 
 add-p : tie.Need-add-p Inv-loop μ-loop
@@ -70,7 +70,7 @@ loop-less c = omega arith
 loop-again : tie.Need-loop-again Inv-loop μ-loop
 loop-again c =
     let s = c .before .before .before .before in
-    ((omega arith, omega arith, omega arith), swap-turn (c .before .before .before .loop .inv .1) (s .pre .0) (s .pre .1 .0) (s .pre .1 .1) (omega arith))
+    ((omega arith, omega arith, omega arith), swap-turn (c .before .before .before .loop .inv .1) (s .pre .size) (s .pre .a-in) (s .pre .b-in) (omega arith))
 
 same-length : tie.Need-same-length Inv-loop μ-loop
 same-length c = omega arith

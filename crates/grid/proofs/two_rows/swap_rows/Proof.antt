@@ -2,7 +2,6 @@
 -- Assumes nothing.
 use borrow.Author.Needs.{needs}
 use Rattle.grid.proofs.Swaps.{swapped-grid}
-use Prim.Native.Nat.{_-_}
 use Rattle.grid.proofs.two_rows.swap_rows.Statement.{statement}
 use Rattle.grid.proofs.two_rows.swap_rows.Tie as tie
 
@@ -22,7 +21,7 @@ returns : tie.Need-returns
 returns c =
     let after-swap-plane = c .before .before .before .before .before .before in
     let start = after-swap-plane .before .before .before .before in
-    swapped-grid (start .pre .0) (after-swap-plane .swap-plane .ensures) (c .before .before .swap-plane2 .ensures)
+    swapped-grid (start .pre .grid) (after-swap-plane .swap-plane .ensures) (c .before .before .swap-plane2 .ensures)
 
 pub swap-rows-spec : {M : Type 1} → statement M
 swap-rows-spec =

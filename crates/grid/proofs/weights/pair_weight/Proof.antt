@@ -11,20 +11,28 @@ use Rattle.grid.proofs.weights.pair_weight.Tie as tie
 
 row-weight-requires : tie.Need-row-weight-requires
 row-weight-requires c κs =
-    let s = c .before .before in
-    (s .pre .0, (s .pre .1 .0, s .pre .1 .1, s .pre .1 .2))
+    let s = c .before .before in record {
+      grid = s .pre .grid;
+      few = s .pre .few;
+      narrow = s .pre .narrow;
+      i-in = s .pre .u-in;
+    }
 
 row-weight-requires-2 : tie.Need-row-weight-requires-2
 row-weight-requires-2 c κs =
-    let s = c .before .before .before in
-    (s .pre .0, (s .pre .1 .0, s .pre .1 .1, s .pre .1 .3))
+    let s = c .before .before .before in record {
+      grid = s .pre .grid;
+      few = s .pre .few;
+      narrow = s .pre .narrow;
+      i-in = s .pre .v-in;
+    }
 
 add-result : tie.Need-add-result
 add-result c =
     let s = c .before .before .before .before in
     let a = s .args in
     let A = matrixAt (a .w) (now (a .ones)) (now (a .twos)) in
-    omega (arith, weight-le (A (a .u)) (64 * a .w), weight-le (A (a .v)) (64 * a .w), c .before .row-weight .ensures, c .row-weight2 .ensures, s .pre .1 .1)
+    omega (arith, weight-le (A (a .u)) (64 * a .w), weight-le (A (a .v)) (64 * a .w), c .before .row-weight .ensures, c .row-weight2 .ensures, s .pre .narrow)
 
 returns : tie.Need-returns
 returns c =

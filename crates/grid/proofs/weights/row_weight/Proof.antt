@@ -16,28 +16,28 @@ start-from-weight c = c .before .before .before .before .before
 row-part-requires : tie.Need-row-part-requires
 row-part-requires c κs =
     let s = c .before .before in
-    (s .pre .1 .0, s .pre .1 .1)
+    (s .pre .few, s .pre .narrow)
 
 row-part-requires-2 : tie.Need-row-part-requires-2
 row-part-requires-2 c κs =
     let s = c .before .before .before in
-    (s .pre .1 .0, s .pre .1 .1)
+    (s .pre .few, s .pre .narrow)
 
 weight-requires : tie.Need-weight-requires
 weight-requires c κs =
     let s = c .before .before .before .before in
     let a = s .args in
-    let n = handed-size (a .rows) (a .w) (a .i) (s .pre .0) (s .pre .1 .2) (c .before .row-part .ensures) (c .row-part2 .ensures) in
-    (handed-row (a .rows) (a .w) (a .i) (s .pre .0) (s .pre .1 .2) (c .before .row-part .ensures) (c .row-part2 .ensures) .same, omega (arith, n, s .pre .1 .1))
+    let n = handed-size (a .rows) (a .w) (a .i) (s .pre .grid) (s .pre .i-in) (c .before .row-part .ensures) (c .row-part2 .ensures) in
+    (handed-row (a .rows) (a .w) (a .i) (s .pre .grid) (s .pre .i-in) (c .before .row-part .ensures) (c .row-part2 .ensures) .same, omega (arith, n, s .pre .narrow))
 
 returns : tie.Need-returns
 returns c =
     let s = start-from-weight c in
     let a = s .args in
     c .weight .ensures
-    ∙ ap₂ (λ (v : Vector) (n : ℕ). weightV v (64 * n)) (handed-trits (a .rows) (a .w) (a .i) (s .pre .0) (s .pre .1 .2) (c .before .before .row-part .ensures)
+    ∙ ap₂ (λ (v : Vector) (n : ℕ). weightV v (64 * n)) (handed-trits (a .rows) (a .w) (a .i) (s .pre .grid) (s .pre .i-in) (c .before .before .row-part .ensures)
     (c .before .row-part2 .ensures))
-    (handed-size (a .rows) (a .w) (a .i) (s .pre .0) (s .pre .1 .2) (c .before .before .row-part .ensures) (c .before .row-part2 .ensures))
+    (handed-size (a .rows) (a .w) (a .i) (s .pre .grid) (s .pre .i-in) (c .before .before .row-part .ensures) (c .before .row-part2 .ensures))
 
 pub row-weight-spec : {M : Type 1} → statement M
 row-weight-spec =

@@ -15,7 +15,13 @@ start-from-write-packed c = c .before .before .before .before .before .before
 
 write-packed-requires : tie.Need-write-packed-requires
 write-packed-requires c κs =
-    (omega arith, start-from-write-packed-arg2 c .pre .1)
+    record {
+      twos-size = omega arith;
+      enough = omega arith;
+      trits-fit = omega arith;
+      small = omega arith;
+      not-refused = start-from-write-packed-arg2 c .pre .not-refused;
+    }
 
 same-length : tie.Need-same-length
 same-length c = search needs
@@ -27,7 +33,7 @@ returns : tie.Need-returns
 returns c =
     let after-write-packed = c .before .before .before .before in
     let start = start-from-write-packed after-write-packed in
-    reads-words (after-write-packed .write-packed .ensures) (start .pre .0 .0) (λ j. c .before .before .slice-known3 .given j .fits)
+    reads-words (after-write-packed .write-packed .ensures) (start .pre .ones-size) (λ j. c .before .before .slice-known3 .given j .fits)
     (λ j. c .slice-known4 .given j .fits)
 
 pub write-part-spec : {M : Type 1} → statement M

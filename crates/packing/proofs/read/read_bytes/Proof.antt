@@ -53,7 +53,7 @@ same-length c =
 returns : tie.Need-returns Inv-loop μ-loop
 unfolding packedBytes
 returns c =
-    patched-all _ (c .before .loop .inv .1) (start-from-after-loop c .pre .3) (omega arith)
+    patched-all _ (c .before .loop .inv .1) (start-from-after-loop c .pre .bytes-size) (omega arith)
 
 pub read-bytes-spec : {M : Type 1} → statement M
 read-bytes-spec =

@@ -22,7 +22,7 @@ returns : tie.Need-returns
 returns c =
     let s = c .before in
     let a = s .args in
-    ap (λ (l : List ℕ). getD l (a .b * 5 + a .k) 0) (s .pre .0) ∙ table-rule (a .b) (a .k) (s .pre .1 .0) (s .pre .1 .1)
+    ap (λ (l : List ℕ). getD l (a .b * 5 + a .k) 0) (s .pre .is-table) ∙ table-rule (a .b) (a .k) (s .pre .byte) (s .pre .digit)
 
 pub trit-spec : {M : Type 1} → statement M
 trit-spec = tie.close (tie.spec mul-result add-result element-copy-out-result returns)

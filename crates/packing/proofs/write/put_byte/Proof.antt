@@ -21,7 +21,7 @@ abbrev μ-loop : tie.MeasureT-loop
 loop-holds : tie.Need-loop-holds Inv-loop μ-loop
 loop-holds c =
     let s = c .before .before in
-    (omega arith, record { row = s .pre .1 .0; size = refl; trits = with-none _ (s .args .b) (s .args .at) })
+    (omega arith, record { row = s .pre .row; size = refl; trits = with-none _ (s .args .b) (s .args .at) })
 
 add-put-trit : tie.Need-add-put-trit Inv-loop μ-loop
 add-put-trit c =
@@ -29,13 +29,20 @@ add-put-trit c =
 
 trit-requires : tie.Need-trit-requires Inv-loop μ-loop
 trit-requires c κs =
-    (c .before .before .before .before .before .before .pre .0, omega arith)
+    record {
+      is-table = c .before .before .before .before .before .before .pre .is-table;
+      byte = omega arith;
+      digit = omega arith;
+    }
 
 put-trit-requires : tie.Need-put-trit-requires Inv-loop μ-loop
 put-trit-requires c κs =
     let s = c .before .before .before .before in
-    let i = s .loop .inv .1 in
-    (i .row, (omega (arith, i .size), omega (arith, c .trit .ensures, digit-lt (s .before .before .before .args .b) (s .loop .k))))
+    let i = s .loop .inv .1 in record {
+      row = i .row;
+      place = omega (arith, i .size);
+      trit = omega (arith, c .trit .ensures, digit-lt (s .before .before .before .args .b) (s .loop .k));
+    }
 
 add-k : tie.Need-add-k Inv-loop μ-loop
 add-k c =
@@ -59,7 +66,7 @@ same-length c =
 
 same-length-2 : tie.Need-same-length-2 Inv-loop μ-loop
 same-length-2 c =
-    c .before .loop .inv .1 .row .same ∙ c .before .loop .inv .1 .size ∙ sym (c .before .before .before .before .pre .1 .0 .same)
+    c .before .loop .inv .1 .row .same ∙ c .before .loop .inv .1 .size ∙ sym (c .before .before .before .before .pre .row .same)
 
 returns : tie.Need-returns Inv-loop μ-loop
 returns c =

@@ -17,15 +17,21 @@ returns c =
     let a = s .args in
     let u = tritAt (now (a .ones)) (now (a .twos)) in
     let z = gives-none (a .m) (a .at) (a .b) (omega arith) in
-    (omega arith, record { row = s .pre .1 .0; size = refl; trits = with-none u (a .b) (a .at) ∙ ap (withByte u (a .b) (a .at)) (sym z) })
+    (omega arith, record { row = s .pre .row; size = refl; trits = with-none u (a .b) (a .at) ∙ ap (withByte u (a .b) (a .at)) (sym z) })
 
 sub-left : tie.Need-sub-left
 sub-left c = search needs
 
 put-byte-requires : tie.Need-put-byte-requires
 put-byte-requires c κs =
-    let s = c .before .before .before .before .before .before in
-    (s .pre .0, (s .pre .1 .0, omega arith))
+    let s = c .before .before .before .before .before .before in record {
+      is-table = s .pre .is-table;
+      row = s .pre .row;
+      byte = omega arith;
+      digits = omega arith;
+      room = omega arith;
+      small = omega arith;
+    }
 
 add-result : tie.Need-add-result
 add-result c =
@@ -48,8 +54,14 @@ returns-2 c =
 
 put-byte-requires-2 : tie.Need-put-byte-requires-2
 put-byte-requires-2 c κs =
-    let s = c .before .before .before .before .before .before in
-    (s .pre .0, (s .pre .1 .0, omega arith))
+    let s = c .before .before .before .before .before .before in record {
+      is-table = s .pre .is-table;
+      row = s .pre .row;
+      byte = omega arith;
+      digits = omega arith;
+      room = omega arith;
+      small = omega arith;
+    }
 
 add-result-2 : tie.Need-add-result-2
 add-result-2 c =

@@ -30,11 +30,11 @@ start-from-after-loop c = c .before .before .before .before .before
 
 loop-holds : tie.Need-loop-holds Inv-loop μ-loop
 loop-holds c =
-    (stands-none _ _, c .before .before .before .pre .1 .0)
+    (stands-none _ _, c .before .before .before .pre .nothing-put)
 
 -- there is a byte to read
 more : (c : tie.In-loop Inv-loop μ-loop) → c .before .loop .i < length (now (c .before .before .before .before .before .args .bytes))
-more c = stands-more (c .before .loop .inv .0) (c .loop-test .taken) (start-from-in-loop c .pre .1 .1 .0)
+more c = stands-more (c .before .loop .inv .0) (c .loop-test .taken) (start-from-in-loop c .pre .enough)
 
 shared-slice-read-put-next : tie.Need-shared-slice-read-put-next Inv-loop μ-loop
 shared-slice-read-put-next c =
@@ -44,8 +44,13 @@ put-next-requires : tie.Need-put-next-requires Inv-loop μ-loop
 put-next-requires c κs =
     let s = c .before .before .before .before in
     let start = s .before .before .before .before in
-    let r = s .loop .inv .1 in
-    (start .pre .0, (r .row, omega (arith, s .loop .inv .0 .within, r .size)))
+    let r = s .loop .inv .1 in record {
+      is-table = start .pre .is-table;
+      row = r .row;
+      place = omega (arith, s .loop .inv .0 .within, r .size);
+      trits-fit = omega (arith, s .loop .inv .0 .within, r .size);
+      small = omega (arith, s .loop .inv .0 .within, r .size);
+    }
 
 add-i : tie.Need-add-i Inv-loop μ-loop
 add-i c =
@@ -61,8 +66,8 @@ loop-again c =
     let in-loop = after-put-next .before .before .before .before in
     let s = in-loop .before in
     let e = after-put-next .put-next .ensures in (
-      stands-next (s .loop .inv .0) (in-loop .loop-test .taken) (more (in-loop)) (e .0),
-      reads-next (s .loop .inv .0) (in-loop .loop-test .taken) (more (in-loop)) (s .loop .inv .1) (e .0) (e .1),
+      stands-next (s .loop .inv .0) (in-loop .loop-test .taken) (more in-loop) (e .0),
+      reads-next (s .loop .inv .0) (in-loop .loop-test .taken) (more in-loop) (s .loop .inv .1) (e .0) (e .1),
     )
 
 same-length : tie.Need-same-length Inv-loop μ-loop
@@ -71,7 +76,7 @@ same-length c =
 
 same-length-2 : tie.Need-same-length-2 Inv-loop μ-loop
 same-length-2 c =
-    c .before .loop .inv .1 .row .same ∙ c .before .loop .inv .1 .size ∙ sym (start-from-after-loop c .pre .1 .0 .row .same)
+    c .before .loop .inv .1 .row .same ∙ c .before .loop .inv .1 .size ∙ sym (start-from-after-loop c .pre .nothing-put .row .same)
 
 returns : tie.Need-returns Inv-loop μ-loop
 returns c =

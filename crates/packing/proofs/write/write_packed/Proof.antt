@@ -18,8 +18,12 @@ start-from-write-stream c = c .before .before .before .before .before .before
 write-stream-requires : tie.Need-write-stream-requires
 write-stream-requires c κs =
     let s = start-from-write-stream-arg2 c in
-    let e = bytes-passed (now (s .args .bytes)) (s .pre .1) in
-    (s .pre .0 .0, kept-enough _ _ e (s .pre .0 .1), s .pre .0 .2, s .pre .0 .3)
+    let e = bytes-passed (now (s .args .bytes)) (s .pre .not-refused) in record {
+      twos-size = s .pre .twos-size;
+      enough = kept-enough _ _ e (s .pre .enough);
+      trits-fit = s .pre .trits-fit;
+      small = s .pre .small;
+    }
 
 same-length : tie.Need-same-length
 same-length c = search needs
@@ -31,7 +35,7 @@ returns : tie.Need-returns
 returns c =
     let after-write-stream = c .before .before .before .before in
     let s = start-from-write-stream after-write-stream in
-    reads-to (after-write-stream .write-stream .ensures) (kept-row (s .args .m) _ (bytes-passed _ (s .pre .1)))
+    reads-to (after-write-stream .write-stream .ensures) (kept-row (s .args .m) _ (bytes-passed _ (s .pre .not-refused)))
 
 pub write-packed-spec : {M : Type 1} → statement M
 write-packed-spec = tie.close (tie.spec write-stream-requires same-length same-length-2 returns)

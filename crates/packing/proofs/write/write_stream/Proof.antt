@@ -39,8 +39,13 @@ put-stream-requires c κs =
     let s = start-from-zero-words after-zero-words in
     let eo = after-zero-words .zero-words .ensures in
     let et = after-zero-words2 .zero-words2 .ensures in
-    let l = ap length eo ∙ length-zeros (length (now (s .args .ones))) in
-    (c .before .before .before .byte-table .ensures, (zeros-hold (packedAt (kept (now (s .args .bytes)))) eo et (s .pre .0), omega (arith, l)))
+    let l = ap length eo ∙ length-zeros (length (now (s .args .ones))) in record {
+      is-table = c .before .before .before .byte-table .ensures;
+      nothing-put = zeros-hold (packedAt (kept (now (s .args .bytes)))) eo et (s .pre .twos-size);
+      enough = omega (arith, l);
+      trits-fit = omega (arith, l);
+      small = omega (arith, l);
+    }
 
 same-length : tie.Need-same-length
 same-length c = search needs

@@ -24,7 +24,7 @@ abbrev μ-loop : tie.MeasureT-loop
 
 returns : tie.Need-returns Inv-loop μ-loop
 returns c =
-    rows-full _ _ (c .before .args .rows) (c .before .args .m) (c .before .pre .0) (c .if1 .taken)
+    rows-full _ _ (c .before .args .rows) (c .before .args .m) (c .before .pre .ones-size) (c .if1 .taken)
 
 add-words : tie.Need-add-words Inv-loop μ-loop
 add-words c = search needs
@@ -40,7 +40,7 @@ within : (c : tie.In-loop Inv-loop μ-loop) → c .before .loop .last < c .befor
 within c =
     let l = c .before .loop in
     let a = c .before .before .before .args in
-    last-within (now (a .ones)) (now (a .twos)) (a .rows) (a .m) (l .i) (c .before .before .before .pre .0) (c .before .before .before .pre .1)
+    last-within (now (a .ones)) (now (a .twos)) (a .rows) (a .m) (l .i) (c .before .before .before .pre .ones-size) (c .before .before .before .pre .twos-size)
     (c .loop-test .taken) (c .before .before .if1 .left) (l .inv .1)
 
 -- a row has one word more than those that its length fills
@@ -83,7 +83,7 @@ loop-again c =
     let w = ap (λ (n : ℕ). l .last + n) (words (c .before .before)) in (
       omega arith,
       w ∙ last-next (l .i) (wordsFor (a .m)) (l .last) (a .m / 64) (l .inv .1),
-      gather-turn (now (a .ones)) (now (a .twos)) (a .rows) (a .m) (l .i) (p .0) (p .1) (c .before .before .loop-test .taken) (s .before .if1 .left) (l .past)
+      gather-turn (now (a .ones)) (now (a .twos)) (a .rows) (a .m) (l .i) (p .ones-size) (p .twos-size) (c .before .before .loop-test .taken) (s .before .if1 .left) (l .past)
           (l .inv .1)
           (c .before .shared-slice-known .given (l .last)) (c .shared-slice-known2 .given (l .last)) (l .inv .2),
     )

@@ -49,7 +49,7 @@ returns : tie.Need-returns
 returns c =
     let s = start-from-with-bit2 c in
     let a = s .args in
-    put-words (a .i) (a .t) (s .pre .0) (s .pre .1 .0) (s .pre .1 .1) (c .before .before .with-bit .ensures) (c .with-bit2 .ensures)
+    put-words (a .i) (a .t) (s .pre .row) (s .pre .place) (s .pre .trit) (c .before .before .with-bit .ensures) (c .with-bit2 .ensures)
 
 pub put-trit-spec : {M : Type 1} → statement M
 put-trit-spec =

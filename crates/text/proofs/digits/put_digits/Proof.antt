@@ -6,7 +6,6 @@ use native.Mathlib.Omega.{arith}
 use borrow.Author.Needs.{needs}
 use lib.ListN.{length}
 use denote.Ref.{now}
-use Rattle.text.specs.Steps.{before}
 use Rattle.text.specs.Digits.{digitAt, digitRow}
 use Rattle.trits.specs.Planes.{Reads}
 use Rattle.trits.specs.Trit.{upTo}
@@ -32,7 +31,7 @@ start-from-after-loop c = c .before .before .before .before .before
 loop-holds : tie.Need-loop-holds Inv-loop μ-loop
 loop-holds c =
     let p = c .before .before .before .pre in
-    (omega arith, refl, refl, zeros-hold (digitAt (now (c .before .before .before .args .field))) (p .1 .0) (p .1 .1) refl)
+    (omega arith, refl, refl, zeros-hold (digitAt (now (c .before .before .before .args .field))) (p .ones-zero) (p .twos-zero) refl)
 
 shared-slice-read-put-trit : tie.Need-shared-slice-read-put-trit Inv-loop μ-loop
 shared-slice-read-put-trit c = search needs
@@ -41,13 +40,16 @@ sub-put-trit : tie.Need-sub-put-trit Inv-loop μ-loop
 sub-put-trit c =
     let at-loop = c .before .before .before .before in
     let s = at-loop .before .before .before .before in
-    omega (arith, digit-range (now (s .args .field)) (s .pre .0) (at-loop .loop .i) (omega arith))
+    omega (arith, digit-range (now (s .args .field)) (s .pre .are-digits) (at-loop .loop .i) (omega arith))
 
 put-trit-requires : tie.Need-put-trit-requires Inv-loop μ-loop
 put-trit-requires c κs =
     let at-loop = c .before .before .before .before in
-    let s = at-loop .before .before .before .before in
-    (at-loop .loop .inv .3 .row, (omega arith, omega (arith, digit-range (now (s .args .field)) (s .pre .0) (at-loop .loop .i) (omega arith))))
+    let s = at-loop .before .before .before .before in record {
+      row = at-loop .loop .inv .3 .row;
+      place = omega arith;
+      trit = omega (arith, digit-range (now (s .args .field)) (s .pre .are-digits) (at-loop .loop .i) (omega arith));
+    }
 
 add-i : tie.Need-add-i Inv-loop μ-loop
 add-i c = search needs

@@ -38,8 +38,12 @@ slice-aggregate-offer-2 c = search needs
 offer-requires : tie.Need-offer-requires
 unfolding zeroWords tabulate
 offer-requires c κs =
-    let s = start-from-row-trits (c .before .before) in
-    (s .pre .0, (s .pre .1 .1 .0, refl, refl))
+    let s = start-from-row-trits (c .before .before) in record {
+      are-digits = s .pre .y-digits;
+      short = s .pre .y-short;
+      ones-zero = refl;
+      twos-zero = refl;
+    }
 
 slice-aggregate-offer-3 : tie.Need-slice-aggregate-offer-3
 slice-aggregate-offer-3 c = search needs
@@ -50,8 +54,12 @@ slice-aggregate-offer-4 c = search needs
 offer-requires-2 : tie.Need-offer-requires-2
 unfolding zeroWords tabulate
 offer-requires-2 c κs =
-    let s = start-from-offer (c .before .before .before .before) in
-    (s .pre .1 .0, (s .pre .1 .1 .1, refl, refl))
+    let s = start-from-offer (c .before .before .before .before) in record {
+      are-digits = s .pre .s-digits;
+      short = s .pre .s-short;
+      ones-zero = refl;
+      twos-zero = refl;
+    }
 
 row-words-requires : tie.Need-row-words-requires
 row-words-requires c κs = search needs

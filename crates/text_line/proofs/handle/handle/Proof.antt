@@ -77,8 +77,13 @@ part-handle-row-end c = search needs
 handle-row-requires : tie.Need-handle-row-requires
 handle-row-requires c κs =
     let after-enum-told2 = c .before .before .before .before in
-    let s = start-from-at-match-keys3 (after-enum-told2 .before) in
-    (row-place (after-enum-told2) .1, (omega (arith, part-short (length (now (s .args .line)) - 2) 2 (now (s .args .line)), s .pre .0), s .pre .1, s .pre .2, s .pre .3))
+    let s = start-from-at-match-keys3 (after-enum-told2 .before) in record {
+      are-digits = row-place after-enum-told2 .1;
+      short = omega (arith, part-short (length (now (s .args .line)) - 2) 2 (now (s .args .line)), s .pre .short);
+      ones-size = s .pre .ones-size;
+      twos-size = s .pre .twos-size;
+      room = s .pre .room;
+    }
 
 enum-known-form-2 : tie.Need-enum-known-form-2
 enum-known-form-2 c = search needs
@@ -119,10 +124,17 @@ handle-sign-requires c κs =
     let after-known-told2 = known-told2-from-handle-sign-arg5 c in
     let after-form2 = after-known-told2 .before in
     let s = start-from-at-match-keys4 (after-form2 .before) in
-    let p = sign-place (after-known-told2) in
+    let p = sign-place after-known-told2 in
     let g = after-form2 .form2 .given .0 in
-    let l = now (s .args .line) in
-    (p .2, (p .3, (omega (arith, part-short (g .1 .1 .1 .0 - (g .1 .1 .0 + 1)) (g .1 .1 .0 + 1) l, s .pre .0), omega (arith, part-short (length l - (g .1 .1 .1 .0 + 1)) (g .1 .1 .1 .0 + 1) l, s .pre .0), s .pre .1, s .pre .2, s .pre .3)))
+    let l = now (s .args .line) in record {
+      y-digits = p .2;
+      s-digits = p .3;
+      y-short = omega (arith, part-short (g .1 .1 .1 .0 - (g .1 .1 .0 + 1)) (g .1 .1 .0 + 1) l, s .pre .short);
+      s-short = omega (arith, part-short (length l - (g .1 .1 .1 .0 + 1)) (g .1 .1 .1 .0 + 1) l, s .pre .short);
+      ones-size = s .pre .ones-size;
+      twos-size = s .pre .twos-size;
+      room = s .pre .room;
+    }
 
 same-length : tie.Need-same-length
 same-length c = search needs

@@ -29,8 +29,12 @@ slice-aggregate-offer-2 c = search needs
 offer-requires : tie.Need-offer-requires
 unfolding zeroWords tabulate
 offer-requires c κs =
-    let s = c .before .before .before .before .before .before in
-    (s .pre .0, (s .pre .1 .0, refl, refl))
+    let s = c .before .before .before .before .before .before in record {
+      are-digits = s .pre .are-digits;
+      short = s .pre .short;
+      ones-zero = refl;
+      twos-zero = refl;
+    }
 
 key-words-requires : tie.Need-key-words-requires
 key-words-requires c κs = search needs

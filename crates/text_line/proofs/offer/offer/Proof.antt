@@ -21,8 +21,12 @@ returns c =
 put-digits-requires : tie.Need-put-digits-requires
 put-digits-requires c κs =
     let s = c .before .before .before .before .before .before in
-    let e : length (now (s .args .ones)) ≡ 16 = ap length (s .pre .1 .1) ∙ length-zeros 16 in
-    (s .pre .0, (s .pre .1 .1 ∙ ap zeroWords (sym e), s .pre .1 .2 ∙ ap zeroWords (sym e), omega (arith, e, s .pre .1 .0)))
+    let e : length (now (s .args .ones)) ≡ 16 = ap length (s .pre .ones-zero) ∙ length-zeros 16 in record {
+      are-digits = s .pre .are-digits;
+      ones-zero = s .pre .ones-zero ∙ ap zeroWords (sym e);
+      twos-zero = s .pre .twos-zero ∙ ap zeroWords (sym e);
+      room = omega (arith, e, s .pre .short);
+    }
 
 add-result : tie.Need-add-result
 add-result c = search needs
@@ -39,11 +43,11 @@ returns-2 c =
     let else1 = after-put-digits .before .before .before in
     let s = else1 .before .before .before .before in
     let a = s .args in
-    let e : length (now (a .ones)) ≡ 16 = ap length (s .pre .1 .1) ∙ length-zeros 16 in
+    let e : length (now (a .ones)) ≡ 16 = ap length (s .pre .ones-zero) ∙ length-zeros 16 in
     let d = now (a .digits) in
-    let p = offered (a .m) d ((length d + 63) / 64) (else1 .if1 .left) refl (omega (arith, s .pre .1 .0)) (rw e at (after-put-digits .put-digits .ensures))
+    let p = offered (a .m) d ((length d + 63) / 64) (else1 .if1 .left) refl (omega (arith, s .pre .short)) (rw e at (after-put-digits .put-digits .ensures))
     (λ j. c .before .before .slice-known3 .given j .fits) (λ j. c .slice-known4 .given j .fits) in
-    (omega (arith, s .pre .1 .0), (p .0, p .1))
+    (omega (arith, s .pre .short), (p .0, p .1))
 
 pub offer-spec : {M : Type 1} → statement M
 offer-spec =

@@ -1,0 +1,22 @@
+-- What inner functions ask. Assumes nothing.
+use mathlib.Core.Path.{_≡_}
+use mathlib.Core.Bool.{true}
+use Prim.Native.Nat.{_*_, ℕ}
+use lib.ListN.{length}
+use Rattle.scheme.specs.Sizes.{sizesFit, places, dim}
+use Rattle.matrix.specs.Orders.{Order}
+use Rattle.calls.specs.Lent.{planes, Readable}
+use Rattle.calls.specs.BuildCall.{keyRowWords, buildWorkWords}
+use mathlib.Core.List.{List}
+use Rattle.scheme.specs.declared.sizes.Sizes.{Sizes}
+
+-- sizes that fit, a secret that was tested, an order, and all that the key is written to
+pub record ForFinishBuild (z : Sizes) (huOnes huTwos hvOnes hvTwos bOnes bTwos cOnes cTwos start p keyOnes keyTwos workOnes workTwos : List ℕ) : Type 0 where
+  pub sizes : sizesFit z ≡ true
+  pub secret : Readable z (planes huOnes huTwos hvOnes hvTwos bOnes bTwos cOnes cTwos)
+  pub is-order : Order (places z) start
+  pub p-size : length p ≡ places z
+  pub key-ones-size : length keyOnes ≡ dim z * keyRowWords z
+  pub key-twos-size : length keyTwos ≡ dim z * keyRowWords z
+  pub work-ones-size : length workOnes ≡ buildWorkWords z
+  pub work-twos-size : length workTwos ≡ buildWorkWords z

@@ -1,0 +1,2 @@
+-- What inner functions ask. Assumes nothing.
+pub mod Steps

@@ -1,0 +1,23 @@
+-- What inner functions ask. Assumes nothing.
+use mathlib.Core.Path.{_≡_}
+use mathlib.Core.Bool.{true}
+use Prim.Native.Nat.{_+_, _≤_, ℕ}
+use lib.ListN.{length}
+use Rattle.trits.specs.Planes.{wordsFor}
+use Rattle.matrix.specs.Orders.{Order}
+use Rattle.grid.specs.Steps.{Rows}
+use Rattle.scheme.specs.Sizes.{sizesFit, places, dim}
+use Rattle.calls.specs.Lent.{halfWords}
+use mathlib.Core.List.{List}
+use Rattle.scheme.specs.declared.sizes.Sizes.{Sizes}
+
+-- sizes that fit, an order, the word in the working space, and room for it and its signature
+pub record ForReleaseWord (z : Sizes) (l : ℕ) (p workOnes workTwos wordOnes wordTwos sOnes sTwos : List ℕ) : Type 0 where
+  pub sizes : sizesFit z ≡ true
+  pub is-order : Order (places z) p
+  pub small : l ≤ 8192
+  pub grid : Rows workOnes workTwos (l + 5) (halfWords z)
+  pub word-ones-size : length wordOnes ≡ wordsFor (places z)
+  pub word-twos-size : length wordTwos ≡ wordsFor (places z)
+  pub s-ones-size : length sOnes ≡ wordsFor (dim z)
+  pub s-twos-size : length sTwos ≡ wordsFor (dim z)

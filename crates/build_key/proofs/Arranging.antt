@@ -3,7 +3,6 @@ use mathlib.Core.Path.{_≡_, refl, sym, ap, _∙_, subst}
 use mathlib.Core.Bool.{Bool, true, false, cond}
 use mathlib.Core.List.{List}
 use Prim.Native.Nat.{ℕ, zero, suc, _+_, _-_, _*_, _≤_, _<_}
-use native.Mathlib.Numerals.{add-one}
 use native.Mathlib.Decide.{decLt}
 use native.Mathlib.Omega.{arith}
 use borrow.Author.Tests.{lt-ltb, le-ltb}
@@ -145,13 +144,7 @@ arrange-done {r} {half} {hw} {w} {H} {start} {f} {j} {ones} {twos} {order} a h =
     let d = finished r (length start) H start f order (placedAt half hw w ones twos) (subst (λ (z : ℕ). State r (length start) H start f z order (placedAt half hw w ones twos)) e (a .state)) in
     (sym (ap (λ (a : Arrangement). a .order) (d .0)), record { entry = d .1 })
 
--- ---- a count or an order that one column changed, or left
-
-pub yes-count : {b : Bool} (n : ℕ) → b ≡ true → n + 1 ≡ cond b (suc n) n
-yes-count n e = rw e (add-one n)
-
-pub no-count : {b : Bool} (n : ℕ) → b ≡ false → n ≡ cond b (suc n) n
-no-count n e = rw e
+-- ---- an order that one column changed, or left
 
 pub yes-list : {b : Bool} {l : List ℕ} (x y : List ℕ) → b ≡ true → l ≡ x → l ≡ cond b x y
 yes-list x y e f = rw e f

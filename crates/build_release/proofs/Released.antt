@@ -18,6 +18,7 @@ use Rattle.matrix.specs.Orders.{Order}
 use Rattle.matrix.proofs.Rank.{full-reaches}
 use Rattle.grid.specs.Steps.{Rows, Grid}
 use Rattle.grid.proofs.Cells.{grid-to}
+use Rattle.grid.proofs.RowParts.{copied-rows}
 use Rattle.scheme.specs.declared.sizes.Sizes.{Sizes}
 use Rattle.scheme.specs.Sizes.{half, places, dim, ru, rv, codim}
 use Rattle.scheme.specs.Secret.{Secret, secretMatrix}
@@ -31,7 +32,6 @@ use Rattle.build_key.proofs.Written.{rows-same, down-row}
 use Rattle.calls.specs.Lent.{Planes, halfWords, secretOf, Readable}
 use Rattle.calls.specs.BuildCall.{keyRowWords, buildWorkWords, keyOnesOf, keyTwosOf}
 use Rattle.calls.proofs.Bounds.{Bounds}
-use Rattle.build_ranks.proofs.Copies.{copied-rows}
 use Rattle.build_release.specs.Steps.{Filled}
 
 -- working planes of 0, as half-rows

@@ -9,12 +9,12 @@ use native.Mathlib.Decide.{decLt}
 use native.Mathlib.Omega.{arith}
 use lib.ListN.{length, getD}
 use Rattle.trits.specs.Trit.{Trit, t0, t1, addT, subT, mulT, zipV, upTo, weightV}
-use Rattle.trits.proofs.Arithmetic.{add-comm, mul-comm}
+use Rattle.trits.proofs.Arithmetic.{add-comm, mul-comm, mul-zero}
 use Rattle.trits.proofs.Ends.{upto-in, upto-out}
-use Rattle.matrix.specs.Linear.{Vector, Matrix, zeros, times, solve, orZeros, elem, without}
+use Rattle.matrix.specs.Linear.{Vector, Matrix, zeros, solve, orZeros, elem, without}
 use Rattle.matrix.specs.Orders.{Order}
-use Rattle.matrix.proofs.Field.{law4, mul-zero}
-use Rattle.matrix.proofs.Dots.{dot-right}
+use Rattle.matrix.proofs.Field.{law4}
+use Rattle.matrix.proofs.Dots.{times-upto}
 use Rattle.matrix.proofs.Places.{Below, fill-off}
 use Rattle.matrix.proofs.Greedy.{bool-cases}
 use Rattle.matrix.proofs.Orders.{order-good}
@@ -95,16 +95,13 @@ joined-halves s u v t A eU eV f g h a b =
 
 -- ---- a draw looks at its halves below N alone
 
-times-half : (n : ℕ) (H : Matrix) (x : Vector) → times n H (upTo n x) ≡ times n H x
-times-half n H x = fun-ext (λ i. dot-right n (H i) (upTo n x) x (λ q h. upto-in x n q h))
-
 pub drawV-half : (z : Sizes) (s : Secret) (x : Vector) (ch : Choices) → drawV z s (upTo (half z) x) ch ≡ drawV z s x ch
 unfolding drawV
-drawV-half z s x ch = ap (λ (v : Vector). orZeros (solve (rv z) (half z) (s .hv) v (pivotsV z s ch) (suppliedV z s ch))) (times-half (half z) (s .hv) x)
+drawV-half z s x ch = ap (λ (v : Vector). orZeros (solve (rv z) (half z) (s .hv) v (pivotsV z s ch) (suppliedV z s ch))) (times-upto (half z) (s .hv) x)
 
 pub drawU-half : (z : Sizes) (s : Secret) (x eV : Vector) (ch : Choices) → drawU z s (upTo (half z) x) eV ch ≡ drawU z s x eV ch
 unfolding drawU
-drawU-half z s x eV ch = ap (λ (v : Vector). orZeros (solve (ru z) (half z) (s .hu) v (pivotsU z s ch) (suppliedU z s eV ch))) (times-half (half z) (s .hu) x)
+drawU-half z s x eV ch = ap (λ (v : Vector). orZeros (solve (ru z) (half z) (s .hu) v (pivotsU z s ch) (suppliedU z s eV ch))) (times-upto (half z) (s .hu) x)
 
 -- ---- and is 0 from N on
 

@@ -9,13 +9,13 @@ use borrow.Author.Tests.{eq-eqb, ne-eqb, eqb-true, eqb-false, lt-ltb, le-ltb}
 use lib.Dec.{eqb, ltb}
 use lib.ListN.{length, take, drop, take-append-drop}
 use Rattle.trits.specs.Trit.{Trit, t0, t1, subT, mulT, isSet, putV, dotV}
-use Rattle.trits.proofs.Arithmetic.{add-zero-r, mul-assoc, add-neg}
+use Rattle.trits.proofs.Arithmetic.{add-zero-r, mul-assoc, add-neg, mul-zero}
 use Rattle.matrix.specs.Linear.{Vector, Matrix, zeros, times, elem, pivots, rank, without}
 use Rattle.matrix.specs.Orders.{Distinct, Order}
 use Rattle.matrix.specs.Steps.{swapRows, clearRows, pivotRow, hasPivot, stepOf, Stage, tried, eliminate, eliminated, begun}
-use Rattle.matrix.proofs.Field.{mul-zero, mul-one, square}
+use Rattle.matrix.proofs.Field.{mul-one, square}
 use Rattle.matrix.proofs.Dots.{put-same, put-other}
-use Rattle.matrix.proofs.Places.{Below, or-false-left, or-false-right, or-none}
+use Rattle.matrix.proofs.Places.{Below, or-false-left, or-false-right, false-or-false}
 use Rattle.matrix.proofs.Orders.{order-good}
 use Rattle.matrix.proofs.Greedy.{pivots-kept}
 use Rattle.matrix.proofs.Elimination.{Reduced, reduced-cong}
@@ -223,7 +223,7 @@ taken-within r A [] c p h = refl
 taken-within r A (q ∷ qs) c p h = go (λ k. taken-within r A qs k p (or-false-right (eqb p q) (elem p qs) h)) (isNext r A c q)
   where
     go : ((k : ℕ) → elem p (taken r A k qs) ≡ false) → (t : Bool) → elem p (cond t (q ∷ taken r A (suc c) qs) (taken r A c qs)) ≡ false
-    go ih true = or-none (eqb p q) (elem p (taken r A (suc c) qs)) (or-false-left (eqb p q) (elem p qs) h) (ih (suc c))
+    go ih true = false-or-false (eqb p q) (elem p (taken r A (suc c) qs)) (or-false-left (eqb p q) (elem p qs) h) (ih (suc c))
     go ih false = ih c
 
 -- a place that is not listed need not be taken out

@@ -7,15 +7,15 @@ use native.Mathlib.Decide.{ℕ-discrete}
 use native.Mathlib.Omega.{arith}
 use borrow.Author.Tests.{eq-eqb, ne-eqb}
 use borrow.Rule.Slice.PartMut.{midOf, putMid}
-use lib.ListN.{length, getD, drop}
+use lib.ListN.{length, getD, set, drop}
 use lib.Seq.{getD-drop}
 use lib.Bits.{bitAnd}
 use Rattle.trits.specs.Trit.{Trit, t0, t2, subT, negT, negV, zipAt}
 use Rattle.trits.specs.Planes.{bit, trit, one, two, tritAt, Apart, Reads}
 use Rattle.trits.specs.Rows.{matrixAt}
 use Rattle.trits.proofs.Reading.{tritAt-word}
-use Rattle.trits.proofs.WordOps.{WordOp, table, sumOnes, sumTwos, add-op}
-use Rattle.trits.proofs.Patches.{Patched, zip-at, zip-below, zip-above, wordsAt, stretch-reads}
+use Rattle.trits.proofs.WordOps.{WordOp, table, addOnes, addTwos, add-op}
+use Rattle.trits.proofs.Patches.{Patched, patch-none, patch-more, patch-here, zip-at, zip-below, zip-above, wordsAt, stretch-reads}
 use Rattle.trits.proofs.Parts.{part-back, part-trit}
 use Rattle.trits.proofs.Matrix.{row-le, rows-apart}
 use Rattle.matrix.specs.Linear.{Matrix}
@@ -76,10 +76,10 @@ module _ {o₀ t₀ o t : List ℕ} {r w : ℕ} (g : Rows o₀ t₀ r w) (op : T
 
 -- the masks of the difference: those of the sum, with the planes of the second exchanged
 abbrev pub subOnes : ℕ → ℕ → ℕ → ℕ → ℕ
-subOnes a b c d = sumOnes a b d c
+subOnes a b c d = addOnes a b d c
 
 abbrev pub subTwos : ℕ → ℕ → ℕ → ℕ → ℕ
-subTwos a b c d = sumTwos a b d c
+subTwos a b c d = addTwos a b d c
 
 pub sub-op : WordOp subOnes subTwos subT
 sub-op = record {
@@ -89,17 +89,55 @@ sub-op = record {
   twos-table = table (λ x y. subTwos (one x) (two x) (one y) (two y)) (λ x y. two (subT x y)) tt;
 }
 
-module _ {F G : ℕ → ℕ → ℕ → ℕ → ℕ} {op : Trit → Trit → Trit} (x : WordOp F G op) (z : op t0 t0 ≡ t0) {o₀ t₀ o t : List ℕ} {r : ℕ} (w i j : ℕ) {k : ℕ}
-    (g : Rows o₀ t₀ r w) (po : Patched (wordsAt F o₀ t₀ (drop (j * w) o₀) (drop (j * w) t₀) (i * w)) (i * w) k o₀ o)
-    (pt : Patched (wordsAt G o₀ t₀ (drop (j * w) o₀) (drop (j * w) t₀) (i * w)) (i * w) k t₀ t) where
-  pub joined-grid : k ≡ w → Grid o t r w (joinRow op i j (matrixAt w o₀ t₀))
-  joined-grid e =
+-- the loop has made k words of row i by the masks F and G, from its own words and row j's; the rest is as it was
+pub record Joining (F G : ℕ → ℕ → ℕ → ℕ → ℕ) (w i j : ℕ) (o₀ t₀ : List ℕ) (k : ℕ) (o t : List ℕ) : Type 0 where
+  pub within : k ≤ w
+  pub own : i * w + w ≤ length o₀
+  pub source : j * w + w ≤ length o₀
+  pub same : length t₀ ≡ length o₀
+  pub ones : Patched (wordsAt F o₀ t₀ (drop (j * w) o₀) (drop (j * w) t₀) (i * w)) (i * w) k o₀ o
+  pub twos : Patched (wordsAt G o₀ t₀ (drop (j * w) o₀) (drop (j * w) t₀) (i * w)) (i * w) k t₀ t
+
+module _ {F G : ℕ → ℕ → ℕ → ℕ → ℕ} {o₀ t₀ : List ℕ} {r w i j : ℕ} (g : Rows o₀ t₀ r w) where
+  pub joining-none : i < r → j < r → Joining F G w i j o₀ t₀ 0 o₀ t₀
+  joining-none h l = record {
+    within = omega arith;
+    own = omega (arith, row-le w h, g .size);
+    source = omega (arith, row-le w l, g .size);
+    same = g .row .same;
+    ones = patch-none _ _ _;
+    twos = patch-none _ _ _;
+  }
+
+  -- every word is made: the matrix has the trits' operation in row i
+  pub joined-grid : {op : Trit → Trit → Trit} {k : ℕ} {o t : List ℕ} → WordOp F G op → op t0 t0 ≡ t0 → Joining F G w i j o₀ t₀ k o t → k ≡ w
+      → Grid o t r w (joinRow op i j (matrixAt w o₀ t₀))
+  joined-grid {op} {k} {o} {t} x z s e =
       row-op g op (tritAt (drop (j * w) o₀) (drop (j * w) t₀)) i (joinRow op i j (matrixAt w o₀ t₀))
       (subst (λ (n : ℕ). Reads o t (length o₀) (zipAt op (tritAt o₀ t₀) (tritAt (drop (j * w) o₀) (drop (j * w) t₀)) (i * w) n)) e
-      (stretch-reads x (g .row .apart) (drop-apart (j * w) (g .row .apart)) po pt (g .row .same)))
+      (stretch-reads x (g .row .apart) (drop-apart (j * w) (g .row .apart)) (s .ones) (s .twos) (s .same)))
       (λ n q d l. ap (op (matrixAt w o₀ t₀ n q)) (drop-trit o₀ t₀ (j * w) q ∙ sym (cell w o₀ t₀ j q l)) ∙ rw (eq-eqb n i d))
       (λ n q f. rw (ne-eqb n i f))
       (λ n q d l. rw (eq-eqb n i d, cell-past w o₀ t₀ n q l, cell-past w o₀ t₀ j q l) (sym z))
+
+-- a turn: x and y are what the masks make of the words that are there
+pub joining-more : {F G : ℕ → ℕ → ℕ → ℕ → ℕ} {w i j : ℕ} {o₀ t₀ : List ℕ} {k : ℕ} {o t : List ℕ} {x y : ℕ} → Joining F G w i j o₀ t₀ k o t
+    → (i ≡ j → ⊥) → k < w → x ≡ F (getD o (i * w + k) 0) (getD t (i * w + k) 0) (getD o (j * w + k) 0) (getD t (j * w + k) 0)
+    → y ≡ G (getD o (i * w + k) 0) (getD t (i * w + k) 0) (getD o (j * w + k) 0) (getD t (j * w + k) 0)
+    → Joining F G w i j o₀ t₀ (k + 1) (set o (i * w + k) x) (set t (i * w + k) y)
+joining-more {w = w} {i} {j} {k = k} s ne h e f =
+    let a = patch-here (s .ones) (i * w + k) refl in
+    let b = patch-here (s .twos) (i * w + k) refl in
+    let c = patch-source w i j (s .ones) ne h in
+    let d = patch-source w i j (s .twos) ne h in
+    record {
+      within = omega arith;
+      own = s .own;
+      source = s .source;
+      same = s .same;
+      ones = patch-more (s .ones) _ _ refl (omega arith) (e ∙ rw (a, b, c, d));
+      twos = patch-more (s .twos) _ _ refl (omega arith) (f ∙ rw (a, b, c, d));
+    }
 
 -- ---- row i is negated
 

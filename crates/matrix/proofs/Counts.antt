@@ -11,7 +11,7 @@ use lib.Dec.{eqb}
 use lib.ListN.{length, getD, length-append}
 use Rattle.matrix.specs.Linear.{Vector, elem, without, range, fill}
 use Rattle.matrix.specs.Orders.{Distinct, Order}
-use Rattle.matrix.proofs.Places.{Below, or-false-left, or-false-right, or-true-right, or-cases, or-none, elem-append, elem-here, fill-at}
+use Rattle.matrix.proofs.Places.{Below, or-false-left, or-false-right, or-true-right, or-cases, false-or-false, elem-append, elem-here, fill-at}
 use Rattle.matrix.proofs.Greedy.{bool-cases}
 use Rattle.matrix.proofs.Orders.{drop-one, drop-one-length, drop-one-other, elem-index}
 
@@ -39,7 +39,7 @@ length-same ps qs d e v w = omega (arith, length-within ps qs d v, length-within
 pub distinct-append : (ps qs : List ℕ) → Distinct ps → Distinct qs → Disjoint ps qs → Distinct (ps ++ qs)
 distinct-append [] qs d e a = e
 distinct-append (p ∷ ps) qs d e a = (
-  elem-append p ps qs ∙ or-none (elem p ps) (elem p qs) (d .0) (a p (elem-here p ps)),
+  elem-append p ps qs ∙ false-or-false (elem p ps) (elem p qs) (d .0) (a p (elem-here p ps)),
   distinct-append ps qs (d .1) e (λ q m. a q (or-true-right (eqb q p) (elem q ps) m)),
 )
 

@@ -1,5 +1,5 @@
 -- An order of n places: a list of n of them in which each place below n stands. Assumes nothing.
-use mathlib.Core.Path.{_≡_, refl, sym, ap, _∙_}
+use mathlib.Core.Path.{_≡_, refl, sym, ap, _∙_, subst}
 use mathlib.Core.Bool.{Bool, true, false, cond, not, true≢false, and-eq-true-iff}
 use mathlib.Core.Logic.{_⊎_, inl, inr}
 use mathlib.Core.List.{List, [], _∷_}
@@ -106,3 +106,7 @@ pub test-order : (n : ℕ) (ps : List ℕ) → Order n ps → isOrder n ps ≡ t
 unfolding isOrder
 test-order n ps o =
     and-eq-true-iff (eqb (length ps) n) (not (anyTo (λ q. not (elem q ps)) n)) .1 (eq-eqb (length ps) n (o .size), ap not (none-any n (λ q. not (elem q ps)) (λ q l. ap not (o .every q l))))
+
+-- an order is one of as many places as it has
+pub order-own : {n : ℕ} {l : List ℕ} → Order n l → Order (length l) l
+order-own {l = l} o = subst (λ (m : ℕ). Order m l) (sym (o .size)) o

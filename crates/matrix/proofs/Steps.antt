@@ -104,3 +104,10 @@ module _ (r at q : ℕ) (A : Matrix) where
       by : (t : Bool) → hasPivot r at q A ≡ t → cond (hasPivot r at q A) (suc at) at ≤ r
       by true e = rw e (let f = has-row e in omega (arith, f .0, f .1))
       by false e = rw e h
+
+-- a count that one column raised, or left
+pub yes-count : {b : Bool} (n : ℕ) → b ≡ true → n + 1 ≡ cond b (suc n) n
+yes-count n e = rw e (add-one n)
+
+pub no-count : {b : Bool} (n : ℕ) → b ≡ false → n ≡ cond b (suc n) n
+no-count n e = rw e

@@ -8,6 +8,7 @@ use borrow.Author.Tests.{eqb-true}
 use lib.Dec.{eqb}
 use lib.ListN.{length, getD}
 use Rattle.trits.specs.Trit.{nonZero, sumTo, weightV}
+use Rattle.trits.proofs.Counts.{sum-first}
 use Rattle.matrix.specs.Linear.{Vector, elem}
 use Rattle.matrix.specs.Orders.{Order}
 use Rattle.matrix.proofs.Orders.{drop-one, drop-one-length, drop-one-other}
@@ -16,11 +17,6 @@ use Rattle.matrix.proofs.Orders.{drop-one, drop-one-length, drop-one-ot
 abbrev listed : (ℕ → ℕ) → List ℕ → ℕ
 listed f [] = 0
 listed f (p ∷ ps) = f p + listed f ps
-
-sum-first : (k : ℕ) (f : ℕ → ℕ) → sumTo f (suc k) ≡ f 0 + sumTo (λ i. f (suc i)) k
-unfolding sumTo
-sum-first zero f = omega arith
-sum-first (suc k) f = omega (arith, sum-first k f)
 
 listed-sum : (f : ℕ → ℕ) (ps : List ℕ) → sumTo (λ j. f (getD ps j 0)) (length ps) ≡ listed f ps
 unfolding sumTo

@@ -25,7 +25,7 @@ unfolding sumTo
 sum-add a zero f = ap (sumTo f) (add-zero a) ∙ sym (add-zero (sumTo f a))
 sum-add a (suc k) f = ap (sumTo f) (add-suc a k) ∙ omega (arith, sum-add a k f)
 
-sum-first : (k : ℕ) (f : ℕ → ℕ) → sumTo f (suc k) ≡ f 0 + sumTo (λ i. f (suc i)) k
+pub sum-first : (k : ℕ) (f : ℕ → ℕ) → sumTo f (suc k) ≡ f 0 + sumTo (λ i. f (suc i)) k
 unfolding sumTo
 sum-first zero f = omega arith
 sum-first (suc k) f = omega (arith, sum-first k f)

@@ -7,10 +7,11 @@ use lib.ListN.{length}
 use denote.Ref.{now}
 use Rattle.trits.specs.Planes.{tritAt, Row}
 use Rattle.trits.proofs.Counts.{weight-le}
+use Rattle.trits.proofs.Refusals.{planes-row, row-ended}
 use Rattle.held_key.specs.Held.{rowTrits}
 use Rattle.held_key.proofs.Sizes.{sizes}
 use Rattle.check_tests.proofs.Passed.{fitted, contents}
-use Rattle.checker.proofs.Weighed.{readable, row-ended, weighed, at-most}
+use Rattle.checker.proofs.Weighed.{weighed, at-most}
 use Rattle.checker.proofs.weighing.weigh.Statement.{statement}
 use Rattle.checker.proofs.weighing.weigh.Tie as tie
 
@@ -28,7 +29,7 @@ take-rows-requires c κs =
     let t = contents (c .before .before .before .before .before .before .before .before .before .before .before .before .before .before .before .before .before .before .args .held) (now (c .before .before .before .before .before .before .before .before .before .before .before .before .before .before .before .before .before .before .args .ones)) (now (c .before .before .before .before .before .before .before .before .before .before .before .before .before .before .before .before .before .before .args .twos)) (now (c .before .before .before .before .before .before .before .before .before .before .before .before .before .before .before .before .before .before .args .y-ones)) (now (c .before .before .before .before .before .before .before .before .before .before .before .before .before .before .before .before .before .before .args .y-twos)) (now (c .before .before .before .before .before .before .before .before .before .before .before .before .before .before .before .before .before .before .args .s-ones)) (now (c .before .before .before .before .before .before .before .before .before .before .before .before .before .before .before .before .before .before .args .s-twos)) (c .before .before .before .before .before .before .before .before .before .before .before .before .before .before .before .before .before .before .pre .1 .1 .0) in
     let eo = c .before .before .before .before .before .before .before .before .copy-words .ensures in
     let et = c .before .before .before .before .copy-words2 .ensures in
-    (c .before .before .before .before .before .before .before .before .before .before .before .before .before .before .before .before .before .before .pre .0, (readable ((c .before .before .before .before .before .before .before .before .before .before .before .before .before .before .before .before .before .before .args .held) .k) (rowTrits (c .before .before .before .before .before .before .before .before .before .before .before .before .before .before .before .before .before .before .args .held)) (t .0) (c .before .before .before .before .before .before .before .before .before .before .before .before .before .before .before .before .before .before .pre .0 .twos-size ∙ sym (c .before .before .before .before .before .before .before .before .before .before .before .before .before .before .before .before .before .before .pre .0 .ones-size)) (c .before .before .before .before .before .before .before .before .before .before .before .before .before .before .before .before .before .shared-slice-known .given) (c .before .before .before .before .before .before .before .before .before .before .before .before .before .before .before .before .shared-slice-known2 .given), (record { row = subst₂ Row (sym eo) (sym et) (readable 1 (rowTrits (c .before .before .before .before .before .before .before .before .before .before .before .before .before .before .before .before .before .before .args .held)) (t .1) (f .y-twos ∙ sym (f .y-ones)) (c .before .before .before .before .before .before .before .before .before .before .before .before .before .before .before .shared-slice-known3 .given) (c .before .before .before .before .before .before .before .before .before .before .before .before .before .before .shared-slice-known4 .given)); size = ap length eo ∙ f .y-ones }, (omega (arith, f .s-ones), f .s-twos ∙ sym (f .s-ones)))))
+    (c .before .before .before .before .before .before .before .before .before .before .before .before .before .before .before .before .before .before .pre .0, (planes-row ((c .before .before .before .before .before .before .before .before .before .before .before .before .before .before .before .before .before .before .args .held) .k) (rowTrits (c .before .before .before .before .before .before .before .before .before .before .before .before .before .before .before .before .before .before .args .held)) (t .0) (c .before .before .before .before .before .before .before .before .before .before .before .before .before .before .before .before .before .before .pre .0 .twos-size ∙ sym (c .before .before .before .before .before .before .before .before .before .before .before .before .before .before .before .before .before .before .pre .0 .ones-size)) (c .before .before .before .before .before .before .before .before .before .before .before .before .before .before .before .before .before .shared-slice-known .given) (c .before .before .before .before .before .before .before .before .before .before .before .before .before .before .before .before .shared-slice-known2 .given), (record { row = subst₂ Row (sym eo) (sym et) (planes-row 1 (rowTrits (c .before .before .before .before .before .before .before .before .before .before .before .before .before .before .before .before .before .before .args .held)) (t .1) (f .y-twos ∙ sym (f .y-ones)) (c .before .before .before .before .before .before .before .before .before .before .before .before .before .before .before .shared-slice-known3 .given) (c .before .before .before .before .before .before .before .before .before .before .before .before .before .before .shared-slice-known4 .given)); size = ap length eo ∙ f .y-ones }, (omega (arith, f .s-ones), f .s-twos ∙ sym (f .s-ones)))))
 
 weight-requires : tie.Need-weight-requires
 weight-requires c κs =
@@ -53,7 +54,7 @@ returns c =
     let eo = c .before .before .before .before .before .before .before .before .before .before .before .before .before .before .before .before .copy-words .ensures in
     let et = c .before .before .before .before .before .before .before .before .before .before .before .before .copy-words2 .ensures in
     weighed (tritAt (now (c .before .before .before .before .before .before .before .before .before .before .before .before .before .before .before .before .before .before .before .before .before .before .before .before .before .before .args .y-ones)) (now (c .before .before .before .before .before .before .before .before .before .before .before .before .before .before .before .before .before .before .before .before .before .before .before .before .before .before .args .y-twos))) (tritAt (now (c .before .before .before .before .before .before .before .before .before .before .before .before .before .before .before .before .before .before .before .before .before .before .before .before .before .before .args .s-ones)) (now (c .before .before .before .before .before .before .before .before .before .before .before .before .before .before .before .before .before .before .before .before .before .before .before .before .before .before .args .s-twos))) (c .before .before .before .before .before .before .before .before .before .before .before .before .before .before .before .before .before .before .before .before .before .before .before .before .before .before .pre .0) (t .0) (row-ended (now (c .before .before .before .before .before .before .before .before .before .before .before .before .before .before .before .before .before .before .before .before .before .before .before .before .before .before .args .y-ones)) (now (c .before .before .before .before .before .before .before .before .before .before .before .before .before .before .before .before .before .before .before .before .before .before .before .before .before .before .args .y-twos)) (rowTrits (c .before .before .before .before .before .before .before .before .before .before .before .before .before .before .before .before .before .before .before .before .before .before .before .before .before .before .args .held)) (t .1) (f .y-ones) (f .y-twos))
-    (record { row = subst₂ Row (sym eo) (sym et) (readable 1 (rowTrits (c .before .before .before .before .before .before .before .before .before .before .before .before .before .before .before .before .before .before .before .before .before .before .before .before .before .before .args .held)) (t .1) (f .y-twos ∙ sym (f .y-ones)) (c .before .before .before .before .before .before .before .before .before .before .before .before .before .before .before .before .before .before .before .before .before .before .before .shared-slice-known3 .given) (c .before .before .before .before .before .before .before .before .before .before .before .before .before .before .before .before .before .before .before .before .before .before .shared-slice-known4 .given)); size = refl; trits = ap₂ tritAt eo et }) (ap length eo ∙ f .y-ones) (c .before .before .before .before .before .before .before .take-rows .ensures .1) (c .weight .ensures) (c .before .before .before .before .before .before .before .take-rows .ensures .0)
+    (record { row = subst₂ Row (sym eo) (sym et) (planes-row 1 (rowTrits (c .before .before .before .before .before .before .before .before .before .before .before .before .before .before .before .before .before .before .before .before .before .before .before .before .before .before .args .held)) (t .1) (f .y-twos ∙ sym (f .y-ones)) (c .before .before .before .before .before .before .before .before .before .before .before .before .before .before .before .before .before .before .before .before .before .before .before .shared-slice-known3 .given) (c .before .before .before .before .before .before .before .before .before .before .before .before .before .before .before .before .before .before .before .before .before .before .shared-slice-known4 .given)); size = refl; trits = ap₂ tritAt eo et }) (ap length eo ∙ f .y-ones) (c .before .before .before .before .before .before .before .take-rows .ensures .1) (c .weight .ensures) (c .before .before .before .before .before .before .before .take-rows .ensures .0)
 
 pub weigh-spec : {M : Type 1} → statement M
 weigh-spec =

@@ -8,12 +8,13 @@ use lib.ListN.{length}
 use denote.Ref.{now}
 use Rattle.trits.proofs.Reading.{reads-to}
 use Rattle.trits.proofs.Counts.{weight-le}
+use Rattle.trits.proofs.Refusals.{planes-row}
 use Rattle.packed.specs.Packed.{packedRow}
 use Rattle.held_key.specs.Held.{rowTrits}
 use Rattle.held_key.proofs.Sizes.{sizes}
 use Rattle.packed.proofs.Digits.{packed-out}
 use Rattle.check_tests.proofs.Passed.{packed-fitted, packed-contents}
-use Rattle.checker.proofs.Weighed.{readable, weighed, at-most}
+use Rattle.checker.proofs.Weighed.{weighed, at-most}
 use Rattle.checker.proofs.weighing.weigh_packed.Statement.{statement}
 use Rattle.checker.proofs.weighing.weigh_packed.Tie as tie
 
@@ -31,7 +32,7 @@ take-packed-rows-requires : tie.Need-take-packed-rows-requires
 take-packed-rows-requires c κs =
     let t = packed-contents (c .before .before .before .before .before .before .before .before .before .before .before .before .before .before .before .before .args .held) (now (c .before .before .before .before .before .before .before .before .before .before .before .before .before .before .before .before .args .ones)) (now (c .before .before .before .before .before .before .before .before .before .before .before .before .before .before .before .before .args .twos)) (now (c .before .before .before .before .before .before .before .before .before .before .before .before .before .before .before .before .args .y)) (now (c .before .before .before .before .before .before .before .before .before .before .before .before .before .before .before .before .args .s)) (c .before .before .before .before .before .before .before .before .before .before .before .before .before .before .before .before .pre .1 .1 .0) in
     let u = c .before .before .before .before .before .before .write-packed .ensures in
-    (c .before .before .before .before .before .before .before .before .before .before .before .before .before .before .before .before .pre .0, (readable ((c .before .before .before .before .before .before .before .before .before .before .before .before .before .before .before .before .args .held) .k) (rowTrits (c .before .before .before .before .before .before .before .before .before .before .before .before .before .before .before .before .args .held)) (t .0) (c .before .before .before .before .before .before .before .before .before .before .before .before .before .before .before .before .pre .0 .twos-size ∙ sym (c .before .before .before .before .before .before .before .before .before .before .before .before .before .before .before .before .pre .0 .ones-size)) (c .before .before .before .before .before .before .before .before .before .before .before .before .before .before .before .shared-slice-known .given) (c .before .before .before .before .before .before .before .before .before .before .before .before .before .before .shared-slice-known2 .given), (record { row = u .row; size = u .size ∙ c .before .before .before .before .before .before .before .before .before .before .before .before .before .before .before .before .pre .1 .1 .1 .0 }, (packed-fitted (c .before .before .before .before .before .before .before .before .before .before .before .before .before .before .before .before .args .held) (length (now (c .before .before .before .before .before .before .before .before .before .before .before .before .before .before .before .before .args .y))) (length (now (c .before .before .before .before .before .before .before .before .before .before .before .before .before .before .before .before .args .s))) (c .before .before .before .before .before .before .before .before .before .before .before .before .before .before .before .before .pre .1 .0) .1, t .2))))
+    (c .before .before .before .before .before .before .before .before .before .before .before .before .before .before .before .before .pre .0, (planes-row ((c .before .before .before .before .before .before .before .before .before .before .before .before .before .before .before .before .args .held) .k) (rowTrits (c .before .before .before .before .before .before .before .before .before .before .before .before .before .before .before .before .args .held)) (t .0) (c .before .before .before .before .before .before .before .before .before .before .before .before .before .before .before .before .pre .0 .twos-size ∙ sym (c .before .before .before .before .before .before .before .before .before .before .before .before .before .before .before .before .pre .0 .ones-size)) (c .before .before .before .before .before .before .before .before .before .before .before .before .before .before .before .shared-slice-known .given) (c .before .before .before .before .before .before .before .before .before .before .before .before .before .before .shared-slice-known2 .given), (record { row = u .row; size = u .size ∙ c .before .before .before .before .before .before .before .before .before .before .before .before .before .before .before .before .pre .1 .1 .1 .0 }, (packed-fitted (c .before .before .before .before .before .before .before .before .before .before .before .before .before .before .before .before .args .held) (length (now (c .before .before .before .before .before .before .before .before .before .before .before .before .before .before .before .before .args .y))) (length (now (c .before .before .before .before .before .before .before .before .before .before .before .before .before .before .before .before .args .s))) (c .before .before .before .before .before .before .before .before .before .before .before .before .before .before .before .before .pre .1 .0) .1, t .2))))
 
 weight-requires : tie.Need-weight-requires
 weight-requires c κs =

@@ -7,10 +7,10 @@ use denote.Ref.{now}
 use lib.Dec.{lit<}
 use Rattle.calls.specs.Lent.{planes, halfWords}
 use Rattle.calls.proofs.Bounds.{bounds}
-use Rattle.calls.proofs.Exits.{positive}
 use Rattle.draw_tests.specs.Steps.{given}
 use Rattle.draw_word.proofs.Stages.{upto-row, ending-ranks, ending-fourteen, ending-none, made, unmade}
 use borrow.Author.Needs.{needs}
+use Rattle.trits.proofs.Refusals.{positive}
 use Rattle.draw_word.proofs.word.make_word.Statement.{statement}
 use Rattle.draw_word.proofs.word.make_word.Tie as tie
 
@@ -33,7 +33,7 @@ same-length-2 c = search needs
 
 returns : tie.Need-returns
 returns c =
-    let s = c .before .before .before .before .before .before .before .before .before .before .before .before .before .before .before .before .before .before .before .before .before .before .before .before .before .before .before .before .before .before .before .before .before .before .before in let a = s .args in let b = bounds (a .z) (s .pre .0) in let r = s .pre .1 .0 in let k = r .secret in let m = s .pre .1 .1 in let i = (given (planes (now (a .hu-ones)) (now (a .hu-twos)) (now (a .hv-ones)) (now (a .hv-twos)) (now (a .b-ones)) (now (a .b-twos)) (now (a .c-ones)) (now (a .c-twos))) (now (a .p)) (now (a .y-ones)) (now (a .y-twos)) (now (a .v-order)) (now (a .v-ones)) (now (a .v-twos)) (now (a .u-order)) (now (a .u-ones)) (now (a .u-twos))) in let e = c .before .before .before .before .before .before .solve-halves .ensures .0 in (ending-ranks (a .z) i e (λ y. c .if1 .taken (c .before .code .ensures ∙ y)), c .before .before .before .before .before .before .solve-halves .ensures .1, unmade (positive _ (λ y. c .if1 .taken (c .before .code .ensures ∙ y))))
+    let s = c .before .before .before .before .before .before .before .before .before .before .before .before .before .before .before .before .before .before .before .before .before .before .before .before .before .before .before .before .before .before .before .before .before .before .before in let a = s .args in let b = bounds (a .z) (s .pre .0) in let r = s .pre .1 .0 in let k = r .secret in let m = s .pre .1 .1 in let i = (given (planes (now (a .hu-ones)) (now (a .hu-twos)) (now (a .hv-ones)) (now (a .hv-twos)) (now (a .b-ones)) (now (a .b-twos)) (now (a .c-ones)) (now (a .c-twos))) (now (a .p)) (now (a .y-ones)) (now (a .y-twos)) (now (a .v-order)) (now (a .v-ones)) (now (a .v-twos)) (now (a .u-order)) (now (a .u-ones)) (now (a .u-twos))) in let e = c .before .before .before .before .before .before .solve-halves .ensures .0 in (ending-ranks (a .z) i e (λ y. c .if1 .taken (c .before .code .ensures ∙ y)), c .before .before .before .before .before .before .solve-halves .ensures .1, unmade (positive (λ y. c .if1 .taken (c .before .code .ensures ∙ y))))
 
 join-word-requires : tie.Need-join-word-requires
 join-word-requires c κs =

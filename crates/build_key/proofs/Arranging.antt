@@ -16,7 +16,7 @@ use Rattle.matrix.proofs.Dimension.{Reaches}
 use Rattle.matrix.proofs.Places.{elem-at}
 use Rattle.matrix.proofs.Orders.{order-good}
 use Rattle.matrix.proofs.Rank.{full-reaches}
-use Rattle.matrix.proofs.Steps.{has-row, has-none, step-has, step-none}
+use Rattle.matrix.proofs.Steps.{has-row, has-none, step-has, step-none, pick-first, pick-second}
 use Rattle.grid.specs.Steps.{Rows, Grid}
 use Rattle.scheme.specs.Build.{swap, Arrangement, arranged}
 use Rattle.scheme_laws.proofs.Build.{State, begin, turned, taken, left, finished, swap-length}
@@ -147,7 +147,7 @@ arrange-done {r} {half} {hw} {w} {H} {start} {f} {j} {ones} {twos} {order} a h =
 -- ---- an order that one column changed, or left
 
 pub yes-list : {b : Bool} {l : List ℕ} (x y : List ℕ) → b ≡ true → l ≡ x → l ≡ cond b x y
-yes-list x y e f = rw e f
+yes-list x y e f = f ∙ pick-first x y e
 
 pub no-list : {b : Bool} {l : List ℕ} (x y : List ℕ) → b ≡ false → l ≡ y → l ≡ cond b x y
-no-list x y e f = rw e f
+no-list x y e f = f ∙ pick-second x y e

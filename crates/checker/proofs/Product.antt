@@ -7,7 +7,7 @@ use native.Mathlib.Omega.{arith}
 use Rattle.trits.specs.Trit.{Trit, t0, t2, addT, subT, mulT, zipV, dotV, sumTo, weightV, nonZero, tritOf}
 use Rattle.trits.specs.Planes.{tritAt, Reads}
 use Rattle.trits.proofs.Arithmetic.{law1, law2, law3, mul-zero}
-use Rattle.trits.proofs.Counts.{sum-cong, sum-add}
+use Rattle.trits.proofs.Counts.{sum-add, weight-same}
 use Rattle.trits.proofs.Ends.{weight-ended}
 use Rattle.trits.proofs.Products.{dot-zero}
 use Rattle.verdict.specs.Verdict.{Key, timesKey, fullWord, fullWeight}
@@ -65,6 +65,6 @@ module _ (m k : ℕ) (R : Key) (y s : ℕ → Trit) where
   full-weight places l yz rz =
       let v : ℕ → Trit = zipV subT y (timesKey k R s) in
       let low : weightV v places ≡ weightV v m = weight-ended v m places l (λ q h. ap₂ subT (yz q h) (dot-zero k s (λ j. R j q) (λ j b. ap (mulT (s j)) (rz j q b h) ∙ mul-zero (s j)))) in
-      let head : weightV v m ≡ weightV (fullWord m k R y s) m = sum-cong m (λ i. nonZero (v i)) (λ i. nonZero (fullWord m k R y s i)) (λ i h. ap nonZero (sym (full-low m k R y s i h))) in
-      let last : weightV s k ≡ sumTo (λ i. nonZero (fullWord m k R y s (m + i))) k = sum-cong k (λ i. nonZero (s i)) (λ i. nonZero (fullWord m k R y s (m + i))) (λ i h. ap nonZero (sym (full-high m k R y s i))) in
+      let head : weightV v m ≡ weightV (fullWord m k R y s) m = weight-same m v (fullWord m k R y s) (λ i h. sym (full-low m k R y s i h)) in
+      let last : weightV s k ≡ sumTo (λ i. nonZero (fullWord m k R y s (m + i))) k = weight-same k s (λ i. fullWord m k R y s (m + i)) (λ i h. sym (full-high m k R y s i)) in
       omega (arith, low, head, last, sum-add m k (λ i. nonZero (fullWord m k R y s i)))

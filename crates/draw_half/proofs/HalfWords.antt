@@ -1,7 +1,7 @@
 -- The word of one half: what is supplied in row e, subtracted from row x, and solved for in the reduced matrix is the word of the definition. Assumes nothing.
 use mathlib.Core.Path.{_≡_, refl, sym, ap, ap₂, _∙_, subst, fun-ext}
 use mathlib.Core.Bool.{Bool, true, false, cond, true≢false}
-use mathlib.Core.Logic.{_⊎_, inl, inr, _≢_}
+use mathlib.Core.Logic.{_≢_}
 use mathlib.Core.List.{List}
 use Prim.Native.Nat.{ℕ, _+_, _-_, _≤_, _<_}
 use native.Mathlib.Omega.{arith}
@@ -15,10 +15,10 @@ use Rattle.matrix.specs.Linear.{Vector, Matrix, zeros, times, elem, solve, orZe
 use Rattle.matrix.specs.Orders.{Order}
 use Rattle.matrix.specs.Steps.{eliminated}
 use Rattle.matrix.proofs.Dots.{dot-past, times-upto}
-use Rattle.matrix.proofs.Places.{Below, fill-off, fill-same}
-use Rattle.matrix.proofs.Greedy.{bool-cases, pivots-kept, pivots-elem}
+use Rattle.matrix.proofs.Places.{Below, fill-off, fill-same, elem-past}
+use Rattle.matrix.proofs.Greedy.{pivots-kept, pivots-elem}
 use Rattle.matrix.proofs.Orders.{order-good}
-use Rattle.matrix.proofs.Counts.{without-out}
+use Rattle.matrix.proofs.Counts.{without-out, without-none}
 use Rattle.matrix.proofs.Kept.{eliminated-reduced}
 use Rattle.matrix.proofs.Values.{solve-by-rows}
 use Rattle.grid.specs.Steps.{putRow, joinRow}
@@ -75,22 +75,12 @@ is-solved h = record { solved = λ z. h }
 
 -- ---- a word is 0 where nothing was put
 
-not-listed : (q : ℕ) (ps : List ℕ) → (elem q ps ≡ true → ⊥) → elem q ps ≡ false
-not-listed q ps f = by (bool-cases (elem q ps))
-  where
-    by : (elem q ps ≡ true) ⊎ (elem q ps ≡ false) → elem q ps ≡ false
-    by (inl m) = absurd (f m)
-    by (inr m) = m
-
 -- past the places listed, and at those that are left out
 fill-past : (n : ℕ) (ps : List ℕ) (v w : Vector) → Below n ps → Ends n w → Ends n (fill ps v w)
-fill-past n ps v w b e = record { past = λ q h. fill-off ps v w q (not-listed q ps (λ m. omega (arith, b q m))) ∙ e .past q h }
+fill-past n ps v w b e = record { past = λ q h. fill-off ps v w q (elem-past n ps q b h) ∙ e .past q h }
 
 zeros-end : (n : ℕ) → Ends n zeros
 zeros-end n = record { past = λ q h. refl }
-
-without-none : (qs ps : List ℕ) (q : ℕ) → elem q qs ≡ true → elem q (without qs ps) ≡ false
-without-none qs ps q m = not-listed q (without qs ps) (λ k. true≢false (sym m ∙ without-out qs ps q k .1))
 
 -- ---- row e is subtracted from row x
 

@@ -1,7 +1,6 @@
 -- What the rows of a draw hold, by its definitions: the parted halves, the joined halves, their weight, and the word that is written. Assumes nothing.
 use mathlib.Core.Path.{_≡_, sym, ap, ap₂, _∙_, fun-ext}
-use mathlib.Core.Logic.{_⊎_, inl, inr, _≢_}
-use mathlib.Core.Bool.{true, false}
+use mathlib.Core.Logic.{_≢_}
 use mathlib.Core.List.{List}
 use Prim.Native.Nat.{ℕ, _+_, _≤_, _<_}
 use native.Mathlib.Nat.{zero-add}
@@ -11,12 +10,11 @@ use lib.ListN.{length, getD}
 use Rattle.trits.specs.Trit.{Trit, t0, t1, addT, subT, mulT, zipV, upTo, weightV}
 use Rattle.trits.proofs.Arithmetic.{add-comm, mul-comm, mul-zero}
 use Rattle.trits.proofs.Ends.{upto-in, upto-out}
-use Rattle.matrix.specs.Linear.{Vector, Matrix, zeros, solve, orZeros, elem, without}
+use Rattle.matrix.specs.Linear.{Vector, Matrix, zeros, solve, orZeros, without}
 use Rattle.matrix.specs.Orders.{Order}
 use Rattle.matrix.proofs.Field.{law4}
 use Rattle.matrix.proofs.Dots.{times-upto}
-use Rattle.matrix.proofs.Places.{Below, fill-off}
-use Rattle.matrix.proofs.Greedy.{bool-cases}
+use Rattle.matrix.proofs.Places.{fill-off, elem-past}
 use Rattle.matrix.proofs.Orders.{order-good}
 use Rattle.matrix.proofs.Counts.{without-out}
 use Rattle.scheme.specs.declared.sizes.Sizes.{Sizes}
@@ -105,28 +103,21 @@ drawU-half z s x eV ch = ap (λ (v : Vector). orZeros (solve (ru z) (half z) (s 
 
 -- ---- and is 0 from N on
 
-not-in : (n : ℕ) (ps : List ℕ) (q : ℕ) → Below n ps → n ≤ q → elem q ps ≡ false
-not-in n ps q b h = by (bool-cases (elem q ps))
-  where
-    by : (elem q ps ≡ true) ⊎ (elem q ps ≡ false) → elem q ps ≡ false
-    by (inl m) = absurd (omega (arith, b q m))
-    by (inr m) = m
-
 module _ (z : Sizes) (s : Secret) (ch : Choices) (va : Valid z ch) where
   pub drawV-ends : length (pivotsV z s ch) ≡ rv z → (x : Vector) (q : ℕ) → half z ≤ q → drawV z s x ch q ≡ t0
   unfolding suppliedV
   drawV-ends full x q h =
-      drawV-good z s ch va full x .0 q (not-in (half z) (pivotsV z s ch) q (keptV z s ch va .below) h)
+      drawV-good z s ch va full x .0 q (elem-past (half z) (pivotsV z s ch) q (keptV z s ch va .below) h)
       ∙ fill-off (without (pivotsV z s ch) (ch .orderV)) (ch .tritsV) zeros q
-      (not-in (half z) (without (pivotsV z s ch) (ch .orderV)) q (λ n m. order-good (half z) (ch .orderV) (va .orderV) .1 n (without-out (pivotsV z s ch) (ch .orderV) n m .0)) h)
+      (elem-past (half z) (without (pivotsV z s ch) (ch .orderV)) q (λ n m. order-good (half z) (ch .orderV) (va .orderV) .1 n (without-out (pivotsV z s ch) (ch .orderV) n m .0)) h)
 
   pub drawU-ends : length (pivotsU z s ch) ≡ ru z → (x eV : Vector) (q : ℕ) → half z ≤ q → drawU z s x eV ch q ≡ t0
   unfolding suppliedU
   drawU-ends full x eV q h =
-      drawU-good z s ch va full x eV .0 q (not-in (half z) (pivotsU z s ch) q (keptU z s ch va .below) h)
-      ∙ fill-off (lastU z ch) (λ j. forced s eV (getD (lastU z ch) j 0) (ch .valuesU (gapU z + j))) _ q (not-in (half z) (lastU z ch) q (last-below z s ch va) h)
+      drawU-good z s ch va full x eV .0 q (elem-past (half z) (pivotsU z s ch) q (keptU z s ch va .below) h)
+      ∙ fill-off (lastU z ch) (λ j. forced s eV (getD (lastU z ch) j 0) (ch .valuesU (gapU z + j))) _ q (elem-past (half z) (lastU z ch) q (last-below z s ch va) h)
       ∙ fill-off (without (pivotsU z s ch) (firstU z ch)) (ch .valuesU) zeros q
-      (not-in (half z) (without (pivotsU z s ch) (firstU z ch)) q
+      (elem-past (half z) (without (pivotsU z s ch) (firstU z ch)) q
       (λ n m. first-below (half z) (ru z + gapU z) (ch .orderU) (va .orderU) n (without-out (pivotsU z s ch) (firstU z ch) n m .0)) h)
 
 -- the joined halves of vectors that are 0 from N on

@@ -15,9 +15,9 @@ use Rattle.trits.proofs.Ends.{upto-in, upto-out, upto-same, upto-ended}
 use Rattle.matrix.specs.Linear.{Vector, Matrix, zeros, elem}
 use Rattle.matrix.specs.Orders.{Order}
 use Rattle.matrix.proofs.Dots.{put-other}
-use Rattle.matrix.proofs.Places.{elem-at, fill-at, fill-off}
+use Rattle.matrix.proofs.Places.{fill-at, fill-off}
 use Rattle.matrix.proofs.Greedy.{bool-cases}
-use Rattle.matrix.proofs.Orders.{order-good, elem-index}
+use Rattle.matrix.proofs.Orders.{order-good, elem-index, place-below}
 use Rattle.grid.specs.Steps.{Rows, Grid, putRow, joinProduct}
 use Rattle.grid.proofs.Cells.{cell, grid-to}
 use Rattle.grid.proofs.RowParts.{put-here, put-else}
@@ -114,7 +114,7 @@ module _ (l N q : ℕ) (x : Vector) (y : Trit) (A : Matrix) where
 -- ---- the first i trits of y at the places of an order
 
 pub order-below : (n : ℕ) (p : List ℕ) → Order n p → (i : ℕ) → i < n → getD p i 0 < n
-order-below n p o i h = order-good n p o .1 (getD p i 0) (elem-at p i (omega (arith, o .size)))
+order-below n p o i h = place-below p n i o (omega (arith, o .size))
 
 -- 0 past a start
 past-start : (i : ℕ) (y : Vector) (j : ℕ) → i ≤ j → join i y zeros j ≡ t0

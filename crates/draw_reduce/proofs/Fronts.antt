@@ -16,9 +16,6 @@ use Rattle.trits.proofs.Patches.{zip-at, zip-above}
 use Rattle.trits.proofs.Parts.{part-back}
 use Rattle.trits.proofs.Matrix.{row-le}
 use Rattle.matrix.specs.Linear.{Matrix}
-use Rattle.matrix.specs.Orders.{Order}
-use Rattle.matrix.proofs.Places.{elem-at}
-use Rattle.matrix.proofs.Orders.{order-good}
 use Rattle.matrix.proofs.Counts.{range-none}
 use Rattle.grid.specs.Steps.{Rows, Grid}
 use Rattle.grid.proofs.Cells.{cell, cell-past, grid-by}
@@ -34,9 +31,6 @@ module _ (order : List ℕ) where
 
   pub take-next : (i : ℕ) → i < length order → take (i + 1) order ≡ take i order ++ (getD order i 0 ∷ [])
   take-next i h = ap (λ (k : ℕ). take k order) (add-one i) ∙ take-suc order i 0 h
-
-  pub place-below : (n i : ℕ) → Order n order → i < length order → getD order i 0 < n
-  place-below n i o h = order-good n order o .1 (getD order i 0) (elem-at order i h)
 
 -- ---- planes that were copied
 

@@ -79,7 +79,7 @@ contents-le z i =
     (ordered (isOrder (places z) (i .p)) _ (first-all Low _ _ (planes-low (i .y .ones) (i .y .twos) 1 (codim z))
     (ordered (isOrder (half z) (i .orderV)) _ (first-all Low _ _ (planes-low (i .v .ones) (i .v .twos) 1 (z .kv))
     (ordered (isOrder (half z) (i .orderU)) _ (first-all Low _ _ (planes-low (i .u .ones) (i .u .twos) 1 (z .ku))
-    (refuse-all Low (hasZero (z .ku - gapU z) (λ j. tritAt (i .u .ones) (i .u .twos) (gapU z + j))) 8 0 (omega arith) (omega arith)))))))
+    (refuse-all Low (hasZero (z .ku - gapU z) (λ j. tritAt (i .u .ones) (i .u .twos) (gapU z + j))) 8 0 (omega arith) (omega arith))))))))
   where
     ordered : (t : Bool) (r : ℕ) → Low r → Low (demand t 7 r)
     ordered t r h = demand-all Low t 7 r (omega arith) h

@@ -19,6 +19,7 @@ use Rattle.matrix.proofs.Places.{or-false-left, or-false-right, false-or-false,
 use Rattle.matrix.proofs.Greedy.{bool-cases}
 use Rattle.matrix.proofs.Orders.{order-good}
 use Rattle.matrix.proofs.Counts.{distinct-parts}
+use Rattle.matrix.proofs.Field.{refuted}
 use Rattle.grid.specs.Steps.{Rows, Grid, putRow}
 use Rattle.grid.proofs.Cells.{grid-to}
 use Rattle.grid.proofs.RowParts.{put-here, put-else}
@@ -54,17 +55,14 @@ fill-nil v w = refl
 
 -- a place is not among those before it
 pub before-place : (l : List ℕ) (i : ℕ) → Distinct l → i < length l → elem (getD l i 0) (take i l) ≡ false
-before-place l i d h = by (bool-cases (elem (getD l i 0) (take i l)))
+before-place l i d h =
+    refuted (elem (getD l i 0) (take i l)) (λ m. true≢false (sym there ∙ distinct-parts (take i l) (drop i l) split .2 (getD l i 0) m))
   where
     split : Distinct (take i l ++ drop i l)
     split = subst (λ (x : List ℕ). Distinct x) (sym (take-append-drop i l)) d
 
     there : elem (getD l i 0) (drop i l) ≡ true
     there = rw (drop-cons l i 0 h) (elem-here (getD l i 0) (drop (suc i) l))
-
-    by : (elem (getD l i 0) (take i l) ≡ true) ⊎ (elem (getD l i 0) (take i l) ≡ false) → elem (getD l i 0) (take i l) ≡ false
-    by (inl m) = absurd (true≢false (sym there ∙ distinct-parts (take i l) (drop i l) split .2 (getD l i 0) m))
-    by (inr m) = m
 
 pub place-fresh : (l : List ℕ) (i : ℕ) → Order (length l) l → i < length l → elem (getD l i 0) (take i l) ≡ false
 place-fresh l i o h = before-place l i (order-good (length l) l o .0) h

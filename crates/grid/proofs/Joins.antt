@@ -110,9 +110,9 @@ module _ {F G : ℕ → ℕ → ℕ → ℕ → ℕ} {o₀ t₀ : List ℕ} {r w
   }
 
   -- every word is made: the matrix has the trits' operation in row i
-  pub joined-grid : {op : Trit → Trit → Trit} {k : ℕ} {o t : List ℕ} → WordOp F G op → op t0 t0 ≡ t0 → Joining F G w i j o₀ t₀ k o t → k ≡ w
+  pub joining-done : {op : Trit → Trit → Trit} {k : ℕ} {o t : List ℕ} → WordOp F G op → op t0 t0 ≡ t0 → Joining F G w i j o₀ t₀ k o t → k ≡ w
       → Grid o t r w (joinRow op i j (matrixAt w o₀ t₀))
-  joined-grid {op} {k} {o} {t} x z s e =
+  joining-done {op} {k} {o} {t} x z s e =
       row-op g op (tritAt (drop (j * w) o₀) (drop (j * w) t₀)) i (joinRow op i j (matrixAt w o₀ t₀))
       (subst (λ (n : ℕ). Reads o t (length o₀) (zipAt op (tritAt o₀ t₀) (tritAt (drop (j * w) o₀) (drop (j * w) t₀)) (i * w) n)) e
       (stretch-reads x (g .row .apart) (drop-apart (j * w) (g .row .apart)) (s .ones) (s .twos) (s .same)))

@@ -30,6 +30,11 @@ pub not-false : (b : Bool) → not b ≡ false → b ≡ true
 not-false true e = refl
 not-false false e = absurd (true≢false e)
 
+-- a test that cannot be passed
+pub refuted : (b : Bool) → (b ≡ true → ⊥) → b ≡ false
+refuted true f = absurd (f refl)
+refuted false f = refl
+
 pub add-left-comm : (x y z : Trit) → addT x (addT y z) ≡ addT y (addT x z)
 add-left-comm = law3 (λ x y z. addT x (addT y z)) (λ x y z. addT y (addT x z)) tt
 

@@ -13,7 +13,7 @@ use Rattle.trits.proofs.Arithmetic.{add-zero-r, mul-comm, mul-zero}
 use Rattle.trits.proofs.Products.{dot-zero}
 use Rattle.matrix.specs.Linear.{Vector, zeros, Matrix, column, times, elem, fill, inSpan, keep, pivots, rank}
 use Rattle.matrix.specs.Orders.{Distinct}
-use Rattle.matrix.proofs.Field.{mul-one, square, solved, zero-or}
+use Rattle.matrix.proofs.Field.{mul-one, square, solved, zero-or, refuted}
 use Rattle.matrix.proofs.Dots.{put-same, put-other, dot-put, dot-add, dot-mul}
 use Rattle.matrix.proofs.Dimension.{Injective, injective-few, injective-reaches, reaches-many}
 use Rattle.matrix.proofs.Places.{Below, Supported, or-false-left, or-false-right, or-true-right, or-cases, false-or-false, elem-append, elem-here, picked, times-places, times-fill, fill-at, fill-off}
@@ -214,11 +214,7 @@ module _ (r n : ℕ) (H : Matrix) where
 
   -- more places reach more
   pub spans-mono : (ps qs : List ℕ) (v : Vector) → ((q : ℕ) → elem q ps ≡ true → elem q qs ≡ true) → Spans r n H ps v → Spans r n H qs v
-  spans-mono ps qs v f s = (s .0, (λ q m. s .1 q (off q m (bool-cases (elem q ps)))), s .2)
-    where
-      off : (q : ℕ) → elem q qs ≡ false → (elem q ps ≡ true) ⊎ (elem q ps ≡ false) → elem q ps ≡ false
-      off q m (inl e) = absurd (true≢false (sym (f q e) ∙ m))
-      off q m (inr e) = e
+  spans-mono ps qs v f s = (s .0, (λ q m. s .1 q (refuted (elem q ps) (λ e. true≢false (sym (f q e) ∙ m)))), s .2)
 
   -- the rank is full exactly when everything is reached; the right side does not speak of an order
   pub rank-iff : (ps : List ℕ) → Below n ps → (rank r n H ps ≡ r) ↔ ((v : Vector) → Spans r n H ps v)

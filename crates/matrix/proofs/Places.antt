@@ -3,7 +3,7 @@ use mathlib.Core.Path.{_≡_, refl, sym, ap, ap₂, _∙_}
 use mathlib.Core.Bool.{Bool, true, false, _||_, true≢false}
 use mathlib.Core.Logic.{_⊎_, inl, inr}
 use mathlib.Core.List.{List, [], _∷_, _++_}
-use Prim.Native.Nat.{ℕ, zero, suc, _+_, _<_}
+use Prim.Native.Nat.{ℕ, zero, suc, _+_, _≤_, _<_}
 use native.Mathlib.Omega.{arith}
 use borrow.Author.Tests.{eqb-true, eqb-false, eq-eqb}
 use lib.Dec.{eqb}
@@ -14,6 +14,7 @@ use Rattle.trits.proofs.Products.{dot-zero}
 use Rattle.matrix.specs.Linear.{Vector, zeros, Matrix, times, elem, fill}
 use Rattle.matrix.specs.Orders.{Distinct}
 use Rattle.matrix.proofs.Dots.{put-same, put-other, dot-right, dot-put, dot-first}
+use Rattle.matrix.proofs.Field.{refuted}
 
 abbrev pub Below : ℕ → List ℕ → Type 0
 Below n ps = (q : ℕ) → elem q ps ≡ true → q < n
@@ -58,6 +59,10 @@ elem-at (p ∷ ps) (suc j) h = or-true-right (eqb (getD ps j 0) p) (elem (getD p
 
 pub not-elem-at : (ps : List ℕ) (p j : ℕ) → elem p ps ≡ false → j < length ps → getD ps j 0 ≡ p → ⊥
 not-elem-at ps p j h k e = true≢false (sym (rw e at (elem-at ps j k)) ∙ h)
+
+-- a place past n is none of those below it
+pub elem-past : (n : ℕ) (ps : List ℕ) (q : ℕ) → Below n ps → n ≤ q → elem q ps ≡ false
+elem-past n ps q b h = refuted (elem q ps) (λ m. omega (arith, b q m))
 
 -- the product with a vector that is 0 off the list
 pub dot-places : (n : ℕ) (ps : List ℕ) (u v : Vector) → Distinct ps → Below n ps → ((q : ℕ) → q < n → elem q ps ≡ false → v q ≡ t0)

@@ -5,8 +5,8 @@ use Prim.Native.Nat.{ℕ, _+_, _-_, _<_}
 use native.Mathlib.Omega.{arith}
 use lib.ListN.{length, getD, length-drop}
 use lib.Seq.{length-take-le}
-use Rattle.trits.specs.Trit.{isSet, nonZero, upTo}
-use Rattle.trits.proofs.Counts.{sum-cong}
+use Rattle.trits.specs.Trit.{isSet, upTo}
+use Rattle.trits.proofs.Counts.{weight-same}
 use Rattle.trits.proofs.Ends.{upto-in}
 use Rattle.matrix.specs.Linear.{Vector, zeros, times, solve, orZeros, without, fill}
 use Rattle.matrix.proofs.Greedy.{pivots-elem}
@@ -107,7 +107,7 @@ module _ (z : Sizes) (s : Secret) (p : List ℕ) (y e : Vector) (ra : Ranges z) 
       passes-released z s p y (cut z ch) (record {
         fullV = passes .fullV;
         fullU = passes .fullU;
-        weighs = sum-cong (places z) (λ i. nonZero (drawn z s p y (cut z ch) i)) (λ i. nonZero (drawn z s p y ch i)) (λ i l. ap nonZero (same i)) ∙ passes .weighs;
+        weighs = weight-same (places z) (drawn z s p y (cut z ch)) (drawn z s p y ch) (λ i l. same i) ∙ passes .weighs;
       })
 
   pub cut-word : (i : ℕ) → i < places z → drawn z s p y (cut z (re .choices)) i ≡ e i

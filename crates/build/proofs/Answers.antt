@@ -8,12 +8,13 @@ use lib.Dec.{eqb, lit<}
 use lib.ListN.{length}
 use Rattle.trits.specs.Planes.{zeroWords}
 use Rattle.trits.specs.Refusal.{demand, first, spaceExit}
-use Rattle.trits.proofs.Refusals.{passed-first, passed-demand, space-zero, Clears, first-all, demand-all}
+use Rattle.trits.proofs.Refusals.{passed-first, passed-demand, first-all, demand-all, left-cleared, clears-demand, clears-none}
 use Rattle.trits.proofs.Tests.{or-false-both}
 use Rattle.matrix.specs.Orders.{Order, isOrder}
 use Rattle.matrix.proofs.Orders.{order-test}
+use Rattle.matrix.specs.Linear.{rank, range}
 use Rattle.scheme.specs.declared.sizes.Sizes.{Sizes}
-use Rattle.scheme.specs.Sizes.{places, dim, sizesFit}
+use Rattle.scheme.specs.Sizes.{places, dim, sizesFit, half, ru, rv}
 use Rattle.scheme.specs.Secret.{Secret}
 use Rattle.scheme.specs.Build.{buildRefusal}
 use Rattle.calls.specs.Lent.{secretOf, pairDiffers, secretRefusal}
@@ -69,7 +70,9 @@ contents-le z i = first-all Low _ _ (secret-low z (i .secret)) (demand-all Low (
 
 pub work-ended : (z : Sizes) (s : Secret) (w : List ℕ) → zeroWords (length w) ≡ spaceExit (buildRefusal z s) w
 unfolding buildRefusal
-work-ended z s w = space-zero w refl (demand-all Clears _ 9 _ refl (demand-all Clears _ 10 0 refl refl))
+work-ended z s w =
+    left-cleared w (clears-demand (eqb (rank (ru z) (half z) (s .hu) (range (half z))) (ru z)) 9 _ refl
+    (clears-demand (eqb (rank (rv z) (half z) (s .hv) (range (half z))) (rv z)) 10 0 refl clears-none))
 
 -- ---- lengths that do not differ
 

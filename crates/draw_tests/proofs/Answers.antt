@@ -11,16 +11,17 @@ use lib.Dec.{eqb, lit<}
 use lib.ListN.{length, getD}
 use Rattle.trits.specs.Planes.{wordsFor, tritAt, zeroWords}
 use Rattle.trits.specs.Refusal.{demand, first, spaceExit, planesRefusal}
-use Rattle.trits.proofs.Refusals.{passed-first, passed-refuse, passed-demand, space-zero, Clears, first-all, demand-all, refuse-all, planes-row}
+use Rattle.trits.proofs.Refusals.{passed-first, passed-refuse, passed-demand, first-all, demand-all, refuse-all, planes-row, left-cleared, clears-demand, clears-none}
 use Rattle.trits.proofs.Tests.{or-false-both}
-use Rattle.matrix.specs.Linear.{Vector}
+use Rattle.trits.specs.Trit.{weightV}
+use Rattle.matrix.specs.Linear.{Vector, rank}
 use Rattle.matrix.specs.Orders.{isOrder}
 use Rattle.matrix.proofs.Field.{not-false}
 use Rattle.matrix.proofs.Orders.{order-test}
 use Rattle.scheme.specs.declared.sizes.Sizes.{Sizes}
-use Rattle.scheme.specs.Sizes.{half, places, dim, codim, gapU, sizesFit}
+use Rattle.scheme.specs.Sizes.{half, places, dim, codim, gapU, sizesFit, ru, rv}
 use Rattle.scheme.specs.Secret.{Secret, hasZero}
-use Rattle.scheme.specs.Draw.{Choices, drawRefusal}
+use Rattle.scheme.specs.Draw.{Choices, drawRefusal, firstV, firstU, drawn}
 use Rattle.scheme.proofs.Zeros.{noZero-of}
 use Rattle.calls.specs.Lent.{pairDiffers, secretRefusal, Readable}
 use Rattle.calls.specs.DrawCall.{DrawCall, drawWorkWords, choicesDiffer, drawLengthsDiffer, choicesRefusal, drawAnswer}
@@ -88,7 +89,10 @@ contents-le z i =
 
 pub work-ended : (z : Sizes) (s : Secret) (p : List ℕ) (y : Vector) (ch : Choices) (w : List ℕ) → zeroWords (length w) ≡ spaceExit (drawRefusal z s p y ch) w
 unfolding drawRefusal
-work-ended z s p y ch w = space-zero w refl (demand-all Clears _ 12 _ refl (demand-all Clears _ 13 _ refl (demand-all Clears _ 14 0 refl refl)))
+work-ended z s p y ch w =
+    left-cleared w (clears-demand (eqb (rank (rv z) (half z) (s .hv) (firstV z ch)) (rv z)) 12 _ refl
+    (clears-demand (eqb (rank (ru z) (half z) (s .hu) (firstU z ch)) (ru z)) 13 _ refl
+    (clears-demand (eqb (weightV (drawn z s p y ch) (places z)) (z .w)) 14 0 refl clears-none)))
 
 -- ---- lengths that do not differ
 

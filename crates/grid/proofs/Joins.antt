@@ -98,27 +98,15 @@ pub record Joining (F G : ℕ → ℕ → ℕ → ℕ → ℕ) (w i j : ℕ) (o�
   pub ones : Patched (wordsAt F o₀ t₀ (drop (j * w) o₀) (drop (j * w) t₀) (i * w)) (i * w) k o₀ o
   pub twos : Patched (wordsAt G o₀ t₀ (drop (j * w) o₀) (drop (j * w) t₀) (i * w)) (i * w) k t₀ t
 
-module _ {F G : ℕ → ℕ → ℕ → ℕ → ℕ} {o₀ t₀ : List ℕ} {r w i j : ℕ} (g : Rows o₀ t₀ r w) where
-  pub joining-none : i < r → j < r → Joining F G w i j o₀ t₀ 0 o₀ t₀
-  joining-none h l = record {
-    within = omega arith;
-    own = omega (arith, row-le w h, g .size);
-    source = omega (arith, row-le w l, g .size);
-    same = g .row .same;
-    ones = patch-none _ _ _;
-    twos = patch-none _ _ _;
-  }
-
-  -- every word is made: the matrix has the trits' operation in row i
-  pub joining-done : {op : Trit → Trit → Trit} {k : ℕ} {o t : List ℕ} → WordOp F G op → op t0 t0 ≡ t0 → Joining F G w i j o₀ t₀ k o t → k ≡ w
-      → Grid o t r w (joinRow op i j (matrixAt w o₀ t₀))
-  joining-done {op} {k} {o} {t} x z s e =
-      row-op g op (tritAt (drop (j * w) o₀) (drop (j * w) t₀)) i (joinRow op i j (matrixAt w o₀ t₀))
-      (subst (λ (n : ℕ). Reads o t (length o₀) (zipAt op (tritAt o₀ t₀) (tritAt (drop (j * w) o₀) (drop (j * w) t₀)) (i * w) n)) e
-      (stretch-reads x (g .row .apart) (drop-apart (j * w) (g .row .apart)) (s .ones) (s .twos) (s .same)))
-      (λ n q d l. ap (op (matrixAt w o₀ t₀ n q)) (drop-trit o₀ t₀ (j * w) q ∙ sym (cell w o₀ t₀ j q l)) ∙ rw (eq-eqb n i d))
-      (λ n q f. rw (ne-eqb n i f))
-      (λ n q d l. rw (eq-eqb n i d, cell-past w o₀ t₀ n q l, cell-past w o₀ t₀ j q l) (sym z))
+pub joining-none : {F G : ℕ → ℕ → ℕ → ℕ → ℕ} {o t : List ℕ} {r w i j : ℕ} → Rows o t r w → i < r → j < r → Joining F G w i j o t 0 o t
+joining-none {w = w} g h l = record {
+  within = omega arith;
+  own = omega (arith, row-le w h, g .size);
+  source = omega (arith, row-le w l, g .size);
+  same = g .row .same;
+  ones = patch-none _ _ _;
+  twos = patch-none _ _ _;
+}
 
 -- a turn: x and y are what the masks make of the words that are there
 pub joining-more : {F G : ℕ → ℕ → ℕ → ℕ → ℕ} {w i j : ℕ} {o₀ t₀ : List ℕ} {k : ℕ} {o t : List ℕ} {x y : ℕ} → Joining F G w i j o₀ t₀ k o t
@@ -138,6 +126,19 @@ joining-more {w = w} {i} {j} {k = k} s ne h e f =
       ones = patch-more (s .ones) _ _ refl (omega arith) (e ∙ rw (a, b, c, d));
       twos = patch-more (s .twos) _ _ refl (omega arith) (f ∙ rw (a, b, c, d));
     }
+
+-- where it ends the matrix has the trits' operation in row i
+module _ {F G : ℕ → ℕ → ℕ → ℕ → ℕ} {op : Trit → Trit → Trit} (x : WordOp F G op) (z : op t0 t0 ≡ t0) {o₀ t₀ o t : List ℕ} {r : ℕ} (w i j : ℕ) {k : ℕ}
+    (g : Rows o₀ t₀ r w) (po : Patched (wordsAt F o₀ t₀ (drop (j * w) o₀) (drop (j * w) t₀) (i * w)) (i * w) k o₀ o)
+    (pt : Patched (wordsAt G o₀ t₀ (drop (j * w) o₀) (drop (j * w) t₀) (i * w)) (i * w) k t₀ t) where
+  pub joined-grid : k ≡ w → Grid o t r w (joinRow op i j (matrixAt w o₀ t₀))
+  joined-grid e =
+      row-op g op (tritAt (drop (j * w) o₀) (drop (j * w) t₀)) i (joinRow op i j (matrixAt w o₀ t₀))
+      (subst (λ (n : ℕ). Reads o t (length o₀) (zipAt op (tritAt o₀ t₀) (tritAt (drop (j * w) o₀) (drop (j * w) t₀)) (i * w) n)) e
+      (stretch-reads x (g .row .apart) (drop-apart (j * w) (g .row .apart)) po pt (g .row .same)))
+      (λ n q d l. ap (op (matrixAt w o₀ t₀ n q)) (drop-trit o₀ t₀ (j * w) q ∙ sym (cell w o₀ t₀ j q l)) ∙ rw (eq-eqb n i d))
+      (λ n q f. rw (ne-eqb n i f))
+      (λ n q d l. rw (eq-eqb n i d, cell-past w o₀ t₀ n q l, cell-past w o₀ t₀ j q l) (sym z))
 
 -- ---- row i is negated
 

@@ -163,6 +163,15 @@ leaves-planes ones twos rows m = planes-all Leaves ones twos rows m (record { st
 pub left-kept : (plane : List ℕ) {r k : ℕ} → k ≡ r → 0 < k → Leaves r → plane ≡ spaceExit r plane
 left-kept plane {r} e l h = space-kept plane {k = r} refl (h .stays (λ z. omega arith))
 
--- refusals after which it is zero
-abbrev pub Clears : ℕ → Type 0
-Clears r = spaceStays r ≡ false
+-- a chain of tests after whose every end it is zero
+pub record Clears (r : ℕ) : Type 0 where
+  pub cleared : spaceStays r ≡ false
+
+pub clears-none : Clears 0
+clears-none = record { cleared = refl }
+
+pub clears-demand : (t : Bool) (k x : ℕ) → spaceStays k ≡ false → Clears x → Clears (demand t k x)
+clears-demand t k x h g = demand-all Clears t k x (record { cleared = h }) g
+
+pub left-cleared : (plane : List ℕ) {r : ℕ} → Clears r → zeroWords (length plane) ≡ spaceExit r plane
+left-cleared plane {r} h = space-zero plane {k = r} refl (h .cleared)

@@ -5,7 +5,7 @@ use mathlib.Core.Path.{refl}
 use native.Mathlib.Omega.{arith}
 use Rattle.trits.proofs.Matrix.{row-le}
 use Rattle.trits.proofs.WordOps.{addOnes, addTwos, add-op}
-use Rattle.grid.proofs.Joins.{Joining, joining-none, joining-more, joining-done}
+use Rattle.grid.proofs.Joins.{Joining, joining-none, joining-more, joined-grid}
 use Rattle.grid.proofs.two_rows.add_rows.Statement.{statement}
 use Rattle.grid.proofs.two_rows.add_rows.Tie as tie
 
@@ -30,7 +30,10 @@ loop-again c =
     joining-more (s .loop .inv) (s .before .pre .1 .2) (omega arith) refl refl
 
 returns : tie.Need-returns Inv-loop μ-loop
-returns c = joining-done (c .before .before .pre .0) add-op refl (c .before .loop .inv) (omega arith)
+returns c =
+    let s = c .before .before in
+    let l = c .before .loop in
+    joined-grid add-op refl (s .args .w) (s .args .i) (s .args .j) (s .pre .0) (l .inv .ones) (l .inv .twos) (omega arith)
 
 pub add-rows-spec : {M : Type 1} → statement M
 add-rows-spec =

@@ -4,7 +4,7 @@ use Prim.Native.Nat.{_-_}
 use mathlib.Core.Path.{refl}
 use native.Mathlib.Omega.{arith}
 use Rattle.trits.proofs.Matrix.{row-le}
-use Rattle.grid.proofs.Joins.{Joining, joining-none, joining-more, joining-done, subOnes, subTwos, sub-op}
+use Rattle.grid.proofs.Joins.{Joining, joining-none, joining-more, joined-grid, subOnes, subTwos, sub-op}
 use Rattle.grid.proofs.two_rows.sub_rows.Statement.{statement}
 use Rattle.grid.proofs.two_rows.sub_rows.Tie as tie
 
@@ -29,7 +29,10 @@ loop-again c =
     joining-more (s .loop .inv) (s .before .pre .1 .2) (omega arith) refl refl
 
 returns : tie.Need-returns Inv-loop μ-loop
-returns c = joining-done (c .before .before .pre .0) sub-op refl (c .before .loop .inv) (omega arith)
+returns c =
+    let s = c .before .before in
+    let l = c .before .loop in
+    joined-grid sub-op refl (s .args .w) (s .args .i) (s .args .j) (s .pre .0) (l .inv .ones) (l .inv .twos) (omega arith)
 
 pub sub-rows-spec : {M : Type 1} → statement M
 sub-rows-spec =

@@ -8,18 +8,19 @@ use lib.Dec.{eqb, lit<}
 use lib.ListN.{length}
 use Rattle.trits.specs.Planes.{zeroWords}
 use Rattle.trits.specs.Refusal.{demand, first, spaceExit}
-use Rattle.trits.proofs.Refusals.{passed-first, passed-demand, space-zero}
-use Rattle.matrix.specs.Linear.{rank, range}
+use Rattle.trits.proofs.Refusals.{passed-first, passed-demand, first-all, demand-all, left-cleared, clears-demand, clears-none}
+use Rattle.trits.proofs.Tests.{or-false-both}
 use Rattle.matrix.specs.Orders.{Order, isOrder}
 use Rattle.matrix.proofs.Orders.{order-test}
+use Rattle.matrix.specs.Linear.{rank, range}
 use Rattle.scheme.specs.declared.sizes.Sizes.{Sizes}
-use Rattle.scheme.specs.Sizes.{half, places, dim, ru, rv, sizesFit}
+use Rattle.scheme.specs.Sizes.{places, dim, sizesFit, half, ru, rv}
 use Rattle.scheme.specs.Secret.{Secret}
 use Rattle.scheme.specs.Build.{buildRefusal}
-use Rattle.calls.specs.Lent.{secretOf, pairDiffers, secretDiffers, secretRefusal}
+use Rattle.calls.specs.Lent.{secretOf, pairDiffers, secretRefusal}
 use Rattle.calls.specs.BuildCall.{BuildCall, keyRowWords, buildWorkWords, keyDiffers, buildLengthsDiffer, buildAnswer}
-use Rattle.calls.proofs.Exits.{first-le}
-use Rattle.calls.proofs.Secrets.{or-none, pair-same, SecretLengths, secret-same, secret-le}
+use Rattle.calls.proofs.Exits.{Low}
+use Rattle.calls.proofs.Secrets.{pair-same, differs, Lengths, secret-lengths, secret-low}
 
 -- ---- the answer
 
@@ -63,22 +64,15 @@ module _ (z : Sizes) (i : BuildCall) where
           by t u x y = rw (u, y)
 
 pub contents-le : (z : Sizes) (i : BuildCall) → contents z i ≤ 8
-contents-le z i = first-le _ _ (secret-le z (i .secret)) (by (isOrder (places z) (i .start)))
-  where
-    by : (t : Bool) → demand t 7 0 ≤ 8
-    by true = omega arith
-    by false = omega arith
+contents-le z i = first-all Low _ _ (secret-low z (i .secret)) (demand-all Low (isOrder (places z) (i .start)) 7 0 (omega arith) (omega arith))
 
 -- ---- the working space
 
 pub work-ended : (z : Sizes) (s : Secret) (w : List ℕ) → zeroWords (length w) ≡ spaceExit (buildRefusal z s) w
 unfolding buildRefusal
-work-ended z s w = by (eqb (rank (ru z) (half z) (s .hu) (range (half z))) (ru z)) (eqb (rank (rv z) (half z) (s .hv) (range (half z))) (rv z))
-  where
-    by : (a b : Bool) → zeroWords (length w) ≡ spaceExit (demand a 9 (demand b 10 0)) w
-    by true true = space-zero w {k = 0} refl refl
-    by true false = space-zero w {k = 10} refl refl
-    by false b = space-zero w {k = 9} refl refl
+work-ended z s w =
+    left-cleared w (clears-demand (eqb (rank (ru z) (half z) (s .hu) (range (half z))) (ru z)) 9 _ refl
+    (clears-demand (eqb (rank (rv z) (half z) (s .hv) (range (half z))) (rv z)) 10 0 refl clears-none))
 
 -- ---- lengths that do not differ
 
@@ -93,8 +87,8 @@ pub record KeyLengths (z : Sizes) (i j k l m n : ℕ) : Type 0 where
 key-same : (z : Sizes) (s p k1 k2 w1 w2 : ℕ) → keyDiffers z s p k1 k2 w1 w2 ≡ false → KeyLengths z s p k1 k2 w1 w2
 unfolding keyDiffers
 key-same z s p k1 k2 w1 w2 e =
-    let E = or-none (pairDiffers (places z) s p) _ e in
-    let F = or-none (pairDiffers (dim z * keyRowWords z) k1 k2) _ (E .1) in
+    let E = or-false-both (pairDiffers (places z) s p) _ e in
+    let F = or-false-both (pairDiffers (dim z * keyRowWords z) k1 k2) _ (E .1) in
     let o = pair-same _ s p (E .0) in
     let k = pair-same _ k1 k2 (F .0) in
     let w = pair-same _ w1 w2 (F .1) in
@@ -102,23 +96,20 @@ key-same z s p k1 k2 w1 w2 e =
 
 module _ (z : Sizes) (i : BuildCall) {t : Bool} where
   -- the lengths one after another are those of the record
-  pub same-lengths : (secretDiffers z (length (i .secret .hu .ones)) (length (i .secret .hu .twos)) (length (i .secret .hv .ones)) (length (i .secret .hv .twos)) (length (i .secret .b .ones)) (length (i .secret .b .twos))
-      (length (i .secret .c .ones)) (length (i .secret .c .twos)) || keyDiffers z (length (i .start)) (length (i .p)) (length (i .key .ones)) (length (i .key .twos)) (length (i .work .ones)) (length (i .work .twos))) ≡ t
+  pub same-lengths : (differs z (i .secret)
+      || keyDiffers z (length (i .start)) (length (i .p)) (length (i .key .ones)) (length (i .key .twos)) (length (i .work .ones)) (length (i .work .twos))) ≡ t
       → buildLengthsDiffer z i ≡ t
   unfolding buildLengthsDiffer
   same-lengths e = e
 
 module _ (z : Sizes) (i : BuildCall) (e : buildLengthsDiffer z i ≡ false) where
-  pub lengths-secret : SecretLengths z (length (i .secret .hu .ones)) (length (i .secret .hu .twos)) (length (i .secret .hv .ones)) (length (i .secret .hv .twos)) (length (i .secret .b .ones)) (length (i .secret .b .twos))
-      (length (i .secret .c .ones)) (length (i .secret .c .twos))
+  pub lengths-secret : Lengths z (i .secret)
   unfolding buildLengthsDiffer
-  lengths-secret = secret-same z _ _ _ _ _ _ _ _ (or-none
-      (secretDiffers z (length (i .secret .hu .ones)) (length (i .secret .hu .twos)) (length (i .secret .hv .ones)) (length (i .secret .hv .twos)) (length (i .secret .b .ones)) (length (i .secret .b .twos)) (length (i .secret .c .ones)) (length (i .secret .c .twos))) _ e .0)
+  lengths-secret = secret-lengths z (i .secret) _ e
 
   pub lengths-key : KeyLengths z (length (i .start)) (length (i .p)) (length (i .key .ones)) (length (i .key .twos)) (length (i .work .ones)) (length (i .work .twos))
   unfolding buildLengthsDiffer
-  lengths-key = key-same z _ _ _ _ _ _ (or-none
-      (secretDiffers z (length (i .secret .hu .ones)) (length (i .secret .hu .twos)) (length (i .secret .hv .ones)) (length (i .secret .hv .twos)) (length (i .secret .b .ones)) (length (i .secret .b .twos)) (length (i .secret .c .ones)) (length (i .secret .c .twos))) _ e .1)
+  lengths-key = key-same z _ _ _ _ _ _ (or-false-both (differs z (i .secret)) _ e .1)
 
 -- ---- contents that are not refused
 

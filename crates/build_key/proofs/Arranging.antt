@@ -3,7 +3,6 @@ use mathlib.Core.Path.{_≡_, refl, sym, ap, _∙_, subst}
 use mathlib.Core.Bool.{Bool, true, false, cond}
 use mathlib.Core.List.{List}
 use Prim.Native.Nat.{ℕ, zero, suc, _+_, _-_, _*_, _≤_, _<_}
-use native.Mathlib.Numerals.{add-one}
 use native.Mathlib.Decide.{decLt}
 use native.Mathlib.Omega.{arith}
 use borrow.Author.Tests.{lt-ltb, le-ltb}
@@ -17,7 +16,7 @@ use Rattle.matrix.proofs.Dimension.{Reaches}
 use Rattle.matrix.proofs.Places.{elem-at}
 use Rattle.matrix.proofs.Orders.{order-good}
 use Rattle.matrix.proofs.Rank.{full-reaches}
-use Rattle.matrix.proofs.Steps.{has-row, has-none, step-has, step-none}
+use Rattle.matrix.proofs.Steps.{has-row, has-none, step-has, step-none, pick-first, pick-second}
 use Rattle.grid.specs.Steps.{Rows, Grid}
 use Rattle.scheme.specs.Build.{swap, Arrangement, arranged}
 use Rattle.scheme_laws.proofs.Build.{State, begin, turned, taken, left, finished, swap-length}
@@ -145,16 +144,10 @@ arrange-done {r} {half} {hw} {w} {H} {start} {f} {j} {ones} {twos} {order} a h =
     let d = finished r (length start) H start f order (placedAt half hw w ones twos) (subst (λ (z : ℕ). State r (length start) H start f z order (placedAt half hw w ones twos)) e (a .state)) in
     (sym (ap (λ (a : Arrangement). a .order) (d .0)), record { entry = d .1 })
 
--- ---- a count or an order that one column changed, or left
-
-pub yes-count : {b : Bool} (n : ℕ) → b ≡ true → n + 1 ≡ cond b (suc n) n
-yes-count n e = rw e (add-one n)
-
-pub no-count : {b : Bool} (n : ℕ) → b ≡ false → n ≡ cond b (suc n) n
-no-count n e = rw e
+-- ---- an order that one column changed, or left
 
 pub yes-list : {b : Bool} {l : List ℕ} (x y : List ℕ) → b ≡ true → l ≡ x → l ≡ cond b x y
-yes-list x y e f = rw e f
+yes-list x y e f = f ∙ pick-first x y e
 
 pub no-list : {b : Bool} {l : List ℕ} (x y : List ℕ) → b ≡ false → l ≡ y → l ≡ cond b x y
-no-list x y e f = rw e f
+no-list x y e f = f ∙ pick-second x y e

@@ -6,13 +6,14 @@ use native.Mathlib.Nat.{suc-mul}
 use native.Mathlib.Numerals.{add-one}
 use native.Mathlib.Omega.{arith}
 use borrow.Rule.Slice.PartMut.{putMid}
-use lib.ListN.{length, getD, take, drop, length-append, drop-of-length-le}
+use lib.ListN.{length, getD, take, drop, drop-of-length-le}
 use lib.Seq.{drop-drop}
 use Rattle.trits.specs.Trit.{upTo}
 use Rattle.trits.specs.Planes.{onesOf, twosOf}
 use Rattle.trits.specs.Rows.{matrixAt, rowsOf}
 use Rattle.trits.proofs.Reading.{length-ones, length-twos}
 use Rattle.trits.proofs.Ends.{upto-same}
+use Rattle.trits.proofs.Matrix.{length-rows}
 use Rattle.matrix.specs.Linear.{Matrix, column}
 use Rattle.scheme.specs.Build.{rowOfR}
 use Rattle.build_matrix.specs.Steps.{colOf, placedAt}
@@ -21,11 +22,6 @@ use Rattle.build_key.specs.Steps.{Keyed, readDown, keyOnes, keyTwos}
 -- ---- rows of words, one after another
 
 module _ (f : ℕ → List ℕ) (w : ℕ) (s : (i : ℕ) → length (f i) ≡ w) where
-  length-rows : (k : ℕ) → length (rowsOf f k) ≡ k * w
-  unfolding rowsOf
-  length-rows zero = omega arith
-  length-rows (suc k) = length-append (rowsOf f k) (f k) ∙ omega (arith, length-rows k, s k, suc-mul k w)
-
   pub rows-none : (l : List ℕ) → l ≡ rowsOf f 0 ++ drop (0 * w) l
   unfolding rowsOf
   rows-none l = let z : 0 ≡ 0 * w = omega arith in ap (λ (n : ℕ). drop n l) z
@@ -34,8 +30,8 @@ module _ (f : ℕ → List ℕ) (w : ℕ) (s : (i : ℕ) → length (f i) ≡ w)
   unfolding rowsOf
   rows-more {k} {l} {ys} i l₀ e d y =
       let X = rowsOf f i in
-      let a : take (i * w) l ≡ X = ap (take (i * w)) e ∙ subst (λ (n : ℕ). take n (X ++ drop (i * w) l₀) ≡ X) (length-rows i) (take-front X (drop (i * w) l₀)) in
-      let b : drop (i * w) l ≡ drop (i * w) l₀ = ap (drop (i * w)) e ∙ subst (λ (n : ℕ). drop n (X ++ drop (i * w) l₀) ≡ drop (i * w) l₀) (length-rows i) (drop-front X (drop (i * w) l₀)) in
+      let a : take (i * w) l ≡ X = ap (take (i * w)) e ∙ subst (λ (n : ℕ). take n (X ++ drop (i * w) l₀) ≡ X) (length-rows f w s i) (take-front X (drop (i * w) l₀)) in
+      let b : drop (i * w) l ≡ drop (i * w) l₀ = ap (drop (i * w)) e ∙ subst (λ (n : ℕ). drop n (X ++ drop (i * w) l₀) ≡ drop (i * w) l₀) (length-rows f w s i) (drop-front X (drop (i * w) l₀)) in
       let c : i * w + k ≡ (i + 1) * w = omega (arith, d, suc-mul i w, ap (λ (n : ℕ). n * w) (add-one i)) in
       ap₂ (λ (x z : List ℕ). x ++ (ys ++ drop k z)) a b
       ∙ ap₂ (λ (x z : List ℕ). X ++ (x ++ z)) y (drop-drop k (i * w) l₀ ∙ ap (λ (n : ℕ). drop n l₀) c)

@@ -54,7 +54,7 @@ module _ {ho ht o t o₂ t₂ : List ℕ} {n : ℕ} (v : Vector) (e : o ≡ ho) 
 
 module _ (a : ℕ) (L R A : Matrix) where
   module _ (m j q : ℕ) where
-    halves-low : j < a + a → halvesIn a m L R A j q ≡ A j q
+    pub halves-low : j < a + a → halvesIn a m L R A j q ≡ A j q
     unfolding halvesIn
     halves-low h = ap (λ (s : Bool). cond (s && ltb j (a + m + (a + m))) (cond (eqb (j % 2) 0) (L (j / 2 - a) q) (R (j / 2 - a) q)) (A j q)) (lt-leb (a + a) j h)
 
@@ -82,9 +82,6 @@ module _ (a : ℕ) (L R A : Matrix) where
       halves-mid m (a + i + (a + i) + 1) q (omega arith) (omega arith)
       ∙ ap (λ (s : Bool). cond s (L ((a + i + (a + i) + 1) / 2 - a) q) (R ((a + i + (a + i) + 1) / 2 - a) q)) (ne-eqb ((a + i + (a + i) + 1) % 2) 0 (λ z. omega arith))
       ∙ ap (λ (n : ℕ). R n q) e
-
-  pub halves-before : (m j q : ℕ) → j < a + a → halvesIn a m L R A j q ≡ A j q
-  halves-before = halves-low
 
   pub halves-none : A ≡ halvesIn a 0 L R A
   halves-none = fun-ext (λ j. fun-ext (λ q. by j q (decLt j (a + a))))

@@ -17,7 +17,7 @@ use Rattle.scheme.specs.declared.sizes.Sizes.{Sizes}
 use Rattle.scheme.specs.Sizes.{half, ru, rv, codim}
 use Rattle.scheme.specs.Secret.{Secret, secretMatrix, join}
 use Rattle.build_matrix.specs.Steps.{colOf, placedAt, halvesIn, leftU, rightU, leftV}
-use Rattle.build_matrix.proofs.HalfRows.{halves-left, halves-right, halves-before, negative-past}
+use Rattle.build_matrix.proofs.HalfRows.{halves-left, halves-right, halves-low, negative-past}
 
 -- a matrix of r rows of two halves is one of twice as many rows
 pub rows-halved : {o t : List ℕ} {r hw : ℕ} → Rows o t r (hw + hw) → Rows o t (r + r) hw
@@ -79,7 +79,7 @@ module _ (z : Sizes) (hw : ℕ) {o t uo ut vo vt : List ℕ} (b c : Vector) (A :
   -- row i, left and right
   left : (i q : ℕ) → Dec (i < ru z) → Dec (i < codim z) → matrixAt hw o t (i + i) q ≡ cond (ltb i (ru z)) (LU i q) (LV (i - ru z) q)
   left i q (yes l) d =
-      at (i + i) q ∙ halves-before (ru z) LV HV U (rv z) (i + i) q (omega arith)
+      at (i + i) q ∙ halves-low (ru z) LV HV U (rv z) (i + i) q (omega arith)
       ∙ ap (λ (n : ℕ). U n q) (omega arith) ∙ halves-left 0 LU RU A (ru z) i q l ∙ ap (λ (s : Bool). cond s (LU i q) (LV (i - ru z) q)) (sym (lt-ltb i (ru z) l))
   left i q (no f) (yes d) =
       let e : i + i ≡ ru z + (i - ru z) + (ru z + (i - ru z)) = omega arith in
@@ -91,7 +91,7 @@ module _ (z : Sizes) (hw : ℕ) {o t uo ut vo vt : List ℕ} (b c : Vector) (A :
 
   right : (i q : ℕ) → Dec (i < ru z) → Dec (i < codim z) → matrixAt hw o t (i + i + 1) q ≡ cond (ltb i (ru z)) (RU i q) (HV (i - ru z) q)
   right i q (yes l) d =
-      at (i + i + 1) q ∙ halves-before (ru z) LV HV U (rv z) (i + i + 1) q (omega arith)
+      at (i + i + 1) q ∙ halves-low (ru z) LV HV U (rv z) (i + i + 1) q (omega arith)
       ∙ ap (λ (n : ℕ). U n q) (omega arith) ∙ halves-right 0 LU RU A (ru z) i q l ∙ ap (λ (s : Bool). cond s (RU i q) (HV (i - ru z) q)) (sym (lt-ltb i (ru z) l))
   right i q (no f) (yes d) =
       let e : i + i + 1 ≡ ru z + (i - ru z) + (ru z + (i - ru z)) + 1 = omega arith in

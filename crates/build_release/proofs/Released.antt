@@ -18,6 +18,7 @@ use Rattle.matrix.specs.Orders.{Order}
 use Rattle.matrix.proofs.Rank.{full-reaches}
 use Rattle.grid.specs.Steps.{Rows, Grid}
 use Rattle.grid.proofs.Cells.{grid-to}
+use Rattle.grid.proofs.RowParts.{copied-rows}
 use Rattle.scheme.specs.declared.sizes.Sizes.{Sizes}
 use Rattle.scheme.specs.Sizes.{half, places, dim, ru, rv, codim}
 use Rattle.scheme.specs.Secret.{Secret, secretMatrix}
@@ -31,7 +32,6 @@ use Rattle.build_key.proofs.Written.{rows-same, down-row}
 use Rattle.calls.specs.Lent.{Planes, halfWords, secretOf, Readable}
 use Rattle.calls.specs.BuildCall.{keyRowWords, buildWorkWords, keyOnesOf, keyTwosOf}
 use Rattle.calls.proofs.Bounds.{Bounds}
-use Rattle.build_ranks.proofs.Copies.{copied-rows}
 use Rattle.build_release.specs.Steps.{Filled}
 
 -- working planes of 0, as half-rows
@@ -65,23 +65,20 @@ same-ranks z s r e f = rw (e, f)
 
 module _ (z : Sizes) (s : Secret) (start : List ℕ) {o t p : List ℕ} (f : Filled z s o t) (e : p ≡ start) (n : length start ≡ places z) (ord : Order (places z) start)
     (full : rank (codim z) (places z) (secretMatrix z s) (range (places z)) ≡ codim z) where
-  size : length p ≡ places z
-  size = ap length e ∙ n
+  pub ready-size : length p ≡ places z
+  ready-size = ap length e ∙ n
 
   -- what the column rule asks
   pub ready-order : Order (length p) p
-  ready-order = subst₂ Order (sym size) (sym e) ord
-
-  pub ready-size : length p ≡ places z
-  ready-size = size
+  ready-order = subst₂ Order (sym ready-size) (sym e) ord
 
   pub ready-rank : rank (codim z) (length p) (placedAt (half z) (halfWords z) (halfWords z + halfWords z) o t) (range (length p)) ≡ codim z
-  ready-rank = ap₂ (λ (m : ℕ) (H : Matrix). rank (codim z) m H (range m)) size (f .cells) ∙ full
+  ready-rank = ap₂ (λ (m : ℕ) (H : Matrix). rank (codim z) m H (range m)) ready-size (f .cells) ∙ full
 
   module _ {q : List ℕ} (a : q ≡ arranged (codim z) (length p) (placedAt (half z) (halfWords z) (halfWords z + halfWords z) o t) p .order) where
     pub final-order : q ≡ keyOrder z s start
     final-order =
-        a ∙ ap₂ (λ (m : ℕ) (H : Matrix). arranged (codim z) m H p .order) size (f .cells)
+        a ∙ ap₂ (λ (m : ℕ) (H : Matrix). arranged (codim z) m H p .order) ready-size (f .cells)
         ∙ ap (λ (l : List ℕ). arranged (codim z) (places z) (secretMatrix z s) l .order) e
 
     pub final-good : Order (places z) q
@@ -95,7 +92,7 @@ module _ (z : Sizes) (s : Secret) (start : List ℕ) {o t p : List ℕ} (f : Fil
     module _ (o₂ t₂ : List ℕ) (k : Keyed (codim z) (length p) (placedAt (half z) (halfWords z) (halfWords z + halfWords z) o t) (placedAt (half z) (halfWords z) (halfWords z + halfWords z) o₂ t₂) q)
         (b : Bounds z) where
       keyed : Keyed (codim z) (places z) (secretMatrix z s) (placedAt (half z) (halfWords z) (halfWords z + halfWords z) o₂ t₂) q
-      keyed = subst₂ (λ (m : ℕ) (H : Matrix). Keyed (codim z) m H (placedAt (half z) (halfWords z) (halfWords z + halfWords z) o₂ t₂) q) size (f .cells) k
+      keyed = subst₂ (λ (m : ℕ) (H : Matrix). Keyed (codim z) m H (placedAt (half z) (halfWords z) (halfWords z + halfWords z) o₂ t₂) q) ready-size (f .cells) k
 
       row : (i : ℕ) → i < dim z → readDown (codim z) (half z) (halfWords z) (matrixAt (halfWords z + halfWords z) o₂ t₂) q i
           ≡ upTo (codim z) (rowOfR (codim z) (places z) (secretMatrix z s) (keyOrder z s start) i)

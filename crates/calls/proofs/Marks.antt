@@ -10,11 +10,12 @@ use borrow.Author.Tests.{eq-eqb, ne-eqb, lt-ltb, le-ltb}
 use lib.Dec.{eqb, ltb}
 use lib.ListN.{length, getD, set, take, replicate, getD-replicate, length-set}
 use lib.Seq.{take-suc, take-all, getD-set-same, getD-set-other}
-use Rattle.trits.specs.Trit.{Trit, t0, t1, t2, anyTo, isSet, number}
+use Rattle.trits.specs.Trit.{anyTo, isSet, number}
 use Rattle.trits.proofs.Tests.{any-cong, any-found, any-passed}
 use Rattle.matrix.specs.Linear.{Vector, elem}
 use Rattle.matrix.specs.Orders.{isOrder}
 use Rattle.matrix.proofs.Places.{elem-append}
+use Rattle.matrix.proofs.Field.{number-set, number-unset}
 use Rattle.calls.specs.Lent.{flag, Marked, markPlace, allSet}
 use Rattle.scheme.specs.Secret.{hasZero}
 
@@ -106,23 +107,13 @@ module _ (flags : List ℕ) (n i : ℕ) where
 abbrev pub isZero : Vector → ℕ → Bool
 isZero v i = not (isSet (v i))
 
-zero-of : (x : Trit) → number x ≡ 0 → not (isSet x) ≡ true
-zero-of t0 e = refl
-zero-of t1 e = absurd (omega arith)
-zero-of t2 e = absurd (omega arith)
-
-some-of : (x : Trit) → (number x ≡ 0 → ⊥) → not (isSet x) ≡ false
-some-of t0 f = absurd (f refl)
-some-of t1 f = refl
-some-of t2 f = refl
-
 module _ (v : Vector) (m i : ℕ) {x : ℕ} (r : x ≡ number (v i)) where
   pub zero-found : i < m → x ≡ 0 → true ≡ hasZero m v
   unfolding hasZero
-  zero-found h e = sym (any-found (isZero v) i m h (zero-of (v i) (sym r ∙ e)))
+  zero-found h e = sym (any-found (isZero v) i m h (ap not (number-unset (v i) (sym r ∙ e))))
 
   pub zero-passed : anyTo (isZero v) i ≡ false → (x ≡ 0 → ⊥) → anyTo (isZero v) (i + 1) ≡ false
-  zero-passed a f = any-passed (isZero v) i a (some-of (v i) (λ z. f (r ∙ z)))
+  zero-passed a f = any-passed (isZero v) i a (ap not (number-set (v i) (λ z. f (r ∙ z))))
 
 pub zero-none : (v : Vector) (m i : ℕ) → i ≡ m → anyTo (isZero v) i ≡ false → false ≡ hasZero m v
 unfolding hasZero

@@ -1,8 +1,7 @@
 -- The secret's lengths and contents: what tests that have passed show. Assumes nothing.
-use mathlib.Core.Path.{_≡_, refl, sym, ap, _∙_}
-use mathlib.Core.Bool.{Bool, true, false, not, _||_, true≢false}
-use mathlib.Core.List.{List}
-use Prim.Native.Nat.{ℕ, _+_, _*_, _≤_}
+use mathlib.Core.Path.{_≡_, sym, ap, _∙_}
+use mathlib.Core.Bool.{Bool, true, false, not, _||_}
+use Prim.Native.Nat.{ℕ, _+_, _*_}
 use native.Mathlib.Nat.{zero-add}
 use native.Mathlib.Omega.{arith}
 use borrow.Author.Tests.{eqb-true}
@@ -10,28 +9,24 @@ use mir.Syntax.{w64}
 use mir.Val.{Fits}
 use lib.Dec.{eqb}
 use lib.ListN.{length, getD}
-use Rattle.trits.specs.Planes.{Row, tritAt}
-use Rattle.trits.specs.Refusal.{refuse, planesRefusal}
-use Rattle.trits.proofs.Tests.{both-apart, any-cong}
-use Rattle.trits.proofs.Refusals.{first-stops, first-goes, passed-first, planes-passed}
+use Rattle.trits.specs.Planes.{tritAt}
+use Rattle.trits.specs.Refusal.{planesRefusal}
+use Rattle.trits.proofs.Tests.{any-cong, or-false-both}
+use Rattle.trits.proofs.Refusals.{first-stops, first-goes, passed-first, planes-row, first-all, refuse-all}
 use Rattle.matrix.specs.Linear.{Vector}
 use Rattle.matrix.proofs.Field.{not-false}
 use Rattle.scheme.specs.declared.sizes.Sizes.{Sizes}
 use Rattle.scheme.specs.Sizes.{half, ru, rv}
 use Rattle.calls.specs.Lent.{Planes, halfWords, pairDiffers, secretDiffers, secretRefusal, Readable}
 use Rattle.calls.proofs.Marks.{isZero}
-use Rattle.calls.proofs.Exits.{first-le, planes-le}
+use Rattle.calls.proofs.Exits.{Low, planes-low}
 use Rattle.scheme.specs.Secret.{hasZero}
 
 -- ---- lengths that do not differ
 
-pub or-none : (a b : Bool) → (a || b) ≡ false → (a ≡ false) × (b ≡ false)
-or-none true b e = absurd (true≢false e)
-or-none false b e = (refl, e)
-
 pub pair-same : (m o t : ℕ) → pairDiffers m o t ≡ false → (o ≡ m) × (t ≡ m)
 pair-same m o t e =
-    let a = or-none (not (eqb o m)) (not (eqb t m)) e in
+    let a = or-false-both (not (eqb o m)) (not (eqb t m)) e in
     (eqb-true o m (not-false (eqb o m) (a .0)), eqb-true t m (not-false (eqb t m) (a .1)))
 
 pub record SecretLengths (z : Sizes) (a b c d e f g h : ℕ) : Type 0 where
@@ -44,17 +39,32 @@ pub record SecretLengths (z : Sizes) (a b c d e f g h : ℕ) : Type 0 where
   pub c1 : g ≡ halfWords z
   pub c2 : h ≡ halfWords z
 
-pub secret-same : (z : Sizes) (hu1 hu2 hv1 hv2 b1 b2 c1 c2 : ℕ) → secretDiffers z hu1 hu2 hv1 hv2 b1 b2 c1 c2 ≡ false → SecretLengths z hu1 hu2 hv1 hv2 b1 b2 c1 c2
+secret-same : (z : Sizes) (hu1 hu2 hv1 hv2 b1 b2 c1 c2 : ℕ) → secretDiffers z hu1 hu2 hv1 hv2 b1 b2 c1 c2 ≡ false → SecretLengths z hu1 hu2 hv1 hv2 b1 b2 c1 c2
 unfolding secretDiffers
 secret-same z hu1 hu2 hv1 hv2 b1 b2 c1 c2 e =
-    let A = or-none (pairDiffers (ru z * halfWords z) hu1 hu2) _ e in
-    let B = or-none (pairDiffers (rv z * halfWords z) hv1 hv2) _ (A .1) in
-    let C = or-none (pairDiffers (halfWords z) b1 b2) _ (B .1) in
+    let A = or-false-both (pairDiffers (ru z * halfWords z) hu1 hu2) _ e in
+    let B = or-false-both (pairDiffers (rv z * halfWords z) hv1 hv2) _ (A .1) in
+    let C = or-false-both (pairDiffers (halfWords z) b1 b2) _ (B .1) in
     let u = pair-same _ hu1 hu2 (A .0) in
     let v = pair-same _ hv1 hv2 (B .0) in
     let b = pair-same _ b1 b2 (C .0) in
     let c = pair-same _ c1 c2 (C .1) in
     record { hu1 = u .0; hu2 = u .1; hv1 = v .0; hv2 = v .1; b1 = b .0; b2 = b .1; c1 = c .0; c2 = c .1 }
+
+-- the lengths of a secret's planes
+abbrev pub differs : Sizes → Planes → Bool
+differs z i =
+    secretDiffers z (length (i .hu .ones)) (length (i .hu .twos)) (length (i .hv .ones)) (length (i .hv .twos))
+    (length (i .b .ones)) (length (i .b .twos)) (length (i .c .ones)) (length (i .c .twos))
+
+abbrev pub Lengths : Sizes → Planes → Type 0
+Lengths z i =
+    SecretLengths z (length (i .hu .ones)) (length (i .hu .twos)) (length (i .hv .ones)) (length (i .hv .twos))
+    (length (i .b .ones)) (length (i .b .twos)) (length (i .c .ones)) (length (i .c .twos))
+
+-- of a call whose lengths do not differ, t being the others
+pub secret-lengths : (z : Sizes) (i : Planes) (t : Bool) → (differs z i || t) ≡ false → Lengths z i
+secret-lengths z i t e = secret-same z _ _ _ _ _ _ _ _ (or-false-both (differs z i) t e .0)
 
 -- ---- zeros, looked for from the first place on
 
@@ -80,14 +90,11 @@ module _ (z : Sizes) (i : Planes) where
   abbrev pub zeroInC : Bool
   zeroInC = hasZero (half z) (tritAt (i .c .ones) (i .c .twos))
 
-  pub secret-le : secretRefusal z i ≤ 8
+  pub secret-low : Low (secretRefusal z i)
   unfolding secretRefusal
-  secret-le =
-      first-le _ _ (planes-le _ _ _ _) (first-le _ _ (planes-le _ _ _ _) (first-le _ _ (planes-le _ _ _ _) (first-le _ _ (planes-le _ _ _ _) (by zeroInC))))
-    where
-      by : (t : Bool) → refuse t 8 0 ≤ 8
-      by true = omega arith
-      by false = omega arith
+  secret-low =
+      first-all Low _ _ (planes-low _ _ _ _) (first-all Low _ _ (planes-low _ _ _ _)
+      (first-all Low _ _ (planes-low _ _ _ _) (first-all Low _ _ (planes-low _ _ _ _) (refuse-all Low zeroInC 8 0 (omega arith) (omega arith)))))
 
 module _ (z : Sizes) (i : Planes) {x : ℕ} (a : x ≡ refusalHU z i) where
   pub secret-hu : (x ≡ 0 → ⊥) → x ≡ secretRefusal z i
@@ -120,12 +127,8 @@ module _ (z : Sizes) (i : Planes) {x : ℕ} (a : x ≡ refusalHU z i) where
 
 -- ---- contents that are not refused
 
-pub row-of : (o t : List ℕ) (r m : ℕ) {n : ℕ} → planesRefusal o t r m ≡ 0 → length o ≡ n → length t ≡ n → ((j : ℕ) → Fits w64 (getD o j 0)) → ((j : ℕ) → Fits w64 (getD t j 0)) → Row o t
-row-of o t r m e a b ho ht = record { same = b ∙ sym a; apart = both-apart ho ht (planes-passed o t r m e .0) }
-
 pub readable : (z : Sizes) (i : Planes)
-    → SecretLengths z (length (i .hu .ones)) (length (i .hu .twos)) (length (i .hv .ones)) (length (i .hv .twos)) (length (i .b .ones)) (length (i .b .twos)) (length (i .c .ones)) (length (i .c .twos))
-    → secretRefusal z i ≡ 0
+    → Lengths z i → secretRefusal z i ≡ 0
     → ((j : ℕ) → Fits w64 (getD (i .hu .ones) j 0)) → ((j : ℕ) → Fits w64 (getD (i .hu .twos) j 0)) → ((j : ℕ) → Fits w64 (getD (i .hv .ones) j 0)) → ((j : ℕ) → Fits w64 (getD (i .hv .twos) j 0))
     → ((j : ℕ) → Fits w64 (getD (i .b .ones) j 0)) → ((j : ℕ) → Fits w64 (getD (i .b .twos) j 0)) → ((j : ℕ) → Fits w64 (getD (i .c .ones) j 0)) → ((j : ℕ) → Fits w64 (getD (i .c .twos) j 0)) → Readable z i
 unfolding secretRefusal
@@ -135,10 +138,10 @@ readable z i l e f1 f2 f3 f4 f5 f6 f7 f8 =
     let C = passed-first (refusalB z i) _ (B .1) in
     let D = passed-first (refusalC z i) _ (C .1) in
     record {
-      hu = record { row = row-of _ _ (ru z) (half z) (A .0) (l .hu1) (l .hu2) f1 f2; size = l .hu1 };
-      hv = record { row = row-of _ _ (rv z) (half z) (B .0) (l .hv1) (l .hv2) f3 f4; size = l .hv1 };
-      b = row-of _ _ 1 (half z) (C .0) (l .b1) (l .b2) f5 f6;
-      c = row-of _ _ 1 (half z) (D .0) (l .c1) (l .c2) f7 f8;
+      hu = record { row = planes-row (ru z) (half z) (A .0) (l .hu2 ∙ sym (l .hu1)) f1 f2; size = l .hu1 };
+      hv = record { row = planes-row (rv z) (half z) (B .0) (l .hv2 ∙ sym (l .hv1)) f3 f4; size = l .hv1 };
+      b = planes-row 1 (half z) (C .0) (l .b2 ∙ sym (l .b1)) f5 f6;
+      c = planes-row 1 (half z) (D .0) (l .c2 ∙ sym (l .c1)) f7 f8;
       bSize = l .b1;
       cSize = l .c1;
     }

@@ -9,7 +9,7 @@ use lib.ListN.{length}
 use Rattle.trits.specs.Planes.{wordsFor, zeroWords}
 use Rattle.trits.specs.Refusal.{numberOf, spaceExit}
 use Rattle.trits.specs.declared.refusal.Refusal.{Refusal}
-use Rattle.trits.proofs.Refusals.{number-positive, space-kept, space-zero}
+use Rattle.trits.proofs.Refusals.{number-positive, space-zero}
 use Rattle.trits.proofs.Refusals.{Leaves, leaves-none, leaves-refuse, leaves-demand, leaves-first, leaves-planes}
 use Rattle.packed.specs.Packed.{bytesFor, badByte, packedRefusal}
 use Rattle.held_key.specs.declared.state.Held.{Held}
@@ -83,10 +83,6 @@ leaves-packed-check c =
     leaves-none))
     (leaves-first _ _ (leaves-planes (c .ones) (c .twos) (h .k) (rowTrits h))
     (leaves-first _ _ (leaves-refuse (badByte (c .y)) 5 0 refl leaves-none) (leaves-refuse (badByte (c .s)) 5 0 refl leaves-none))))
-
--- told by k
-pub left-kept : (plane : List ℕ) {r k : ℕ} → k ≡ r → 0 < k → Leaves r → plane ≡ spaceExit r plane
-left-kept plane {r} e l h = space-kept plane {k = r} refl (h .stays (λ z. omega arith))
 
 -- a plane that was zeroed after a check that passed
 pub left-zero : (plane : List ℕ) {p : List ℕ} {r n : ℕ} → r ≡ 0 → n ≡ length plane → p ≡ zeroWords n → p ≡ spaceExit r plane

@@ -1,15 +1,15 @@
 -- y - s·R-transposed, one row after the other, and the weight of the full word. Assumes nothing.
-use mathlib.Core.Path.{_≡_, refl, sym, ap, ap₂, _∙_, fun-ext}
+use mathlib.Core.Path.{_≡_, sym, ap, ap₂, _∙_, fun-ext}
 use mathlib.Core.List.{List}
-use Prim.Native.Nat.{ℕ, zero, suc, _+_, _-_, _≤_, _<_}
-use native.Mathlib.Nat.{le-refl}
+use Prim.Native.Nat.{ℕ, _+_, _-_, _≤_, _<_}
 use native.Mathlib.Numerals.{add-one}
 use native.Mathlib.Omega.{arith}
 use Rattle.trits.specs.Trit.{Trit, t0, t2, addT, subT, mulT, zipV, dotV, sumTo, weightV, nonZero, tritOf}
 use Rattle.trits.specs.Planes.{tritAt, Reads}
-use Rattle.trits.proofs.Arithmetic.{law1, law2, law3}
-use Rattle.trits.proofs.Counts.{sum-cong, sum-add}
+use Rattle.trits.proofs.Arithmetic.{law1, law2, law3, mul-zero}
+use Rattle.trits.proofs.Counts.{sum-add, weight-same}
 use Rattle.trits.proofs.Ends.{weight-ended}
+use Rattle.trits.proofs.Products.{dot-zero}
 use Rattle.verdict.specs.Verdict.{Key, timesKey, fullWord, fullWeight}
 use Rattle.verdict.proofs.FullWord.{full-low, full-high}
 
@@ -57,13 +57,6 @@ pub turn-weight : (s : ℕ → Trit) (i : ℕ) {a c : ℕ} (x : Trit) → x ≡ 
 unfolding sumTo
 turn-weight s i {a} {c} x e p q = ap₂ (λ (y z : ℕ). y + z) p (q ∙ ap nonZero e) ∙ ap (weightV s) (sym (add-one i))
 
--- a place where every row is 0
-dot-zero : (s r : ℕ → Trit) (k : ℕ) → ((i : ℕ) → i < k → r i ≡ t0) → dotV s r k ≡ t0
-unfolding dotV
-dot-zero s r zero z = refl
-dot-zero s r (suc k) z =
-    ap₂ addT (dot-zero s r k (λ i l. z i (omega arith))) (ap (mulT (s k)) (z k (le-refl (suc k))) ∙ law1 (λ x. mulT x t0) (λ x. t0) tt (s k))
-
 module _ (m k : ℕ) (R : Key) (y s : ℕ → Trit) where
   -- the weight of the first part's planes, with that of s, is the full word's
   pub full-weight : (places : ℕ) → m ≤ places → ((q : ℕ) → m ≤ q → y q ≡ t0) → ((i q : ℕ) → i < k → m ≤ q → R i q ≡ t0)
@@ -71,7 +64,7 @@ module _ (m k : ℕ) (R : Key) (y s : ℕ → Trit) where
   unfolding timesKey fullWeight
   full-weight places l yz rz =
       let v : ℕ → Trit = zipV subT y (timesKey k R s) in
-      let low : weightV v places ≡ weightV v m = weight-ended v m places l (λ q h. ap₂ subT (yz q h) (dot-zero s (λ j. R j q) k (λ j b. rz j q b h))) in
-      let head : weightV v m ≡ weightV (fullWord m k R y s) m = sum-cong m (λ i. nonZero (v i)) (λ i. nonZero (fullWord m k R y s i)) (λ i h. ap nonZero (sym (full-low m k R y s i h))) in
-      let last : weightV s k ≡ sumTo (λ i. nonZero (fullWord m k R y s (m + i))) k = sum-cong k (λ i. nonZero (s i)) (λ i. nonZero (fullWord m k R y s (m + i))) (λ i h. ap nonZero (sym (full-high m k R y s i))) in
+      let low : weightV v places ≡ weightV v m = weight-ended v m places l (λ q h. ap₂ subT (yz q h) (dot-zero k s (λ j. R j q) (λ j b. ap (mulT (s j)) (rz j q b h) ∙ mul-zero (s j)))) in
+      let head : weightV v m ≡ weightV (fullWord m k R y s) m = weight-same m v (fullWord m k R y s) (λ i h. sym (full-low m k R y s i h)) in
+      let last : weightV s k ≡ sumTo (λ i. nonZero (fullWord m k R y s (m + i))) k = weight-same k s (λ i. fullWord m k R y s (m + i)) (λ i h. sym (full-high m k R y s i)) in
       omega (arith, low, head, last, sum-add m k (λ i. nonZero (fullWord m k R y s i)))

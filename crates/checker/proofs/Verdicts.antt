@@ -12,7 +12,7 @@ use borrow.Author.Tests.{eq-eqb, ne-eqb}
 use Rattle.trits.specs.Trit.{Trit}
 use Rattle.trits.specs.Planes.{tritAt}
 use Rattle.trits.specs.Refusal.{planesRefusal}
-use Rattle.trits.proofs.Refusals.{first-goes, passed-first}
+use Rattle.trits.proofs.Refusals.{first-goes, passed-first, row-ended}
 use Rattle.trits.proofs.Ends.{upto-ended}
 use Rattle.packed.specs.Packed.{bytesFor, packedRow, packedBytes}
 use Rattle.packed.proofs.RoundTrip.{packed-length, packed-back, packed-good}
@@ -25,7 +25,6 @@ use Rattle.check_tests.specs.Check.{Check, checkRefusal, checkAnswer, PackedChe
 use Rattle.held_key.proofs.Sizes.{sizes}
 use Rattle.verdict.proofs.FullWord.{verifier, extends-once, yes-weight}
 use Rattle.check_tests.proofs.Passed.{Fitted, fitted, contents, check-passed}
-use Rattle.checker.proofs.Weighed.{row-ended}
 
 -- ---- yes
 

@@ -1,17 +1,13 @@
--- Planes that passed can be read, and what the working space and the rows taken weigh. Assumes nothing.
-use mathlib.Core.Path.{_≡_, sym, ap, ap₂, _∙_}
+-- What the working space and the rows taken weigh. Assumes nothing.
+use mathlib.Core.Path.{_≡_, ap, ap₂, _∙_}
 use mathlib.Core.List.{List}
 use Prim.Native.Nat.{ℕ, _+_, _*_, _≤_}
 use native.Mathlib.Omega.{arith}
-use lib.ListN.{length, getD}
-use mir.Val.{Fits}
-use mir.Syntax.{w64}
+use lib.ListN.{length}
 use Rattle.trits.specs.Trit.{Trit, t0, subT, zipV, weightV}
-use Rattle.trits.specs.Planes.{tritAt, wordsFor, Row, Reads}
+use Rattle.trits.specs.Planes.{tritAt, Reads}
 use Rattle.trits.specs.Refusal.{planesRefusal}
 use Rattle.trits.proofs.Refusals.{planes-passed}
-use Rattle.trits.proofs.Matrix.{one-row-past}
-use Rattle.trits.proofs.Tests.{both-apart, past-zero}
 use Rattle.trits.proofs.Counts.{weight-le}
 use Rattle.held_key.specs.declared.state.Held.{Held}
 use Rattle.verdict.specs.Verdict.{timesKey}
@@ -20,15 +16,6 @@ use Rattle.check_tests.specs.Check.{heldWeight}
 use Rattle.held_key.specs.Steps.{Whole}
 use Rattle.held_key.proofs.Stretch.{row-past}
 use Rattle.checker.proofs.Product.{full-weight}
-
--- planes that were not refused can be read
-pub readable : {ones twos : List ℕ} (rows m : ℕ) → planesRefusal ones twos rows m ≡ 0 → length twos ≡ length ones
-    → ((j : ℕ) → Fits w64 (getD ones j 0)) → ((j : ℕ) → Fits w64 (getD twos j 0)) → Row ones twos
-readable {ones} {twos} rows m e l f g = record { same = l; apart = both-apart f g (planes-passed ones twos rows m e .0) }
-
--- one row in planes that was not refused is 0 past its length
-pub row-ended : (ones twos : List ℕ) (m : ℕ) → planesRefusal ones twos 1 m ≡ 0 → length ones ≡ wordsFor m → length twos ≡ wordsFor m → (q : ℕ) → m ≤ q → tritAt ones twos q ≡ t0
-row-ended ones twos m e lo lt = past-zero ones twos m (lt ∙ sym lo) (sym (one-row-past ones twos m lo lt) ∙ planes-passed ones twos 1 m e .1)
 
 -- ---- the weight that the working space and the rows taken give
 

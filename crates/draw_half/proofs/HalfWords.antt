@@ -1,7 +1,7 @@
 -- The word of one half: what is supplied in row e, subtracted from row x, and solved for in the reduced matrix is the word of the definition. Assumes nothing.
 use mathlib.Core.Path.{_≡_, refl, sym, ap, ap₂, _∙_, subst, fun-ext}
 use mathlib.Core.Bool.{Bool, true, false, cond, true≢false}
-use mathlib.Core.Logic.{_⊎_, inl, inr, _≢_}
+use mathlib.Core.Logic.{_≢_}
 use mathlib.Core.List.{List}
 use Prim.Native.Nat.{ℕ, _+_, _-_, _≤_, _<_}
 use native.Mathlib.Omega.{arith}
@@ -10,18 +10,19 @@ use lib.Dec.{eqb}
 use lib.ListN.{length, getD, take, drop}
 use lib.Seq.{length-take-le, take-length}
 use Rattle.trits.specs.Trit.{t0, subT, dotV, upTo}
-use Rattle.trits.proofs.Ends.{upto-in, upto-out}
+use Rattle.trits.proofs.Ends.{upto-out}
 use Rattle.matrix.specs.Linear.{Vector, Matrix, zeros, times, elem, solve, orZeros, rank, without, fill}
 use Rattle.matrix.specs.Orders.{Order}
 use Rattle.matrix.specs.Steps.{eliminated}
-use Rattle.matrix.proofs.Dots.{dot-right, dot-past}
-use Rattle.matrix.proofs.Places.{Below, fill-off}
-use Rattle.matrix.proofs.Greedy.{bool-cases, pivots-kept, pivots-elem}
+use Rattle.matrix.proofs.Dots.{dot-past, times-upto}
+use Rattle.matrix.proofs.Places.{Below, fill-off, fill-same, elem-past}
+use Rattle.matrix.proofs.Greedy.{pivots-kept, pivots-elem}
 use Rattle.matrix.proofs.Orders.{order-good}
-use Rattle.matrix.proofs.Counts.{without-out}
+use Rattle.matrix.proofs.Counts.{without-out, without-none}
 use Rattle.matrix.proofs.Kept.{eliminated-reduced}
 use Rattle.matrix.proofs.Values.{solve-by-rows}
 use Rattle.grid.specs.Steps.{putRow, joinRow}
+use Rattle.grid.proofs.RowParts.{put-here, put-else}
 use Rattle.scheme.specs.declared.sizes.Sizes.{Sizes}
 use Rattle.scheme.specs.Sizes.{half, ru, rv, gapU, gapV}
 use Rattle.scheme.specs.Secret.{Secret}
@@ -30,7 +31,7 @@ use Rattle.scheme_laws.proofs.Draws.{parts, first-below, last-in}
 use Rattle.draw_reduce.specs.Steps.{over, taken, passed}
 use Rattle.draw_reduce.proofs.Walked.{first-taken, first-passed, order-taken, order-passed, taken-cong, over-row, over-rest, passed-over}
 use Rattle.scheme.specs.Draw.{forcedBy}
-use Rattle.draw_walk.proofs.Supplied.{fill-same, walk-length, put-here, put-else, put-again}
+use Rattle.draw_walk.proofs.Supplied.{walk-length, put-again}
 use Rattle.draw_half.specs.Steps.{Ends, halfPivots, wordV, wordU, Solved, SolvedWhere}
 
 -- ---- the words are those of a draw
@@ -45,9 +46,6 @@ unfolding wordU drawU pivotsU suppliedU
 word-drawU z s x eV ch = refl
 
 -- the same of a row that holds the places below N alone
-times-upto : (n : ℕ) (H : Matrix) (x : Vector) → times n H (upTo n x) ≡ times n H x
-times-upto n H x = fun-ext (λ i. dot-right n (H i) (upTo n x) x (λ q h. upto-in x n q h))
-
 pub upto-ends : (n : ℕ) (x : Vector) → Ends n (upTo n x)
 upto-ends n x = record { past = λ q h. upto-out x n q h }
 
@@ -77,22 +75,12 @@ is-solved h = record { solved = λ z. h }
 
 -- ---- a word is 0 where nothing was put
 
-not-listed : (q : ℕ) (ps : List ℕ) → (elem q ps ≡ true → ⊥) → elem q ps ≡ false
-not-listed q ps f = by (bool-cases (elem q ps))
-  where
-    by : (elem q ps ≡ true) ⊎ (elem q ps ≡ false) → elem q ps ≡ false
-    by (inl m) = absurd (f m)
-    by (inr m) = m
-
 -- past the places listed, and at those that are left out
 fill-past : (n : ℕ) (ps : List ℕ) (v w : Vector) → Below n ps → Ends n w → Ends n (fill ps v w)
-fill-past n ps v w b e = record { past = λ q h. fill-off ps v w q (not-listed q ps (λ m. omega (arith, b q m))) ∙ e .past q h }
+fill-past n ps v w b e = record { past = λ q h. fill-off ps v w q (elem-past n ps q b h) ∙ e .past q h }
 
 zeros-end : (n : ℕ) → Ends n zeros
 zeros-end n = record { past = λ q h. refl }
-
-without-none : (qs ps : List ℕ) (q : ℕ) → elem q qs ≡ true → elem q (without qs ps) ≡ false
-without-none qs ps q m = not-listed q (without qs ps) (λ k. true≢false (sym m ∙ without-out qs ps q k .1))
 
 -- ---- row e is subtracted from row x
 
@@ -134,10 +122,10 @@ module _ (r g : ℕ) (H A : Matrix) (order : List ℕ) (o : Order (length order)
       less-x : less x ≡ (λ (q : ℕ). subT (A x q) (S q))
       less-x =
           sub-here x e xe (putRow e S reduced)
-          ∙ ap₂ {C = Vector} (λ (u v : Vector) (q : ℕ). subT (u q) (v q)) (put-else e S reduced x xe ∙ over-rest r (eliminated r H (take (r + g) order)) A x rx) (put-here e S reduced)
+          ∙ ap₂ {C = Vector} (λ (u v : Vector) (q : ℕ). subT (u q) (v q)) (put-else e S reduced x xe ∙ over-rest r (eliminated r H (take (r + g) order)) A x rx) (put-here e S reduced e refl)
 
       less-e : less e ≡ S
-      less-e = sub-else x e xe (putRow e S reduced) e (λ z. xe (sym z)) ∙ put-here e S reduced
+      less-e = sub-else x e xe (putRow e S reduced) e (λ z. xe (sym z)) ∙ put-here e S reduced e refl
 
       less-taken : taken r less 0 (take (r + g) order) ≡ piv
       less-taken = taken-cong r less (eliminated r H (take (r + g) order)) less-row (take (r + g) order) 0 ∙ first-taken r n H (r + g) order o
@@ -157,7 +145,7 @@ module _ (r g : ℕ) (H A : Matrix) (order : List ℕ) (o : Order (length order)
 
       half-solved : Solved r x e A solvedBy (orZeros (solve r n H (times n H (A x)) piv S))
       half-solved = record {
-        word = put-here e _ less ∙ word;
+        word = put-here e _ less e refl ∙ word;
         kept = λ k h kx ke. put-else e _ less k ke ∙ sub-else x e xe (putRow e S reduced) k kx ∙ put-else e S reduced k ke ∙ over-rest r (eliminated r H (take (r + g) order)) A k h;
       }
 
@@ -239,7 +227,7 @@ module _ (r g : ℕ) (H A : Matrix) (order : List ℕ) (o : Order (length order)
           ∙ fill-off (without piv (take (r + g) order)) u zeros q (without-none piv (take (r + g) order) q m)) l a
           (t
           ∙ ap (λ (M : Matrix). putRow e (fill lastPart (forces (M ev)) (M e)) M) two
-          ∙ ap₂ (λ (y z : Vector). putRow e (fill lastPart (forces y) z) (putRow e firstWord M₁)) (put-else e firstWord M₁ ev eve ∙ own-row a ev rev) (put-here e firstWord M₁)
+          ∙ ap₂ (λ (y z : Vector). putRow e (fill lastPart (forces y) z) (putRow e firstWord M₁)) (put-else e firstWord M₁ ev eve ∙ own-row a ev rev) (put-here e firstWord M₁ e refl)
           ∙ put-again e firstWord M₁ (fill lastPart (forces (A ev)) firstWord)) d f
         where
           two : M₂ ≡ putRow e firstWord M₁

@@ -1,7 +1,6 @@
 -- What the rows of a draw hold, by its definitions: the parted halves, the joined halves, their weight, and the word that is written. Assumes nothing.
 use mathlib.Core.Path.{_≡_, sym, ap, ap₂, _∙_, fun-ext}
-use mathlib.Core.Logic.{_⊎_, inl, inr, _≢_}
-use mathlib.Core.Bool.{true, false}
+use mathlib.Core.Logic.{_≢_}
 use mathlib.Core.List.{List}
 use Prim.Native.Nat.{ℕ, _+_, _≤_, _<_}
 use native.Mathlib.Nat.{zero-add}
@@ -9,14 +8,13 @@ use native.Mathlib.Decide.{decLt}
 use native.Mathlib.Omega.{arith}
 use lib.ListN.{length, getD}
 use Rattle.trits.specs.Trit.{Trit, t0, t1, addT, subT, mulT, zipV, upTo, weightV}
-use Rattle.trits.proofs.Arithmetic.{add-comm, mul-comm}
+use Rattle.trits.proofs.Arithmetic.{add-comm, mul-comm, mul-zero}
 use Rattle.trits.proofs.Ends.{upto-in, upto-out}
-use Rattle.matrix.specs.Linear.{Vector, Matrix, zeros, times, solve, orZeros, elem, without}
+use Rattle.matrix.specs.Linear.{Vector, Matrix, zeros, solve, orZeros, without}
 use Rattle.matrix.specs.Orders.{Order}
-use Rattle.matrix.proofs.Field.{law4, mul-zero}
-use Rattle.matrix.proofs.Dots.{dot-right}
-use Rattle.matrix.proofs.Places.{Below, fill-off}
-use Rattle.matrix.proofs.Greedy.{bool-cases}
+use Rattle.matrix.proofs.Field.{law4}
+use Rattle.matrix.proofs.Dots.{times-upto}
+use Rattle.matrix.proofs.Places.{fill-off, elem-past}
 use Rattle.matrix.proofs.Orders.{order-good}
 use Rattle.matrix.proofs.Counts.{without-out}
 use Rattle.scheme.specs.declared.sizes.Sizes.{Sizes}
@@ -95,41 +93,31 @@ joined-halves s u v t A eU eV f g h a b =
 
 -- ---- a draw looks at its halves below N alone
 
-times-half : (n : ℕ) (H : Matrix) (x : Vector) → times n H (upTo n x) ≡ times n H x
-times-half n H x = fun-ext (λ i. dot-right n (H i) (upTo n x) x (λ q h. upto-in x n q h))
-
 pub drawV-half : (z : Sizes) (s : Secret) (x : Vector) (ch : Choices) → drawV z s (upTo (half z) x) ch ≡ drawV z s x ch
 unfolding drawV
-drawV-half z s x ch = ap (λ (v : Vector). orZeros (solve (rv z) (half z) (s .hv) v (pivotsV z s ch) (suppliedV z s ch))) (times-half (half z) (s .hv) x)
+drawV-half z s x ch = ap (λ (v : Vector). orZeros (solve (rv z) (half z) (s .hv) v (pivotsV z s ch) (suppliedV z s ch))) (times-upto (half z) (s .hv) x)
 
 pub drawU-half : (z : Sizes) (s : Secret) (x eV : Vector) (ch : Choices) → drawU z s (upTo (half z) x) eV ch ≡ drawU z s x eV ch
 unfolding drawU
-drawU-half z s x eV ch = ap (λ (v : Vector). orZeros (solve (ru z) (half z) (s .hu) v (pivotsU z s ch) (suppliedU z s eV ch))) (times-half (half z) (s .hu) x)
+drawU-half z s x eV ch = ap (λ (v : Vector). orZeros (solve (ru z) (half z) (s .hu) v (pivotsU z s ch) (suppliedU z s eV ch))) (times-upto (half z) (s .hu) x)
 
 -- ---- and is 0 from N on
-
-not-in : (n : ℕ) (ps : List ℕ) (q : ℕ) → Below n ps → n ≤ q → elem q ps ≡ false
-not-in n ps q b h = by (bool-cases (elem q ps))
-  where
-    by : (elem q ps ≡ true) ⊎ (elem q ps ≡ false) → elem q ps ≡ false
-    by (inl m) = absurd (omega (arith, b q m))
-    by (inr m) = m
 
 module _ (z : Sizes) (s : Secret) (ch : Choices) (va : Valid z ch) where
   pub drawV-ends : length (pivotsV z s ch) ≡ rv z → (x : Vector) (q : ℕ) → half z ≤ q → drawV z s x ch q ≡ t0
   unfolding suppliedV
   drawV-ends full x q h =
-      drawV-good z s ch va full x .0 q (not-in (half z) (pivotsV z s ch) q (keptV z s ch va .below) h)
+      drawV-good z s ch va full x .0 q (elem-past (half z) (pivotsV z s ch) q (keptV z s ch va .below) h)
       ∙ fill-off (without (pivotsV z s ch) (ch .orderV)) (ch .tritsV) zeros q
-      (not-in (half z) (without (pivotsV z s ch) (ch .orderV)) q (λ n m. order-good (half z) (ch .orderV) (va .orderV) .1 n (without-out (pivotsV z s ch) (ch .orderV) n m .0)) h)
+      (elem-past (half z) (without (pivotsV z s ch) (ch .orderV)) q (λ n m. order-good (half z) (ch .orderV) (va .orderV) .1 n (without-out (pivotsV z s ch) (ch .orderV) n m .0)) h)
 
   pub drawU-ends : length (pivotsU z s ch) ≡ ru z → (x eV : Vector) (q : ℕ) → half z ≤ q → drawU z s x eV ch q ≡ t0
   unfolding suppliedU
   drawU-ends full x eV q h =
-      drawU-good z s ch va full x eV .0 q (not-in (half z) (pivotsU z s ch) q (keptU z s ch va .below) h)
-      ∙ fill-off (lastU z ch) (λ j. forced s eV (getD (lastU z ch) j 0) (ch .valuesU (gapU z + j))) _ q (not-in (half z) (lastU z ch) q (last-below z s ch va) h)
+      drawU-good z s ch va full x eV .0 q (elem-past (half z) (pivotsU z s ch) q (keptU z s ch va .below) h)
+      ∙ fill-off (lastU z ch) (λ j. forced s eV (getD (lastU z ch) j 0) (ch .valuesU (gapU z + j))) _ q (elem-past (half z) (lastU z ch) q (last-below z s ch va) h)
       ∙ fill-off (without (pivotsU z s ch) (firstU z ch)) (ch .valuesU) zeros q
-      (not-in (half z) (without (pivotsU z s ch) (firstU z ch)) q
+      (elem-past (half z) (without (pivotsU z s ch) (firstU z ch)) q
       (λ n m. first-below (half z) (ru z + gapU z) (ch .orderU) (va .orderU) n (without-out (pivotsU z s ch) (firstU z ch) n m .0)) h)
 
 -- the joined halves of vectors that are 0 from N on

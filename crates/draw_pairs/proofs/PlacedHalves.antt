@@ -15,9 +15,9 @@ use Rattle.trits.proofs.Ends.{upto-in, upto-out, upto-same, upto-ended}
 use Rattle.matrix.specs.Linear.{Vector, Matrix, zeros, elem}
 use Rattle.matrix.specs.Orders.{Order}
 use Rattle.matrix.proofs.Dots.{put-other}
-use Rattle.matrix.proofs.Places.{elem-at, fill-at, fill-off}
+use Rattle.matrix.proofs.Places.{fill-at, fill-off}
 use Rattle.matrix.proofs.Greedy.{bool-cases}
-use Rattle.matrix.proofs.Orders.{order-good, elem-index}
+use Rattle.matrix.proofs.Orders.{order-good, elem-index, place-below}
 use Rattle.grid.specs.Steps.{Rows, Grid, putRow, joinProduct}
 use Rattle.grid.proofs.Cells.{cell, grid-to}
 use Rattle.grid.proofs.RowParts.{put-here, put-else}
@@ -66,8 +66,8 @@ rows-alike u v A B a b c = fun-ext (λ k. by k (ℕ-discrete k u) (ℕ-discrete 
     by k (no f) (no g) = c k f g
 
 -- a trit put within the first N places
-upto-put : (N q : ℕ) (x : Vector) (y : Trit) → q < N → putV (upTo N x) q y ≡ upTo N (putV x q y)
-upto-put N q x y h = fun-ext (λ j. by j (ℕ-discrete j q) (decLt j N))
+put-upto : (N q : ℕ) (x : Vector) (y : Trit) → q < N → putV (upTo N x) q y ≡ upTo N (putV x q y)
+put-upto N q x y h = fun-ext (λ j. by j (ℕ-discrete j q) (decLt j N))
   where
     by : (j : ℕ) → Dec (j ≡ q) → Dec (j < N) → putV (upTo N x) q y j ≡ upTo N (putV x q y) j
     by j (yes e) d =
@@ -83,7 +83,7 @@ module _ (l N q : ℕ) (x : Vector) (y : Trit) (A : Matrix) where
   low : q < N → putRow l (putV (B l) q y) B ≡ placedRows l N (putV x q y) A
   low h =
       rows-alike l (l + 1) (putRow l (putV (B l) q y) B) (placedRows l N (putV x q y) A)
-      (put-here l (putV (B l) q y) B l refl ∙ ap (λ (v : Vector). putV v q y) (placed-left l N x A) ∙ upto-put N q x y h ∙ sym (placed-left l N (putV x q y) A))
+      (put-here l (putV (B l) q y) B l refl ∙ ap (λ (v : Vector). putV v q y) (placed-left l N x A) ∙ put-upto N q x y h ∙ sym (placed-left l N (putV x q y) A))
       (put-else l (putV (B l) q y) B (l + 1) (λ z. omega arith) ∙ placed-right l N x A
       ∙ upto-same N (λ j. x (N + j)) (λ j. putV x q y (N + j)) (λ j i. sym (put-other x q y (N + j) (λ z. omega arith))) ∙ sym (placed-right l N (putV x q y) A))
       (λ k f g. put-else l (putV (B l) q y) B k f ∙ placed-else l N x A k f g ∙ sym (placed-else l N (putV x q y) A k f g))
@@ -94,7 +94,7 @@ module _ (l N q : ℕ) (x : Vector) (y : Trit) (A : Matrix) where
       (put-else (l + 1) (putV (B (l + 1)) (q - N) y) B l (λ z. omega arith) ∙ placed-left l N x A
       ∙ upto-same N x (putV x q y) (λ j i. sym (put-other x q y j (λ z. omega arith))) ∙ sym (placed-left l N (putV x q y) A))
       (put-here (l + 1) (putV (B (l + 1)) (q - N) y) B (l + 1) refl ∙ ap (λ (v : Vector). putV v (q - N) y) (placed-right l N x A)
-      ∙ upto-put N (q - N) (λ j. x (N + j)) y (omega arith) ∙ ap (upTo N) (fun-ext (λ j. shifted j (ℕ-discrete j (q - N)))) ∙ sym (placed-right l N (putV x q y) A))
+      ∙ put-upto N (q - N) (λ j. x (N + j)) y (omega arith) ∙ ap (upTo N) (fun-ext (λ j. shifted j (ℕ-discrete j (q - N)))) ∙ sym (placed-right l N (putV x q y) A))
       (λ k f g. put-else (l + 1) (putV (B (l + 1)) (q - N) y) B k g ∙ placed-else l N x A k f g ∙ sym (placed-else l N (putV x q y) A k f g))
     where
       shifted : (j : ℕ) → Dec (j ≡ q - N) → putV (λ j. x (N + j)) (q - N) y j ≡ putV x q y (N + j)
@@ -114,7 +114,7 @@ module _ (l N q : ℕ) (x : Vector) (y : Trit) (A : Matrix) where
 -- ---- the first i trits of y at the places of an order
 
 pub order-below : (n : ℕ) (p : List ℕ) → Order n p → (i : ℕ) → i < n → getD p i 0 < n
-order-below n p o i h = order-good n p o .1 (getD p i 0) (elem-at p i (omega (arith, o .size)))
+order-below n p o i h = place-below p n i o (omega (arith, o .size))
 
 -- 0 past a start
 past-start : (i : ℕ) (y : Vector) (j : ℕ) → i ≤ j → join i y zeros j ≡ t0

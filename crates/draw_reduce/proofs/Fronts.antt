@@ -1,5 +1,5 @@
 -- The first rows of a grid, lent as planes of their own, and the places of an order tried one after another. Assumes nothing.
-use mathlib.Core.Path.{_≡_, refl, sym, ap, ap₂, _∙_, subst, subst₂}
+use mathlib.Core.Path.{_≡_, refl, sym, ap, ap₂, _∙_, subst}
 use mathlib.Core.List.{List, [], _∷_, _++_}
 use Prim.Native.Nat.{ℕ, _+_, _*_, _≤_, _<_}
 use native.Mathlib.Nat.{mul-le-mul-right}
@@ -16,9 +16,6 @@ use Rattle.trits.proofs.Patches.{zip-at, zip-above}
 use Rattle.trits.proofs.Parts.{part-back}
 use Rattle.trits.proofs.Matrix.{row-le}
 use Rattle.matrix.specs.Linear.{Matrix}
-use Rattle.matrix.specs.Orders.{Order}
-use Rattle.matrix.proofs.Places.{elem-at}
-use Rattle.matrix.proofs.Orders.{order-good}
 use Rattle.matrix.proofs.Counts.{range-none}
 use Rattle.grid.specs.Steps.{Rows, Grid}
 use Rattle.grid.proofs.Cells.{cell, cell-past, grid-by}
@@ -35,21 +32,10 @@ module _ (order : List ℕ) where
   pub take-next : (i : ℕ) → i < length order → take (i + 1) order ≡ take i order ++ (getD order i 0 ∷ [])
   take-next i h = ap (λ (k : ℕ). take k order) (add-one i) ∙ take-suc order i 0 h
 
-  -- an order is one of as many places as it has
-  pub own-order : {n : ℕ} → Order n order → Order (length order) order
-  own-order o = subst (λ (k : ℕ). Order k order) (sym (o .size)) o
-
-  pub place-below : (n i : ℕ) → Order n order → i < length order → getD order i 0 < n
-  place-below n i o h = order-good n order o .1 (getD order i 0) (elem-at order i h)
-
 -- ---- planes that were copied
 
-module _ {o t ho ht : List ℕ} (e : o ≡ ho) (f : t ≡ ht) where
-  pub copied-rows : {r w : ℕ} → Rows ho ht r w → Rows o t r w
-  copied-rows {r} {w} g = subst₂ (λ (a b : List ℕ). Rows a b r w) (sym e) (sym f) g
-
-  pub copied-cells : (w : ℕ) → matrixAt w o t ≡ matrixAt w ho ht
-  copied-cells w = ap₂ (matrixAt w) e f
+pub copied-cells : {o t ho ht : List ℕ} → o ≡ ho → t ≡ ht → (w : ℕ) → matrixAt w o t ≡ matrixAt w ho ht
+copied-cells e f w = ap₂ (matrixAt w) e f
 
 -- ---- the first r rows come back with the matrix B
 

@@ -9,13 +9,13 @@ use borrow.Author.Tests.{eq-eqb, ne-eqb, eqb-true, eqb-false, lt-ltb, le-ltb}
 use lib.Dec.{eqb, ltb}
 use lib.ListN.{length, take, drop, take-append-drop}
 use Rattle.trits.specs.Trit.{Trit, t0, t1, subT, mulT, isSet, putV, dotV}
-use Rattle.trits.proofs.Arithmetic.{add-zero-r, mul-assoc, add-neg}
+use Rattle.trits.proofs.Arithmetic.{add-zero-r, mul-assoc, add-neg, mul-zero}
 use Rattle.matrix.specs.Linear.{Vector, Matrix, zeros, times, elem, pivots, rank, without}
 use Rattle.matrix.specs.Orders.{Distinct, Order}
 use Rattle.matrix.specs.Steps.{swapRows, clearRows, pivotRow, hasPivot, stepOf, Stage, tried, eliminate, eliminated, begun}
-use Rattle.matrix.proofs.Field.{mul-zero, mul-one, square}
+use Rattle.matrix.proofs.Field.{mul-one, square}
 use Rattle.matrix.proofs.Dots.{put-same, put-other}
-use Rattle.matrix.proofs.Places.{Below, or-false-left, or-false-right, or-none}
+use Rattle.matrix.proofs.Places.{Below, or-false-left, or-false-right, false-or-false}
 use Rattle.matrix.proofs.Orders.{order-good}
 use Rattle.matrix.proofs.Greedy.{pivots-kept}
 use Rattle.matrix.proofs.Elimination.{Reduced, reduced-cong}
@@ -48,18 +48,19 @@ module _ (r at p : ℕ) (A : Matrix) (e : hasPivot r at p A ≡ true) where
           ∙ ap (subT (moved i p)) (mul-assoc (moved i p) (moved at p) (moved at p) ∙ ap (mulT (moved i p)) (square (moved at p) moved-set) ∙ mul-one (moved i p))
           ∙ add-neg (moved i p) ∙ sym (put-other zeros at t1 i (eqb-false i at k))
 
+  -- row `at` is among those that are 0 at q
+  own-zero : (q : ℕ) → ZeroFrom r at A q → A at q ≡ t0
+  own-zero q z = let f = has-row r at p A e in z at (omega arith) (omega (arith, f .0, f .1))
+
   -- exchanged rows have 0 at q, so the column there stays
   moved-keep : (q : ℕ) → ZeroFrom r at A q → (i : ℕ) → moved i q ≡ A i q
   moved-keep q z i = go (eqb i at) refl (eqb i (pivotRow r A p at)) refl
     where
-      f : (at ≤ pivotRow r A p at) × (pivotRow r A p at < r) × (isSet (A (pivotRow r A p at) p) ≡ true)
-      f = has-row r at p A e
-
       here : A at q ≡ t0
-      here = z at (omega arith) (omega (arith, f .0, f .1))
+      here = own-zero q z
 
       there : A (pivotRow r A p at) q ≡ t0
-      there = z (pivotRow r A p at) (f .0) (f .1)
+      there = let f = has-row r at p A e in z (pivotRow r A p at) (f .0) (f .1)
 
       go : (s : Bool) → eqb i at ≡ s → (t : Bool) → eqb i (pivotRow r A p at) ≡ t → moved i q ≡ A i q
       go true k t l = rw k (there ∙ sym here ∙ ap (λ (x : ℕ). A x q) (sym (eqb-true i at k)))
@@ -69,17 +70,11 @@ module _ (r at p : ℕ) (A : Matrix) (e : hasPivot r at p A ≡ true) where
   stepped-keep : (q : ℕ) → ZeroFrom r at A q → (i : ℕ) → clearRows at p moved i q ≡ A i q
   stepped-keep q z i = go (eqb i at) refl
     where
-      f : (at ≤ pivotRow r A p at) × (pivotRow r A p at < r) × (isSet (A (pivotRow r A p at) p) ≡ true)
-      f = has-row r at p A e
-
-      here : A at q ≡ t0
-      here = z at (omega arith) (omega (arith, f .0, f .1))
-
       none : moved at q ≡ t0
-      none = moved-keep q z at ∙ here
+      none = moved-keep q z at ∙ own-zero q z
 
       go : (s : Bool) → eqb i at ≡ s → clearRows at p moved i q ≡ A i q
-      go true k = rw k (ap (mulT (moved at p)) none ∙ mul-zero (moved at p) ∙ sym here ∙ ap (λ (x : ℕ). A x q) (sym (eqb-true i at k)))
+      go true k = rw k (ap (mulT (moved at p)) none ∙ mul-zero (moved at p) ∙ sym (own-zero q z) ∙ ap (λ (x : ℕ). A x q) (sym (eqb-true i at k)))
       go false k =
           ap (λ (s : Bool). cond s (mulT (moved at p) (moved at q)) (subT (moved i q) (mulT (mulT (moved i p) (moved at p)) (moved at q)))) k
           ∙ ap (λ (x : Trit). subT (moved i q) (mulT (mulT (moved i p) (moved at p)) x)) none
@@ -223,7 +218,7 @@ taken-within r A [] c p h = refl
 taken-within r A (q ∷ qs) c p h = go (λ k. taken-within r A qs k p (or-false-right (eqb p q) (elem p qs) h)) (isNext r A c q)
   where
     go : ((k : ℕ) → elem p (taken r A k qs) ≡ false) → (t : Bool) → elem p (cond t (q ∷ taken r A (suc c) qs) (taken r A c qs)) ≡ false
-    go ih true = or-none (eqb p q) (elem p (taken r A (suc c) qs)) (or-false-left (eqb p q) (elem p qs) h) (ih (suc c))
+    go ih true = false-or-false (eqb p q) (elem p (taken r A (suc c) qs)) (or-false-left (eqb p q) (elem p qs) h) (ih (suc c))
     go ih false = ih c
 
 -- a place that is not listed need not be taken out

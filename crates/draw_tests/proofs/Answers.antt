@@ -1,5 +1,5 @@
 -- The call's answer by its tests, and what is known once they have passed. Assumes nothing.
-use mathlib.Core.Path.{_≡_, refl, ap, _∙_}
+use mathlib.Core.Path.{_≡_, refl, sym, _∙_}
 use mathlib.Core.Bool.{Bool, true, false, not, _||_, cond}
 use mathlib.Core.List.{List}
 use Prim.Native.Nat.{ℕ, _+_, _-_, _≤_}
@@ -9,22 +9,24 @@ use mir.Syntax.{w64}
 use mir.Val.{Fits}
 use lib.Dec.{eqb, lit<}
 use lib.ListN.{length, getD}
-use Rattle.trits.specs.Trit.{weightV}
 use Rattle.trits.specs.Planes.{wordsFor, tritAt, zeroWords}
-use Rattle.trits.specs.Refusal.{refuse, demand, first, spaceExit, planesRefusal}
-use Rattle.trits.proofs.Refusals.{passed-first, passed-refuse, passed-demand, space-zero}
+use Rattle.trits.specs.Refusal.{demand, first, spaceExit, planesRefusal}
+use Rattle.trits.proofs.Refusals.{passed-first, passed-refuse, passed-demand, first-all, demand-all, refuse-all, planes-row, left-cleared, clears-demand, clears-none}
+use Rattle.trits.proofs.Tests.{or-false-both}
+use Rattle.trits.specs.Trit.{weightV}
 use Rattle.matrix.specs.Linear.{Vector, rank}
 use Rattle.matrix.specs.Orders.{isOrder}
 use Rattle.matrix.proofs.Field.{not-false}
 use Rattle.matrix.proofs.Orders.{order-test}
 use Rattle.scheme.specs.declared.sizes.Sizes.{Sizes}
-use Rattle.scheme.specs.Sizes.{half, places, dim, ru, rv, codim, gapU, sizesFit}
-use Rattle.scheme.specs.Secret.{Secret, noZero, hasZero}
-use Rattle.scheme.specs.Draw.{Choices, firstV, firstU, drawn, drawRefusal}
-use Rattle.calls.specs.Lent.{pairDiffers, secretDiffers, secretRefusal, Readable}
+use Rattle.scheme.specs.Sizes.{half, places, dim, codim, gapU, sizesFit, ru, rv}
+use Rattle.scheme.specs.Secret.{Secret, hasZero}
+use Rattle.scheme.specs.Draw.{Choices, drawRefusal, firstV, firstU, drawn}
+use Rattle.scheme.proofs.Zeros.{noZero-of}
+use Rattle.calls.specs.Lent.{pairDiffers, secretRefusal, Readable}
 use Rattle.calls.specs.DrawCall.{DrawCall, drawWorkWords, choicesDiffer, drawLengthsDiffer, choicesRefusal, drawAnswer}
-use Rattle.calls.proofs.Exits.{planes-le, first-le}
-use Rattle.calls.proofs.Secrets.{or-none, pair-same, SecretLengths, secret-same, secret-le, row-of}
+use Rattle.calls.proofs.Exits.{Low, planes-low}
+use Rattle.calls.proofs.Secrets.{pair-same, differs, Lengths, secret-lengths, secret-low}
 use Rattle.draw_tests.specs.Steps.{given, chosen, ending, Ready}
 
 -- ---- the answer
@@ -71,34 +73,26 @@ pub same-choices : (z : Sizes) (i : DrawCall) → choicesRefusal z (chosen (i .p
 unfolding choicesRefusal
 same-choices z i = refl
 
-demand-le : (t : Bool) (r : ℕ) → r ≤ 8 → demand t 7 r ≤ 8
-demand-le true r h = h
-demand-le false r h = omega arith
-
-refuse-le : (t : Bool) → refuse t 8 0 ≤ 8
-refuse-le true = omega arith
-refuse-le false = omega arith
-
 pub contents-le : (z : Sizes) (i : DrawCall) → contents z i ≤ 8
 unfolding choicesRefusal
 contents-le z i =
-    first-le (secretRefusal z (i .secret)) (choicesRefusal z i) (secret-le z (i .secret))
-    (demand-le (isOrder (places z) (i .p)) _ (first-le _ _ (planes-le (i .y .ones) (i .y .twos) 1 (codim z))
-    (demand-le (isOrder (half z) (i .orderV)) _ (first-le _ _ (planes-le (i .v .ones) (i .v .twos) 1 (z .kv))
-    (demand-le (isOrder (half z) (i .orderU)) _ (first-le _ _ (planes-le (i .u .ones) (i .u .twos) 1 (z .ku))
-    (refuse-le (hasZero (z .ku - gapU z) (λ j. tritAt (i .u .ones) (i .u .twos) (gapU z + j))))))))))
+    first-all Low (secretRefusal z (i .secret)) (choicesRefusal z i) (secret-low z (i .secret))
+    (ordered (isOrder (places z) (i .p)) _ (first-all Low _ _ (planes-low (i .y .ones) (i .y .twos) 1 (codim z))
+    (ordered (isOrder (half z) (i .orderV)) _ (first-all Low _ _ (planes-low (i .v .ones) (i .v .twos) 1 (z .kv))
+    (ordered (isOrder (half z) (i .orderU)) _ (first-all Low _ _ (planes-low (i .u .ones) (i .u .twos) 1 (z .ku))
+    (refuse-all Low (hasZero (z .ku - gapU z) (λ j. tritAt (i .u .ones) (i .u .twos) (gapU z + j))) 8 0 (omega arith) (omega arith))))))))
+  where
+    ordered : (t : Bool) (r : ℕ) → Low r → Low (demand t 7 r)
+    ordered t r h = demand-all Low t 7 r (omega arith) h
 
 -- ---- the working space
 
 pub work-ended : (z : Sizes) (s : Secret) (p : List ℕ) (y : Vector) (ch : Choices) (w : List ℕ) → zeroWords (length w) ≡ spaceExit (drawRefusal z s p y ch) w
 unfolding drawRefusal
-work-ended z s p y ch w = by (eqb (rank (rv z) (half z) (s .hv) (firstV z ch)) (rv z)) (eqb (rank (ru z) (half z) (s .hu) (firstU z ch)) (ru z)) (eqb (weightV (drawn z s p y ch) (places z)) (z .w))
-  where
-    by : (a b c : Bool) → zeroWords (length w) ≡ spaceExit (demand a 12 (demand b 13 (demand c 14 0))) w
-    by true true true = space-zero w {k = 0} refl refl
-    by true true false = space-zero w {k = 14} refl refl
-    by true false c = space-zero w {k = 13} refl refl
-    by false b c = space-zero w {k = 12} refl refl
+work-ended z s p y ch w =
+    left-cleared w (clears-demand (eqb (rank (rv z) (half z) (s .hv) (firstV z ch)) (rv z)) 12 _ refl
+    (clears-demand (eqb (rank (ru z) (half z) (s .hu) (firstU z ch)) (ru z)) 13 _ refl
+    (clears-demand (eqb (weightV (drawn z s p y ch) (places z)) (z .w)) 14 0 refl clears-none)))
 
 -- ---- lengths that do not differ
 
@@ -123,13 +117,13 @@ choices-same : (z : Sizes) (p y1 y2 ov v1 v2 ou u1 u2 e1 e2 s1 s2 w1 w2 : ℕ) �
     → ChoicesLengths z p y1 y2 ov v1 v2 ou u1 u2 e1 e2 s1 s2 w1 w2
 unfolding choicesDiffer
 choices-same z p y1 y2 ov v1 v2 ou u1 u2 e1 e2 s1 s2 w1 w2 e =
-    let A = or-none (not (eqb p (places z))) _ e in
-    let B = or-none (pairDiffers (wordsFor (codim z)) y1 y2) _ (A .1) in
-    let C = or-none (pairDiffers (half z) ov ou) _ (B .1) in
-    let D = or-none (pairDiffers (wordsFor (z .kv)) v1 v2) _ (C .1) in
-    let E = or-none (pairDiffers (wordsFor (z .ku)) u1 u2) _ (D .1) in
-    let F = or-none (pairDiffers (wordsFor (places z)) e1 e2) _ (E .1) in
-    let G = or-none (pairDiffers (wordsFor (dim z)) s1 s2) _ (F .1) in
+    let A = or-false-both (not (eqb p (places z))) _ e in
+    let B = or-false-both (pairDiffers (wordsFor (codim z)) y1 y2) _ (A .1) in
+    let C = or-false-both (pairDiffers (half z) ov ou) _ (B .1) in
+    let D = or-false-both (pairDiffers (wordsFor (z .kv)) v1 v2) _ (C .1) in
+    let E = or-false-both (pairDiffers (wordsFor (z .ku)) u1 u2) _ (D .1) in
+    let F = or-false-both (pairDiffers (wordsFor (places z)) e1 e2) _ (E .1) in
+    let G = or-false-both (pairDiffers (wordsFor (dim z)) s1 s2) _ (F .1) in
     let y = pair-same _ y1 y2 (B .0) in
     let o = pair-same _ ov ou (C .0) in
     let v = pair-same _ v1 v2 (D .0) in
@@ -155,34 +149,25 @@ choices-same z p y1 y2 ov v1 v2 ou u1 u2 e1 e2 s1 s2 w1 w2 e =
       workTwos = w .1;
     }
 
-none : (m : ℕ) (v : Vector) → hasZero m v ≡ false → noZero m v ≡ true
-unfolding hasZero noZero
-none m v e = ap not e
-
 module _ (z : Sizes) (i : DrawCall) where
   -- the lengths one after another
-  abbrev secretAll : Bool
-  secretAll = secretDiffers z (length (i .secret .hu .ones)) (length (i .secret .hu .twos)) (length (i .secret .hv .ones)) (length (i .secret .hv .twos)) (length (i .secret .b .ones)) (length (i .secret .b .twos))
-      (length (i .secret .c .ones)) (length (i .secret .c .twos))
-
   abbrev choicesAll : Bool
   choicesAll = choicesDiffer z (length (i .p)) (length (i .y .ones)) (length (i .y .twos)) (length (i .orderV)) (length (i .v .ones)) (length (i .v .twos)) (length (i .orderU)) (length (i .u .ones)) (length (i .u .twos))
       (length (i .word .ones)) (length (i .word .twos)) (length (i .s .ones)) (length (i .s .twos)) (length (i .work .ones)) (length (i .work .twos))
 
-  pub same-lengths : {t : Bool} → (secretAll || choicesAll) ≡ t → drawLengthsDiffer z i ≡ t
+  pub same-lengths : {t : Bool} → (differs z (i .secret) || choicesAll) ≡ t → drawLengthsDiffer z i ≡ t
   unfolding drawLengthsDiffer
   same-lengths e = e
 
   module _ (e : drawLengthsDiffer z i ≡ false) where
-    pub lengths-secret : SecretLengths z (length (i .secret .hu .ones)) (length (i .secret .hu .twos)) (length (i .secret .hv .ones)) (length (i .secret .hv .twos)) (length (i .secret .b .ones)) (length (i .secret .b .twos))
-        (length (i .secret .c .ones)) (length (i .secret .c .twos))
+    pub lengths-secret : Lengths z (i .secret)
     unfolding drawLengthsDiffer
-    lengths-secret = secret-same z _ _ _ _ _ _ _ _ (or-none secretAll choicesAll e .0)
+    lengths-secret = secret-lengths z (i .secret) choicesAll e
 
     pub lengths-choices : ChoicesLengths z (length (i .p)) (length (i .y .ones)) (length (i .y .twos)) (length (i .orderV)) (length (i .v .ones)) (length (i .v .twos)) (length (i .orderU)) (length (i .u .ones))
         (length (i .u .twos)) (length (i .word .ones)) (length (i .word .twos)) (length (i .s .ones)) (length (i .s .twos)) (length (i .work .ones)) (length (i .work .twos))
     unfolding drawLengthsDiffer
-    lengths-choices = choices-same z _ _ _ _ _ _ _ _ _ _ _ _ _ _ _ (or-none secretAll choicesAll e .1)
+    lengths-choices = choices-same z _ _ _ _ _ _ _ _ _ _ _ _ _ _ _ (or-false-both (differs z (i .secret)) choicesAll e .1)
 
     -- ---- contents that are not refused
 
@@ -203,15 +188,15 @@ module _ (z : Sizes) (i : DrawCall) where
         record {
           secret = k;
           p = order-test (places z) (i .p) (A .0);
-          y = row-of _ _ 1 (codim z) (B .0) (l .yOnes) (l .yTwos) f1 f2;
+          y = planes-row 1 (codim z) (B .0) (l .yTwos ∙ sym (l .yOnes)) f1 f2;
           ySize = l .yOnes;
           orderV = order-test (half z) (i .orderV) (C .0);
-          v = row-of _ _ 1 (z .kv) (D .0) (l .vOnes) (l .vTwos) f3 f4;
+          v = planes-row 1 (z .kv) (D .0) (l .vTwos ∙ sym (l .vOnes)) f3 f4;
           vSize = l .vOnes;
           orderU = order-test (half z) (i .orderU) (E .0);
-          u = row-of _ _ 1 (z .ku) (F .0) (l .uOnes) (l .uTwos) f5 f6;
+          u = planes-row 1 (z .ku) (F .0) (l .uTwos ∙ sym (l .uOnes)) f5 f6;
           uSize = l .uOnes;
-          values = none (z .ku - gapU z) (λ j. tritAt (i .u .ones) (i .u .twos) (gapU z + j)) (passed-refuse (hasZero (z .ku - gapU z) (λ j. tritAt (i .u .ones) (i .u .twos) (gapU z + j))) 8 0 (lit< tt) (F .1) .0);
+          values = noZero-of (z .ku - gapU z) (λ j. tritAt (i .u .ones) (i .u .twos) (gapU z + j)) (passed-refuse (hasZero (z .ku - gapU z) (λ j. tritAt (i .u .ones) (i .u .twos) (gapU z + j))) 8 0 (lit< tt) (F .1) .0);
         }
 
 -- what the tests of the secret have shown, its words being words

@@ -71,14 +71,6 @@ put-own e A = fun-ext (λ i. fun-ext (λ q. by i q (ℕ-discrete i e)))
     by i q (yes d) = rw (eq-eqb i e d) (ap (λ (k : ℕ). A k q) d)
     by i q (no f) = rw (ne-eqb i e f)
 
--- which of two words row e takes
-module _ {b : Bool} (u v : Vector) where
-  pub pick-first : b ≡ true → u ≡ cond b u v
-  pick-first d = ap (λ (c : Bool). cond c u v) (sym d)
-
-  pub pick-second : b ≡ false → v ≡ cond b u v
-  pick-second d = ap (λ (c : Bool). cond c u v) (sym d)
-
 pub grid-row : {o t : List ℕ} {r w : ℕ} (A : Matrix) (e : ℕ) {u v : Vector} → Grid o t r w (putRow e u A) → u ≡ v → Grid o t r w (putRow e v A)
 grid-row A e g d = grid-to g (ap (λ (y : Vector). putRow e y A) d)
 

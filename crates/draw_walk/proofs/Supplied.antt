@@ -15,12 +15,14 @@ use Rattle.trits.specs.Trit.{Trit, putV, dotV}
 use Rattle.trits.specs.Rows.{matrixAt}
 use Rattle.matrix.specs.Linear.{Vector, Matrix, times, elem, fill}
 use Rattle.matrix.specs.Orders.{Distinct, Order}
-use Rattle.matrix.proofs.Places.{or-false-left, or-false-right, or-none, elem-here}
+use Rattle.matrix.proofs.Places.{or-false-left, or-false-right, false-or-false, elem-here}
 use Rattle.matrix.proofs.Greedy.{bool-cases}
 use Rattle.matrix.proofs.Orders.{order-good}
 use Rattle.matrix.proofs.Counts.{distinct-parts}
+use Rattle.matrix.proofs.Field.{refuted}
 use Rattle.grid.specs.Steps.{Rows, Grid, putRow}
 use Rattle.grid.proofs.Cells.{grid-to}
+use Rattle.grid.proofs.RowParts.{put-here, put-else}
 use Rattle.draw_reduce.specs.Steps.{isNext, taken, passed}
 use Rattle.draw_reduce.proofs.Walked.{taken-append, passed-append, taken-within, next-cong}
 use Rattle.draw_reduce.proofs.Fronts.{take-next}
@@ -45,13 +47,6 @@ fill-more (x ∷ xs) p v w h =
     ap (λ (u : Vector). putV u x (v 0)) (fill-more xs p (λ j. v (suc j)) w (or-false-right (eqb p x) (elem p xs) h))
     ∙ put-swap (fill xs (λ j. v (suc j)) w) x p (v (suc (length xs))) (v 0) (eqb-false p x (or-false-left (eqb p x) (elem p xs) h))
 
--- no value past the places counts
-pub fill-same : (ps : List ℕ) (u v w : Vector) → ((j : ℕ) → j < length ps → u j ≡ v j) → fill ps u w ≡ fill ps v w
-unfolding fill
-fill-same [] u v w h = refl
-fill-same (p ∷ ps) u v w h =
-    ap₂ (λ (f : Vector) (x : Trit). putV f p x) (fill-same ps (λ j. u (suc j)) (λ j. v (suc j)) w (λ j l. h (suc j) (omega arith))) (h 0 (omega arith))
-
 pub fill-nil : (v w : Vector) → w ≡ fill [] v w
 unfolding fill
 fill-nil v w = refl
@@ -60,17 +55,14 @@ fill-nil v w = refl
 
 -- a place is not among those before it
 pub before-place : (l : List ℕ) (i : ℕ) → Distinct l → i < length l → elem (getD l i 0) (take i l) ≡ false
-before-place l i d h = by (bool-cases (elem (getD l i 0) (take i l)))
+before-place l i d h =
+    refuted (elem (getD l i 0) (take i l)) (λ m. true≢false (sym there ∙ distinct-parts (take i l) (drop i l) split .2 (getD l i 0) m))
   where
     split : Distinct (take i l ++ drop i l)
     split = subst (λ (x : List ℕ). Distinct x) (sym (take-append-drop i l)) d
 
     there : elem (getD l i 0) (drop i l) ≡ true
     there = rw (drop-cons l i 0 h) (elem-here (getD l i 0) (drop (suc i) l))
-
-    by : (elem (getD l i 0) (take i l) ≡ true) ⊎ (elem (getD l i 0) (take i l) ≡ false) → elem (getD l i 0) (take i l) ≡ false
-    by (inl m) = absurd (true≢false (sym there ∙ distinct-parts (take i l) (drop i l) split .2 (getD l i 0) m))
-    by (inr m) = m
 
 pub place-fresh : (l : List ℕ) (i : ℕ) → Order (length l) l → i < length l → elem (getD l i 0) (take i l) ≡ false
 place-fresh l i o h = before-place l i (order-good (length l) l o .0) h
@@ -99,7 +91,7 @@ module _ (r : ℕ) (A : Matrix) where
     where
       by : elem x (passed r A (suc c) ps) ≡ false → elem x (passed r A c ps) ≡ false → (b : Bool) → elem x (cond b (passed r A (suc c) ps) (q ∷ passed r A c ps)) ≡ false
       by f g true = f
-      by f g false = or-none (eqb x q) (elem x (passed r A c ps)) (or-false-left (eqb x q) (elem x ps) h) g
+      by f g false = false-or-false (eqb x q) (elem x (passed r A c ps)) (or-false-left (eqb x q) (elem x ps) h) g
 
   -- one more place
   module _ (ps : List ℕ) (q c : ℕ) (e : c ≡ length (taken r A 0 ps)) where
@@ -135,12 +127,6 @@ module _ (r : ℕ) (A : Matrix) where
 -- ---- rows of a matrix of which row e is another
 
 module _ (e : ℕ) (u : Vector) (A : Matrix) where
-  pub put-here : putRow e u A e ≡ u
-  put-here = fun-ext (λ q. ap (λ (b : Bool). cond b (u q) (A e q)) (eq-eqb e e refl))
-
-  pub put-else : (i : ℕ) → (i ≡ e → ⊥) → putRow e u A i ≡ A i
-  put-else i f = fun-ext (λ q. ap (λ (b : Bool). cond b (u q) (A i q)) (ne-eqb i e f))
-
   pub put-again : (v : Vector) → putRow e v (putRow e u A) ≡ putRow e v A
   put-again v = fun-ext (λ i. fun-ext (λ q. by (eqb i e) (v q) (u q) (A i q)))
     where
@@ -154,7 +140,7 @@ pub put-turn : {os ts o t : List ℕ} {n w : ℕ} (e q : ℕ) (A : Matrix) (u : 
 put-turn e q A u x g h =
     grid-to h
     (ap (λ (B : Matrix). putRow e (putV (B e) q (x B)) B) (g .cells)
-    ∙ ap (λ (v : Vector). putRow e (putV v q (x (putRow e u A))) (putRow e u A)) (put-here e u A)
+    ∙ ap (λ (v : Vector). putRow e (putV v q (x (putRow e u A))) (putRow e u A)) (put-here e u A e refl)
     ∙ put-again e u A (putV u q (x (putRow e u A))))
 
 -- ---- the walk in a matrix of which row e is being made
@@ -246,9 +232,9 @@ module _ {rows w r e : ℕ} (l : List ℕ) (A : Matrix) {i c : ℕ} {os ts : Lis
       let m : i - c ≡ length (passed r A 0 ps) = omega (arith, passed-count k) in
       subst (λ (x : List ℕ). Walking rows w r e A (fill (passed r A 0 x) v (A e)) x n o₁ t₁) (sym (take-next l i h))
       (walking-turn k z q (λ B. B e) (λ B. putV (B e) q (v (i - c))) (fill (passed r A 0 (ps ++ (q ∷ []))) v (A e)) d g
-      (λ f. put-here e u A ∙ ap (λ (x : List ℕ). fill x v (A e)) (sym (passed-yes r A ps q c (k .count) f)))
+      (λ f. put-here e u A e refl ∙ ap (λ (x : List ℕ). fill x v (A e)) (sym (passed-yes r A ps q c (k .count) f)))
       (λ f.
-      ap₂ (λ (y : Vector) (j : ℕ). putV y q (v j)) (put-here e u A) m
+      ap₂ (λ (y : Vector) (j : ℕ). putV y q (v j)) (put-here e u A e refl) m
       ∙ sym (fill-more (passed r A 0 ps) q v (A e) (passed-out r A 0 ps q (place-fresh l i o h)))
       ∙ ap (λ (x : List ℕ). fill x v (A e)) (sym (passed-no r A ps q c (k .count) f))))
 
@@ -267,12 +253,12 @@ module _ {rows w r e : ℕ} (l : List ℕ) (A : Matrix) {i c : ℕ} {os ts : Lis
       (walking-turn k z q (λ B. putV (B e) q (dotV (B c) (B x) m)) (λ B. B e) (fill (taken r A 0 (ps ++ (q ∷ []))) v (A e)) d g
       (λ f.
       let p = next-lt r A c q f in
-      ap (λ (y : Vector). putV y q (dotV (putRow e u A c) (putRow e u A x) m)) (put-here e u A)
+      ap (λ (y : Vector). putV y q (dotV (putRow e u A c) (putRow e u A x) m)) (put-here e u A e refl)
       ∙ ap₂ (λ (s t : Vector). putV u q (dotV s t m)) (put-else e u A c (λ b. omega arith)) (put-else e u A x a)
       ∙ ap (λ (j : ℕ). putV u q (v j)) (k .count)
       ∙ sym (fill-more (taken r A 0 ps) q v (A e) (taken-within r A ps 0 q (place-fresh l i o h)))
       ∙ ap (λ (y : List ℕ). fill y v (A e)) (sym (taken-yes r A ps q c (k .count) f)))
-      (λ f. put-here e u A ∙ ap (λ (y : List ℕ). fill y v (A e)) (sym (taken-no r A ps q c (k .count) f))))
+      (λ f. put-here e u A e refl ∙ ap (λ (y : List ℕ). fill y v (A e)) (sym (taken-no r A ps q c (k .count) f))))
 
 -- the values of the last part, from its first place on
 abbrev pub forcedAt : List ℕ → Matrix → ℕ → ℕ → Vector → Vector → Vector → ℕ → Vector

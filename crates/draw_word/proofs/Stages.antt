@@ -64,9 +64,6 @@ module _ (z : Sizes) (l : ℕ) (s : Secret) (x : Vector) (w : ℕ) (o₀ t₀ o�
 
 -- ---- orders and rows, with the order's own length
 
-pub order-own : {n : ℕ} {l : List ℕ} → Order n l → Order (length l) l
-order-own {l = l} o = subst (λ (m : ℕ). Order m l) (sym (o .size)) o
-
 pub ends-own : {n : ℕ} {l : List ℕ} {v : Vector} → Order n l → Ends n v → Ends (length l) v
 ends-own {v = v} o e = subst (λ (m : ℕ). Ends m v) (sym (o .size)) e
 

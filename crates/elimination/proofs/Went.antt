@@ -1,9 +1,8 @@
 -- Columns tried one after another: the matrix and the count so far. Assumes nothing.
 use mathlib.Core.Path.{_≡_, refl, sym, ap, ap₂, _∙_, subst}
-use mathlib.Core.Bool.{Bool, true, false, cond}
+use mathlib.Core.Bool.{cond}
 use mathlib.Core.List.{List, [], _∷_, _++_}
 use Prim.Native.Nat.{ℕ, suc, _+_, _≤_}
-use native.Mathlib.Numerals.{add-one}
 use native.Mathlib.Omega.{arith}
 use lib.ListN.{length}
 use Rattle.trits.specs.Rows.{matrixAt}
@@ -14,13 +13,6 @@ use Rattle.matrix.proofs.Steps.{count-room}
 use Rattle.matrix.proofs.Kept.{tried-cells, tried-count, eliminate-more, eliminate-rank}
 use Rattle.grid.specs.Steps.{Rows, Grid}
 
--- a count that one column raised, or left
-pub yes-count : {b : Bool} (n : ℕ) → b ≡ true → n + 1 ≡ cond b (suc n) n
-yes-count n e = rw e (add-one n)
-
-pub no-count : {b : Bool} (n : ℕ) → b ≡ false → n ≡ cond b (suc n) n
-no-count n e = rw e
-
 -- where a loop stands when the places ps were tried
 pub record Went (r w : ℕ) (H : Matrix) (ps : List ℕ) (count : ℕ) (ones twos : List ℕ) : Type 0 where
   pub grid : Grid ones twos r w (eliminate r ps (begun H) .cells)
@@ -30,10 +22,6 @@ pub record Went (r w : ℕ) (H : Matrix) (ps : List ℕ) (count : ℕ) (ones two
 pub went-none : {o t : List ℕ} {r w : ℕ} → Rows o t r w → Went r w (matrixAt w o t) (range 0) 0 o t
 unfolding eliminate range
 went-none g = record { grid = record { rows = g; cells = refl }; counted = refl; room = omega arith }
-
-pub range-next : (i : ℕ) → range (i + 1) ≡ range i ++ (i ∷ [])
-unfolding range
-range-next i = ap range (add-one i)
 
 pub went-turn : {r w : ℕ} {H : Matrix} {ps ps′ : List ℕ} {count n : ℕ} {ones twos o t : List ℕ} (c : ℕ) → Went r w H ps count ones twos → ps′ ≡ ps ++ (c ∷ [])
     → n ≡ cond (hasPivot r count c (matrixAt w ones twos)) (suc count) count → Grid o t r w (stepOf r count c (matrixAt w ones twos)) → Went r w H ps′ n o t

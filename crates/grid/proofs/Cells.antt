@@ -13,7 +13,7 @@ use Rattle.trits.specs.Planes.{bit, trit, tritAt}
 use Rattle.trits.specs.Rows.{matrixAt}
 use Rattle.trits.proofs.Reading.{read-past, tritAt-word}
 use Rattle.matrix.specs.Linear.{Matrix}
-use Rattle.matrix.proofs.Field.{number-set, number-unset, number-two, number-one}
+use Rattle.matrix.proofs.Field.{number-set, number-unset, number-two, number-unit, number-one}
 use Rattle.grid.specs.Steps.{Rows, Grid}
 
 module _ (w : ℕ) (ones twos : List ℕ) (i q : ℕ) where
@@ -55,11 +55,6 @@ grid-of g e = record { rows = g; cells = e }
 
 -- ---- the number that is read of a cell
 
-one-of : (x : Trit) → number x ≡ 1 → x ≡ t1
-one-of t0 e = absurd (omega arith)
-one-of t1 e = refl
-one-of t2 e = absurd (omega arith)
-
 none-of : (x : Trit) → (number x ≡ 1 → ⊥) → (number x ≡ 2 → ⊥) → x ≡ t0
 none-of t0 f g = refl
 none-of t1 f g = absurd (f refl)
@@ -76,10 +71,10 @@ module _ (w : ℕ) (o t : List ℕ) (i q x : ℕ) (h : q < 64 * w) (e : x ≡ nu
   read-two f = cell w o t i q h ∙ number-two (tritAt o t (64 * (i * w) + q)) (sym e ∙ f)
 
   pub read-one : x ≡ 1 → matrixAt w o t i q ≡ t1
-  read-one f = cell w o t i q h ∙ one-of (tritAt o t (64 * (i * w) + q)) (sym e ∙ f)
+  read-one f = cell w o t i q h ∙ number-one (tritAt o t (64 * (i * w) + q)) (sym e ∙ f)
 
   pub read-none : (x ≡ 1 → ⊥) → (x ≡ 2 → ⊥) → matrixAt w o t i q ≡ t0
   read-none f g = cell w o t i q h ∙ none-of (tritAt o t (64 * (i * w) + q)) (λ z. f (e ∙ z)) (λ z. g (e ∙ z))
 
   pub read-unit : isSet (matrixAt w o t i q) ≡ true → (x ≡ 2 → ⊥) → matrixAt w o t i q ≡ t1
-  read-unit z f = cell w o t i q h ∙ number-one (tritAt o t (64 * (i * w) + q)) (sym (ap isSet (cell w o t i q h)) ∙ z) (λ g. f (e ∙ g))
+  read-unit z f = cell w o t i q h ∙ number-unit (tritAt o t (64 * (i * w) + q)) (sym (ap isSet (cell w o t i q h)) ∙ z) (λ g. f (e ∙ g))

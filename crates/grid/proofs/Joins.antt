@@ -7,15 +7,15 @@ use native.Mathlib.Decide.{ℕ-discrete}
 use native.Mathlib.Omega.{arith}
 use borrow.Author.Tests.{eq-eqb, ne-eqb}
 use borrow.Rule.Slice.PartMut.{midOf, putMid}
-use lib.ListN.{length, getD, drop}
+use lib.ListN.{length, getD, set, drop}
 use lib.Seq.{getD-drop}
 use lib.Bits.{bitAnd}
 use Rattle.trits.specs.Trit.{Trit, t0, t2, subT, negT, negV, zipAt}
 use Rattle.trits.specs.Planes.{bit, trit, one, two, tritAt, Apart, Reads}
 use Rattle.trits.specs.Rows.{matrixAt}
 use Rattle.trits.proofs.Reading.{tritAt-word}
-use Rattle.trits.proofs.WordOps.{WordOp, table, sumOnes, sumTwos, add-op}
-use Rattle.trits.proofs.Patches.{Patched, zip-at, zip-below, zip-above, wordsAt, stretch-reads}
+use Rattle.trits.proofs.WordOps.{WordOp, table, addOnes, addTwos, add-op}
+use Rattle.trits.proofs.Patches.{Patched, patch-none, patch-more, patch-here, zip-at, zip-below, zip-above, wordsAt, stretch-reads}
 use Rattle.trits.proofs.Parts.{part-back, part-trit}
 use Rattle.trits.proofs.Matrix.{row-le, rows-apart}
 use Rattle.matrix.specs.Linear.{Matrix}
@@ -76,10 +76,10 @@ module _ {o₀ t₀ o t : List ℕ} {r w : ℕ} (g : Rows o₀ t₀ r w) (op : T
 
 -- the masks of the difference: those of the sum, with the planes of the second exchanged
 abbrev pub subOnes : ℕ → ℕ → ℕ → ℕ → ℕ
-subOnes a b c d = sumOnes a b d c
+subOnes a b c d = addOnes a b d c
 
 abbrev pub subTwos : ℕ → ℕ → ℕ → ℕ → ℕ
-subTwos a b c d = sumTwos a b d c
+subTwos a b c d = addTwos a b d c
 
 pub sub-op : WordOp subOnes subTwos subT
 sub-op = record {
@@ -89,6 +89,45 @@ sub-op = record {
   twos-table = table (λ x y. subTwos (one x) (two x) (one y) (two y)) (λ x y. two (subT x y)) tt;
 }
 
+-- the loop has made k words of row i by the masks F and G, from its own words and row j's; the rest is as it was
+pub record Joining (F G : ℕ → ℕ → ℕ → ℕ → ℕ) (w i j : ℕ) (o₀ t₀ : List ℕ) (k : ℕ) (o t : List ℕ) : Type 0 where
+  pub within : k ≤ w
+  pub own : i * w + w ≤ length o₀
+  pub source : j * w + w ≤ length o₀
+  pub same : length t₀ ≡ length o₀
+  pub ones : Patched (wordsAt F o₀ t₀ (drop (j * w) o₀) (drop (j * w) t₀) (i * w)) (i * w) k o₀ o
+  pub twos : Patched (wordsAt G o₀ t₀ (drop (j * w) o₀) (drop (j * w) t₀) (i * w)) (i * w) k t₀ t
+
+pub joining-none : {F G : ℕ → ℕ → ℕ → ℕ → ℕ} {o t : List ℕ} {r w i j : ℕ} → Rows o t r w → i < r → j < r → Joining F G w i j o t 0 o t
+joining-none {w = w} g h l = record {
+  within = omega arith;
+  own = omega (arith, row-le w h, g .size);
+  source = omega (arith, row-le w l, g .size);
+  same = g .row .same;
+  ones = patch-none _ _ _;
+  twos = patch-none _ _ _;
+}
+
+-- a turn: x and y are what the masks make of the words that are there
+pub joining-more : {F G : ℕ → ℕ → ℕ → ℕ → ℕ} {w i j : ℕ} {o₀ t₀ : List ℕ} {k : ℕ} {o t : List ℕ} {x y : ℕ} → Joining F G w i j o₀ t₀ k o t
+    → (i ≡ j → ⊥) → k < w → x ≡ F (getD o (i * w + k) 0) (getD t (i * w + k) 0) (getD o (j * w + k) 0) (getD t (j * w + k) 0)
+    → y ≡ G (getD o (i * w + k) 0) (getD t (i * w + k) 0) (getD o (j * w + k) 0) (getD t (j * w + k) 0)
+    → Joining F G w i j o₀ t₀ (k + 1) (set o (i * w + k) x) (set t (i * w + k) y)
+joining-more {w = w} {i} {j} {k = k} s ne h e f =
+    let a = patch-here (s .ones) (i * w + k) refl in
+    let b = patch-here (s .twos) (i * w + k) refl in
+    let c = patch-source w i j (s .ones) ne h in
+    let d = patch-source w i j (s .twos) ne h in
+    record {
+      within = omega arith;
+      own = s .own;
+      source = s .source;
+      same = s .same;
+      ones = patch-more (s .ones) _ _ refl (omega arith) (e ∙ rw (a, b, c, d));
+      twos = patch-more (s .twos) _ _ refl (omega arith) (f ∙ rw (a, b, c, d));
+    }
+
+-- where it ends the matrix has the trits' operation in row i
 module _ {F G : ℕ → ℕ → ℕ → ℕ → ℕ} {op : Trit → Trit → Trit} (x : WordOp F G op) (z : op t0 t0 ≡ t0) {o₀ t₀ o t : List ℕ} {r : ℕ} (w i j : ℕ) {k : ℕ}
     (g : Rows o₀ t₀ r w) (po : Patched (wordsAt F o₀ t₀ (drop (j * w) o₀) (drop (j * w) t₀) (i * w)) (i * w) k o₀ o)
     (pt : Patched (wordsAt G o₀ t₀ (drop (j * w) o₀) (drop (j * w) t₀) (i * w)) (i * w) k t₀ t) where

@@ -4,19 +4,20 @@ use mathlib.Core.Bool.{Bool, cond}
 use mathlib.Core.Logic.{_⊎_, inl, inr}
 use mathlib.Core.List.{List}
 use Prim.Native.Nat.{ℕ, _+_, _*_, _≤_, _<_}
-use native.Mathlib.Decide.{decLt, ℕ-discrete}
+use native.Mathlib.Decide.{ℕ-discrete}
 use native.Mathlib.Omega.{arith}
 use borrow.Author.Tests.{eq-eqb, ne-eqb}
 use borrow.Rule.Slice.PartMut.{midOf, putMid}
 use lib.ListN.{length}
-use Rattle.trits.specs.Trit.{Trit, t0, t1, t2, number, tritOf, putV, upTo, zipAt, dotV}
+use Rattle.trits.specs.Trit.{Trit, t0, number, tritOf, putV, upTo, zipAt, dotV}
 use Rattle.trits.specs.Planes.{tritAt, zeroWords, Row, Reads}
 use Rattle.trits.specs.Rows.{matrixAt, rowPart}
 use Rattle.trits.proofs.Reading.{read-past, reads-to}
-use Rattle.trits.proofs.Ends.{upto-in, upto-out, upto-none, zeros-hold}
+use Rattle.trits.proofs.Ends.{upto-none, zeros-hold, upto-put}
 use Rattle.trits.proofs.Lists.{length-zeros}
 use Rattle.trits.proofs.Parts.{part-back, part-row, length-mid}
 use Rattle.trits.proofs.Matrix.{row-le, rows-apart, part-there, part-reads, part-length, part-trits}
+use Rattle.trits.proofs.Arithmetic.{number-lt, trit-number}
 use Rattle.matrix.specs.Linear.{Vector, Matrix, zeros}
 use Rattle.grid.specs.Steps.{Rows, Grid, putRow}
 use Rattle.grid.proofs.Cells.{cell, cell-past, grid-by, grid-to}
@@ -25,6 +26,9 @@ use Rattle.grid.proofs.Joins.{row-op}
 -- planes after both were copied
 pub copied-row : {o t h k : List ℕ} → o ≡ h → t ≡ k → Row h k → Row o t
 copied-row {o} {t} {h} {k} p q r = subst (λ (l : List ℕ). Row l t) (sym p) (subst (λ (l : List ℕ). Row h l) (sym q) r)
+
+pub copied-rows : {o t h k : List ℕ} {r w : ℕ} → o ≡ h → t ≡ k → Rows h k r w → Rows o t r w
+copied-rows p q g = record { row = copied-row p q (g .row); size = ap length p ∙ g .size }
 
 -- ---- a row that was handed out
 
@@ -143,19 +147,9 @@ module _ {o₀ t₀ o t : List ℕ} {r w : ℕ} (i p : ℕ) (x : Trit) (g : Rows
 
 -- ---- trits that are read and put one after another
 
-number-lt : (x : Trit) → number x < 3
-number-lt t0 = omega arith
-number-lt t1 = omega arith
-number-lt t2 = omega arith
-
-number-back : (x : Trit) → tritOf (number x) ≡ x
-number-back t0 = refl
-number-back t1 = refl
-number-back t2 = refl
-
 -- the number that was read of a trit
 pub read-trit : (t : Trit) (x : ℕ) → x ≡ number t → tritOf x ≡ t
-read-trit t x e = ap tritOf e ∙ number-back t
+read-trit t x e = ap tritOf e ∙ trit-number t
 
 -- a trit known by its number, put in row e
 pub put-number : {o t : List ℕ} {r w : ℕ} (A : Matrix) (e q n : ℕ) (x : Trit) → n ≡ number x → Grid o t r w (putRow e (putV (A e) q (tritOf n)) A) → Grid o t r w (putRow e (putV (A e) q x) A)
@@ -170,18 +164,10 @@ read-lt o t p x e = trit-lt (tritAt o t p) x e
 pub read-column : (w : ℕ) (o t : List ℕ) (i q x : ℕ) → q < 64 * w → x ≡ number (tritAt o t (64 * (i * w) + q)) → tritOf x ≡ matrixAt w o t i q
 read-column w o t i q x h e = read-trit (tritAt o t (64 * (i * w) + q)) x e ∙ sym (cell w o t i q h)
 
-upto-more : (v : Vector) (i : ℕ) → putV (upTo i v) i (v i) ≡ upTo (i + 1) v
-upto-more v i = fun-ext (λ p. by p (ℕ-discrete p i) (decLt p i))
-  where
-    by : (p : ℕ) → Dec (p ≡ i) → Dec (p < i) → putV (upTo i v) i (v i) p ≡ upTo (i + 1) v p
-    by p (yes e) d = ap (λ (t : Bool). cond t (v i) (upTo i v p)) (eq-eqb p i e) ∙ ap v (sym e) ∙ sym (upto-in v (i + 1) p (omega arith))
-    by p (no f) (yes l) = ap (λ (t : Bool). cond t (v i) (upTo i v p)) (ne-eqb p i f) ∙ upto-in v i p l ∙ sym (upto-in v (i + 1) p (omega arith))
-    by p (no f) (no l) = ap (λ (t : Bool). cond t (v i) (upTo i v p)) (ne-eqb p i f) ∙ upto-out v i p (omega arith) ∙ sym (upto-out v (i + 1) p (omega arith))
-
 pub column-turn : {os ts o t : List ℕ} {n : ℕ} (v : Vector) (i x : ℕ) → Reads os ts n (upTo i v) → tritOf x ≡ v i → Reads o t (length os) (putV (tritAt os ts) i (tritOf x))
     → Reads o t n (upTo (i + 1) v)
 column-turn v i x r e g = record {
   row = g .row;
   size = g .size ∙ r .size;
-  trits = g .trits ∙ ap₂ (λ (f : Vector) (y : Trit). putV f i y) (r .trits) e ∙ upto-more v i;
+  trits = g .trits ∙ ap₂ (λ (f : Vector) (y : Trit). putV f i y) (r .trits) e ∙ upto-put v i;
 }

@@ -8,13 +8,13 @@ use native.Mathlib.Decide.{ℕ-discrete}
 use native.Mathlib.Omega.{arith}
 use lib.Dec.{eqb}
 use lib.ListN.{length, getD}
-use Rattle.trits.specs.Trit.{Trit, t0, t1, t2}
-use Rattle.trits.specs.Planes.{one, two, bit, bitAt, tritAt, onesOf, twosOf, bothAt, bothSet, pastEnd}
+use Rattle.trits.specs.Trit.{Trit, t0}
+use Rattle.trits.specs.Planes.{one, bit, bitAt, tritAt, onesOf, twosOf, bothAt, bothSet, pastEnd}
 use Rattle.trits.specs.Rows.{rowPart, putWords, rowsPastEnd}
 use Rattle.trits.specs.Refusal.{planesRefusal}
 use Rattle.trits.proofs.Refusals.{planes-passed}
-use Rattle.trits.proofs.Tests.{any-none, none-any, zero-past}
-use Rattle.trits.proofs.Reading.{bitAt-place, ones-bit, twos-bit, length-ones, length-twos, holds-reads}
+use Rattle.trits.proofs.Tests.{any-none, none-any, written-both, written-past}
+use Rattle.trits.proofs.Reading.{bitAt-place, length-ones, length-twos, holds-reads}
 use Rattle.trits.proofs.Parts.{getD-mid}
 use Rattle.trits.proofs.Matrix.{row-le, one-row-past, part-there}
 use Rattle.packed.specs.Packed.{packedRow}
@@ -77,18 +77,8 @@ filled-more c K e r g =
     (filled-put (p .0) ro rt (p .1) (p .2) K r (record { apart = q .0; ended = sym (one-row-past ro rt (rowTrits h) (p .1) (p .2)) ∙ q .1 }) g)
 
 -- the planes of a vector that ends pass
-never-both : (x : Trit) → (eqb (one x) 1 && eqb (two x) 1) ≡ false
-never-both t0 = refl
-never-both t1 = refl
-never-both t2 = refl
-
 written-tested : (v : ℕ → Trit) (m n : ℕ) → ((i : ℕ) → m ≤ i → v i ≡ t0) → m ≤ 64 * n → Tested m (onesOf v n) (twosOf v n)
-unfolding bothSet
-written-tested v m n z l = record {
-  apart = none-any (64 * length (onesOf v n)) (bothAt (onesOf v n) (twosOf v n))
-      (λ i b. let c : i < 64 * n = omega (arith, length-ones v n) in ap₂ (λ (x y : ℕ). eqb x 1 && eqb y 1) (ones-bit v n i c) (twos-bit v n i c) ∙ never-both (v i));
-  ended = zero-past (onesOf v n) (twosOf v n) m (λ i b. ap (λ (u : ℕ → Trit). u i) (holds-reads (onesOf v n) (twosOf v n) n v (λ j c. z j (omega arith)) (record { ones-are = refl; twos-are = refl }) .trits) ∙ z i b);
-}
+written-tested v m n z l = record { apart = written-both v n; ended = written-past v m n z l }
 
 -- a packed row
 pub filled-packed : (c : PackedStore) (K : Key) → storePackedRefusal c ≡ 0 → packedRow (rowTrits (c .held)) (c .row) ≡ K (c .held .rows)

@@ -1,8 +1,7 @@
--- The laws of the held key: sizes, rows as stretches, tests that passed, the state left, rows stored; then what a host may rely on.
+-- The laws of the held key: sizes, rows as stretches, tests that passed, rows stored; then what a host may rely on.
 pub mod Sizes
 pub mod Stretch
 pub mod Room
-pub mod Answers
 pub mod Storing
 pub mod Loader
 pub mod Filled

@@ -25,7 +25,7 @@ use Rattle.held_key.proofs.Sizes.{and-both}
 use Rattle.held_key.proofs.Stretch.{row-there}
 use Rattle.packed.proofs.Digits.{packed-out}
 use Rattle.held_key.proofs.Room.{Room, stored-passed, stored-packed-passed}
-use Rattle.held_key.proofs.Storing.{put-words, plane-put}
+use Rattle.held_key.proofs.Storing.{mid-words, plane-put}
 
 -- lists of n words that agree are the same
 same-list : (n : ℕ) (l r : List ℕ) → length l ≡ n → length r ≡ n → ((j : ℕ) → j < n → getD l j 0 ≡ getD r j 0) → l ≡ r
@@ -69,7 +69,7 @@ module _ {h : Held} {a b : ℕ} (f : Room h a b) (plane new : List ℕ) (size : 
   after = putMid (h .rows * rowWords h) (rowWords h) plane new
 
   as-words : after ≡ putWords (h .rows * rowWords h) plane new
-  as-words = put-words (h .rows * rowWords h) (rowWords h) plane new new (sym n) refl
+  as-words = mid-words (h .rows * rowWords h) (rowWords h) plane new new (sym n) refl
 
   after-size : length after ≡ keyWords h
   after-size = back-length (rowWords h) (h .rows) plane new within n ∙ size

@@ -13,9 +13,9 @@ use Rattle.held_key.specs.Store.{storedPlane}
 use Prim.Native.Nat.{_<_}
 
 -- a part that came back with other words
-pub put-words : (a k : ℕ) (xs ys new : List ℕ) → k ≡ length new → ys ≡ new → putMid a k xs ys ≡ putWords a xs new
+pub mid-words : (a k : ℕ) (xs ys new : List ℕ) → k ≡ length new → ys ≡ new → putMid a k xs ys ≡ putWords a xs new
 unfolding putWords
-put-words a k xs ys new e f = ap₂ (λ (z w : List ℕ). take a xs ++ (z ++ w)) f (drop-drop k a xs ∙ ap (λ (n : ℕ). drop (a + n) xs) e)
+mid-words a k xs ys new e f = ap₂ (λ (z w : List ℕ). take a xs ++ (z ++ w)) f (drop-drop k a xs ∙ ap (λ (n : ℕ). drop (a + n) xs) e)
 
 module _ (h : Held) (plane row : List ℕ) {r : ℕ} where
   pub plane-kept : {k : ℕ} → k ≡ r → 0 < k → plane ≡ storedPlane r h plane row
@@ -27,4 +27,4 @@ module _ (h : Held) (plane row : List ℕ) {r : ℕ} where
   plane-put z = exit-new _ _ z
 
   pub plane-lent : {a k : ℕ} {ys : List ℕ} → r ≡ 0 → a ≡ h .rows * rowWords h → k ≡ length row → ys ≡ row → putMid a k plane ys ≡ storedPlane r h plane row
-  plane-lent {a} {k} {ys} z q e f = put-words a k plane ys row e f ∙ ap (λ (x : ℕ). putWords x plane row) q ∙ plane-put z
+  plane-lent {a} {k} {ys} z q e f = mid-words a k plane ys row e f ∙ ap (λ (x : ℕ). putWords x plane row) q ∙ plane-put z

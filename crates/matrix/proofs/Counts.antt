@@ -11,9 +11,10 @@ use lib.Dec.{eqb}
 use lib.ListN.{length, getD, length-append}
 use Rattle.matrix.specs.Linear.{Vector, elem, without, range, fill}
 use Rattle.matrix.specs.Orders.{Distinct, Order}
-use Rattle.matrix.proofs.Places.{Below, or-false-left, or-false-right, or-true-right, or-cases, or-none, elem-append, elem-here, fill-at}
+use Rattle.matrix.proofs.Places.{Below, or-false-left, or-false-right, or-true-right, or-cases, false-or-false, elem-append, elem-here, fill-at}
 use Rattle.matrix.proofs.Greedy.{bool-cases}
 use Rattle.matrix.proofs.Orders.{drop-one, drop-one-length, drop-one-other, elem-index}
+use Rattle.matrix.proofs.Field.{refuted}
 
 abbrev pub Within : List ℕ → List ℕ → Type 0
 Within ps qs = (q : ℕ) → elem q ps ≡ true → elem q qs ≡ true
@@ -39,7 +40,7 @@ length-same ps qs d e v w = omega (arith, length-within ps qs d v, length-within
 pub distinct-append : (ps qs : List ℕ) → Distinct ps → Distinct qs → Disjoint ps qs → Distinct (ps ++ qs)
 distinct-append [] qs d e a = e
 distinct-append (p ∷ ps) qs d e a = (
-  elem-append p ps qs ∙ or-none (elem p ps) (elem p qs) (d .0) (a p (elem-here p ps)),
+  elem-append p ps qs ∙ false-or-false (elem p ps) (elem p qs) (d .0) (a p (elem-here p ps)),
   distinct-append ps qs (d .1) e (λ q m. a q (or-true-right (eqb q p) (elem q ps) m)),
 )
 
@@ -87,6 +88,9 @@ module _ (qs : List ℕ) where
           at (inl k) = ((rw k), rw (eqb-true q p k) e)
           at (inr k) = let l = ih k in (or-true-right (eqb q p) (elem q ps) (l .0), l .1)
 
+  pub without-none : (ps : List ℕ) (q : ℕ) → elem q qs ≡ true → elem q (without qs ps) ≡ false
+  without-none ps q m = refuted (elem q (without qs ps)) (λ k. true≢false (sym m ∙ without-out ps q k .1))
+
   pub without-distinct : (ps : List ℕ) → Distinct ps → Distinct (without qs ps)
   unfolding without
   without-distinct [] d = tt
@@ -101,14 +105,10 @@ module _ (qs : List ℕ) where
   pub without-length : (ps : List ℕ) → Distinct ps → Distinct qs → Within qs ps → length qs + length (without qs ps) ≡ length ps
   without-length ps d e w =
       sym (length-append qs (without qs ps))
-      ∙ length-same (qs ++ without qs ps) ps (distinct-append qs (without qs ps) e (without-distinct ps d) (λ q m. apart q m (bool-cases (elem q (without qs ps))))) d
+      ∙ length-same (qs ++ without qs ps) ps (distinct-append qs (without qs ps) e (without-distinct ps d) (without-none ps)) d
       (λ q m. into q (or-cases (elem q qs) (elem q (without qs ps)) (sym (elem-append q qs (without qs ps)) ∙ m)))
       (λ q m. elem-append q qs (without qs ps) ∙ back q m (bool-cases (elem q qs)))
     where
-      apart : (q : ℕ) → elem q qs ≡ true → (elem q (without qs ps) ≡ true) ⊎ (elem q (without qs ps) ≡ false) → elem q (without qs ps) ≡ false
-      apart q m (inl k) = absurd (true≢false (sym m ∙ without-out ps q k .1))
-      apart q m (inr k) = k
-
       into : (q : ℕ) → (elem q qs ≡ true) ⊎ (elem q (without qs ps) ≡ true) → elem q ps ≡ true
       into q (inl m) = w q m
       into q (inr m) = without-out ps q m .0

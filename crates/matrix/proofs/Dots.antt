@@ -1,15 +1,17 @@
 -- Laws of the product of two vectors (`dotV`) over the places below n. Assumes nothing.
-use mathlib.Core.Path.{_≡_, refl, sym, ap, ap₂, _∙_}
+use mathlib.Core.Path.{_≡_, refl, sym, ap, ap₂, _∙_, fun-ext}
 use mathlib.Core.Bool.{Bool, true, false}
 use Prim.Native.Nat.{ℕ, zero, suc, _+_, _-_, _≤_, _<_}
 use native.Mathlib.Nat.{add-zero, add-suc}
 use native.Mathlib.Omega.{arith}
 use borrow.Author.Tests.{eqb-true, eqb-false, eq-eqb, ne-eqb}
 use lib.Dec.{eqb}
-use Rattle.trits.specs.Trit.{Trit, t0, t1, addT, subT, mulT, putV, dotV}
-use Rattle.trits.proofs.Arithmetic.{add-zero-r, add-comm, add-assoc, mul-comm, mul-add}
-use Rattle.matrix.specs.Linear.{Vector, Matrix, zeros}
-use Rattle.matrix.proofs.Field.{add-left-comm, mul-zero, mul-left-comm, ring}
+use Rattle.trits.specs.Trit.{Trit, t0, t1, addT, subT, mulT, putV, upTo, dotV}
+use Rattle.trits.proofs.Arithmetic.{add-zero-r, add-comm, add-assoc, mul-comm, mul-add, mul-zero}
+use Rattle.trits.proofs.Products.{dot-zero}
+use Rattle.trits.proofs.Ends.{upto-in}
+use Rattle.matrix.specs.Linear.{Vector, Matrix, zeros, times}
+use Rattle.matrix.proofs.Field.{add-left-comm, mul-left-comm, ring}
 
 pub put-same : (w : Vector) (p : ℕ) (x : Trit) → putV w p x p ≡ x
 put-same w p x = rw (eq-eqb p p refl)
@@ -29,13 +31,12 @@ dot-left n u u′ v h = dot-cong n u v u′ v (λ i k. ap (λ (x : Trit). mulT x
 pub dot-right : (n : ℕ) (u v v′ : Vector) → ((i : ℕ) → i < n → v i ≡ v′ i) → dotV u v n ≡ dotV u v′ n
 dot-right n u v v′ h = dot-cong n u v u v′ (λ i k. ap (mulT (u i)) (h i k))
 
+-- no trit past the places counts
+pub times-upto : (n : ℕ) (H : Matrix) (x : Vector) → times n H (upTo n x) ≡ times n H x
+times-upto n H x = fun-ext (λ i. dot-right n (H i) (upTo n x) x (λ q h. upto-in x n q h))
+
 pub dot-comm : (n : ℕ) (u v : Vector) → dotV u v n ≡ dotV v u n
 dot-comm n u v = dot-cong n u v v u (λ i h. mul-comm (u i) (v i))
-
-pub dot-zero : (n : ℕ) (u v : Vector) → ((i : ℕ) → i < n → mulT (u i) (v i) ≡ t0) → dotV u v n ≡ t0
-unfolding dotV
-dot-zero zero u v h = refl
-dot-zero (suc n) u v h = ap₂ addT (dot-zero n u v (λ i k. h i (omega arith))) (h n (omega arith))
 
 pub dot-zeros : (n : ℕ) (u : Vector) → dotV u zeros n ≡ t0
 dot-zeros n u = dot-zero n u zeros (λ i h. mul-zero (u i))

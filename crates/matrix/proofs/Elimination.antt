@@ -11,11 +11,12 @@ use lib.Dec.{eqb, ltb}
 use lib.ListN.{length, getD, length-append, List·getD-append}
 use lib.Seq.{getD-append-seam}
 use Rattle.trits.specs.Trit.{Trit, t0, t1, addT, subT, mulT, putV, isSet}
-use Rattle.trits.proofs.Arithmetic.{add-zero-r, mul-assoc, add-neg}
+use Rattle.trits.proofs.Arithmetic.{add-zero-r, mul-assoc, add-neg, mul-zero}
+use Rattle.trits.proofs.Products.{dot-zero}
 use Rattle.matrix.specs.Linear.{Vector, zeros, Matrix, column, times, elem, fill, solve, inSpan}
 use Rattle.matrix.specs.Steps.{swapRows, clearRows}
-use Rattle.matrix.proofs.Field.{mul-zero, mul-one, square, set-not, add-sub, sub-add, mul-left-comm}
-use Rattle.matrix.proofs.Dots.{put-other, dot-cong, dot-left, dot-right, dot-zero, dot-mul, dot-add, dot-less, dot-unit}
+use Rattle.matrix.proofs.Field.{mul-one, square, set-not, add-sub, sub-add, mul-left-comm}
+use Rattle.matrix.proofs.Dots.{put-other, dot-cong, dot-left, dot-right, dot-mul, dot-add, dot-less, dot-unit}
 use Rattle.matrix.proofs.Places.{Below, picked, times-places, times-fill, fill-at, fill-off, elem-at}
 use Rattle.matrix.proofs.Search.{Spans, inSpan-iff}
 use Rattle.matrix.proofs.Greedy.{Kept, bool-cases, times-unit}

@@ -5,7 +5,7 @@ use mathlib.Core.Logic.{_⊎_, inl, inr}
 use native.Mathlib.Omega.{arith}
 use lib.Dec.{T}
 use Rattle.trits.specs.Trit.{Trit, number, t0, t1, t2, addT, negT, mulT, subT, isSet}
-use Rattle.trits.proofs.Arithmetic.{at, every, eqT, law1, law2, law3, add-zero-r, add-comm, add-assoc, mul-comm, mul-assoc, mul-add}
+use Rattle.trits.proofs.Arithmetic.{at, every, eqT, law1, law2, law3, add-zero-r, add-comm, add-assoc, mul-comm, mul-assoc, mul-add, mul-zero}
 
 -- an equation in four trits
 pub law4 : (f g : Trit → Trit → Trit → Trit → Trit) → T (every (λ a. every (λ x. every (λ y. every (λ z. eqT (f a x y z) (g a x y z)))))) → (a x y z : Trit) → f a x y z ≡ g a x y z
@@ -30,6 +30,11 @@ pub not-false : (b : Bool) → not b ≡ false → b ≡ true
 not-false true e = refl
 not-false false e = absurd (true≢false e)
 
+-- a test that cannot be passed
+pub refuted : (b : Bool) → (b ≡ true → ⊥) → b ≡ false
+refuted true f = absurd (f refl)
+refuted false f = refl
+
 pub add-left-comm : (x y z : Trit) → addT x (addT y z) ≡ addT y (addT x z)
 add-left-comm = law3 (λ x y z. addT x (addT y z)) (λ x y z. addT y (addT x z)) tt
 
@@ -38,9 +43,6 @@ neg-neg = law1 (λ x. negT (negT x)) (λ x. x) tt
 
 pub neg-add : (x y : Trit) → negT (addT x y) ≡ addT (negT x) (negT y)
 neg-add = law2 (λ x y. negT (addT x y)) (λ x y. addT (negT x) (negT y)) tt
-
-pub mul-zero : (x : Trit) → mulT x t0 ≡ t0
-mul-zero = law1 (λ x. mulT x t0) (λ x. t0) tt
 
 pub mul-one : (x : Trit) → mulT x t1 ≡ x
 mul-one = law1 (λ x. mulT x t1) (λ x. x) tt
@@ -99,15 +101,20 @@ number-unset t0 e = refl
 number-unset t1 e = absurd (omega arith)
 number-unset t2 e = absurd (omega arith)
 
+pub number-one : (x : Trit) → number x ≡ 1 → x ≡ t1
+number-one t0 e = absurd (omega arith)
+number-one t1 e = refl
+number-one t2 e = absurd (omega arith)
+
 pub number-two : (x : Trit) → number x ≡ 2 → x ≡ t2
 number-two t0 e = absurd (omega arith)
 number-two t1 e = absurd (omega arith)
 number-two t2 e = refl
 
-pub number-one : (x : Trit) → isSet x ≡ true → (number x ≡ 2 → ⊥) → x ≡ t1
-number-one t0 e f = absurd (true≢false (sym e))
-number-one t1 e f = refl
-number-one t2 e f = absurd (f refl)
+pub number-unit : (x : Trit) → isSet x ≡ true → (number x ≡ 2 → ⊥) → x ≡ t1
+number-unit t0 e f = absurd (true≢false (sym e))
+number-unit t1 e f = refl
+number-unit t2 e f = absurd (f refl)
 
 -- ---- sums of products
 

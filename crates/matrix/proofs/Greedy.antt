@@ -9,13 +9,14 @@ use borrow.Author.Tests.{eqb-true, eqb-false, ne-eqb}
 use lib.Dec.{eqb}
 use lib.ListN.{length, getD}
 use Rattle.trits.specs.Trit.{t0, t1, addT, negT, mulT, putV, isSet}
-use Rattle.trits.proofs.Arithmetic.{add-zero-r, mul-comm}
+use Rattle.trits.proofs.Arithmetic.{add-zero-r, mul-comm, mul-zero}
+use Rattle.trits.proofs.Products.{dot-zero}
 use Rattle.matrix.specs.Linear.{Vector, zeros, Matrix, column, times, elem, fill, inSpan, keep, pivots, rank}
 use Rattle.matrix.specs.Orders.{Distinct}
-use Rattle.matrix.proofs.Field.{mul-zero, mul-one, square, solved, zero-or}
-use Rattle.matrix.proofs.Dots.{put-same, put-other, dot-zero, dot-put, dot-add, dot-mul}
+use Rattle.matrix.proofs.Field.{mul-one, square, solved, zero-or, refuted}
+use Rattle.matrix.proofs.Dots.{put-same, put-other, dot-put, dot-add, dot-mul}
 use Rattle.matrix.proofs.Dimension.{Injective, injective-few, injective-reaches, reaches-many}
-use Rattle.matrix.proofs.Places.{Below, Supported, or-false-left, or-false-right, or-true-right, or-cases, or-none, elem-append, elem-here, picked, times-places, times-fill, fill-at, fill-off}
+use Rattle.matrix.proofs.Places.{Below, Supported, or-false-left, or-false-right, or-true-right, or-cases, false-or-false, elem-append, elem-here, picked, times-places, times-fill, fill-at, fill-off}
 use Rattle.matrix.proofs.Search.{Spans, inSpan-iff}
 
 pub bool-cases : (b : Bool) → (b ≡ true) ⊎ (b ≡ false)
@@ -47,7 +48,7 @@ pub record Kept (r n : ℕ) (H : Matrix) (ps : List ℕ) : Type 0 where
 distinct-snoc : (ps : List ℕ) (p : ℕ) → Distinct ps → elem p ps ≡ false → Distinct (ps ++ (p ∷ []))
 distinct-snoc [] p d e = (refl, tt)
 distinct-snoc (q ∷ ps) p d e = (
-  elem-append q ps (p ∷ []) ∙ or-none (elem q ps) (elem q (p ∷ [])) (d .0) (or-none (eqb q p) false (ne-eqb q p (λ z. eqb-false p q (or-false-left (eqb p q) (elem p ps) e) (sym z))) refl),
+  elem-append q ps (p ∷ []) ∙ false-or-false (elem q ps) (elem q (p ∷ [])) (d .0) (false-or-false (eqb q p) false (ne-eqb q p (λ z. eqb-false p q (or-false-left (eqb p q) (elem p ps) e) (sym z))) refl),
   distinct-snoc ps p (d .1) (or-false-right (eqb p q) (elem p ps) e),
 )
 
@@ -64,7 +65,7 @@ module _ (r n : ℕ) (H : Matrix) where
     where
       go : (t : Bool) → eqb q p ≡ t → putV w p t0 q ≡ t0
       go true k = rw k
-      go false k = put-other w p t0 q (eqb-false q p k) ∙ z q (elem-append q kept (p ∷ []) ∙ or-none (elem q kept) (elem q (p ∷ [])) e (or-none (eqb q p) false k refl))
+      go false k = put-other w p t0 q (eqb-false q p k) ∙ z q (elem-append q kept (p ∷ []) ∙ false-or-false (elem q kept) (elem q (p ∷ [])) e (false-or-false (eqb q p) false k refl))
 
   pub grow : (kept : List ℕ) (p : ℕ) → p < n → Kept r n H kept → inSpan r n H kept (column H p) ≡ false → Kept r n H (kept ++ (p ∷ []))
   grow kept p h k e =
@@ -175,8 +176,8 @@ module _ (r n : ℕ) (H : Matrix) where
               at q m true k = rw k
               at q m false k =
                   put-other w p t0 q (eqb-false q p k)
-                  ∙ z q (elem-append q kept (p ∷ ps) ∙ or-none (elem q kept) (elem q (p ∷ ps)) (or-false-left (elem q kept) (elem q ps) m)
-                  (or-none (eqb q p) (elem q ps) k (or-false-right (elem q kept) (elem q ps) m)))
+                  ∙ z q (elem-append q kept (p ∷ ps) ∙ false-or-false (elem q kept) (elem q (p ∷ ps)) (or-false-left (elem q kept) (elem q ps) m)
+                  (false-or-false (eqb q p) (elem q ps) k (or-false-right (elem q kept) (elem q ps) m)))
       go ih (inr e) =
           let t = ih (kept ++ (p ∷ [])) rest w (rw append-assoc z) in
           (t .0, (rw (keep-out kept p ps e) (t .1)), t .2)
@@ -213,11 +214,7 @@ module _ (r n : ℕ) (H : Matrix) where
 
   -- more places reach more
   pub spans-mono : (ps qs : List ℕ) (v : Vector) → ((q : ℕ) → elem q ps ≡ true → elem q qs ≡ true) → Spans r n H ps v → Spans r n H qs v
-  spans-mono ps qs v f s = (s .0, (λ q m. s .1 q (off q m (bool-cases (elem q ps)))), s .2)
-    where
-      off : (q : ℕ) → elem q qs ≡ false → (elem q ps ≡ true) ⊎ (elem q ps ≡ false) → elem q ps ≡ false
-      off q m (inl e) = absurd (true≢false (sym (f q e) ∙ m))
-      off q m (inr e) = e
+  spans-mono ps qs v f s = (s .0, (λ q m. s .1 q (refuted (elem q ps) (λ e. true≢false (sym (f q e) ∙ m)))), s .2)
 
   -- the rank is full exactly when everything is reached; the right side does not speak of an order
   pub rank-iff : (ps : List ℕ) → Below n ps → (rank r n H ps ≡ r) ↔ ((v : Vector) → Spans r n H ps v)

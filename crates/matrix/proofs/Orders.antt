@@ -1,5 +1,5 @@
 -- An order of n places: a list of n of them in which each place below n stands. Assumes nothing.
-use mathlib.Core.Path.{_≡_, refl, sym, ap, _∙_}
+use mathlib.Core.Path.{_≡_, refl, sym, ap, _∙_, subst}
 use mathlib.Core.Bool.{Bool, true, false, cond, not, true≢false, and-eq-true-iff}
 use mathlib.Core.Logic.{_⊎_, inl, inr}
 use mathlib.Core.List.{List, [], _∷_}
@@ -13,7 +13,7 @@ use Rattle.trits.proofs.Tests.{any-none, none-any}
 use Rattle.matrix.specs.Linear.{Vector, elem}
 use Rattle.matrix.specs.Orders.{Distinct, Order, isOrder}
 use Rattle.matrix.proofs.Field.{not-true, not-false}
-use Rattle.matrix.proofs.Places.{Below, or-false-right, or-true-right, or-cases, elem-at, dot-places}
+use Rattle.matrix.proofs.Places.{Below, or-false-right, or-true-right, or-cases, elem-at, dot-places, elem-past}
 
 abbrev pub drop-one : ℕ → List ℕ → List ℕ
 drop-one q [] = []
@@ -53,24 +53,21 @@ distinct-back q (p ∷ ps) d h = go (distinct-back q ps) (eqb q p) refl
         fresh f true m = absurd (true≢false (sym (drop-one-other q p ps m (λ z. eqb-false q p e (sym z))) ∙ f))
         fresh f false m = m
 
+-- an order without its last place
+pub order-less : (n : ℕ) (ps : List ℕ) → Order (suc n) ps → Order n (drop-one n ps)
+order-less n ps o = record {
+  size = omega (arith, o .size, drop-one-length n ps (o .every n (omega arith)));
+  every = λ q h. drop-one-other n q ps (o .every q (omega arith)) (λ z. omega arith);
+}
+
 pub order-good : (n : ℕ) (ps : List ℕ) → Order n ps → Distinct ps × Below n ps
 order-good zero [] o = (tt, λ q h. absurd (true≢false (sym h)))
 order-good zero (p ∷ ps) o = absurd (omega (arith, o .size))
-order-good (suc n) ps o = go (order-good n (drop-one n ps) smaller)
+order-good (suc n) ps o = go (order-good n (drop-one n ps) (order-less n ps o))
   where
-    here : elem n ps ≡ true
-    here = o .every n (omega arith)
-
-    smaller : Order n (drop-one n ps)
-    smaller = record { size = omega (arith, o .size, drop-one-length n ps here); every = λ q h. drop-one-other n q ps (o .every q (omega arith)) (λ z. omega arith) }
-
     go : Distinct (drop-one n ps) × Below n (drop-one n ps) → Distinct ps × Below (suc n) ps
-    go (d, b) = (distinct-back n ps d (gone (elem n (drop-one n ps)) refl), λ q m. low q m (eqb q n) refl)
+    go (d, b) = (distinct-back n ps d (elem-past n (drop-one n ps) n b (omega arith)), λ q m. low q m (eqb q n) refl)
       where
-        gone : (t : Bool) → elem n (drop-one n ps) ≡ t → elem n (drop-one n ps) ≡ false
-        gone true m = absurd (omega (arith, b n m))
-        gone false m = m
-
         low : (q : ℕ) → elem q ps ≡ true → (t : Bool) → eqb q n ≡ t → q < suc n
         low q m true e = omega (arith, eqb-true q n e)
         low q m false e = omega (arith, b q (drop-one-other n q ps m (eqb-false q n e)))
@@ -106,3 +103,10 @@ pub test-order : (n : ℕ) (ps : List ℕ) → Order n ps → isOrder n ps ≡ t
 unfolding isOrder
 test-order n ps o =
     and-eq-true-iff (eqb (length ps) n) (not (anyTo (λ q. not (elem q ps)) n)) .1 (eq-eqb (length ps) n (o .size), ap not (none-any n (λ q. not (elem q ps)) (λ q l. ap not (o .every q l))))
+
+-- an order is one of as many places as it has
+pub order-own : {n : ℕ} {l : List ℕ} → Order n l → Order (length l) l
+order-own {l = l} o = subst (λ (m : ℕ). Order m l) (sym (o .size)) o
+
+pub place-below : (order : List ℕ) (n i : ℕ) → Order n order → i < length order → getD order i 0 < n
+place-below order n i o h = order-good n order o .1 (getD order i 0) (elem-at order i h)

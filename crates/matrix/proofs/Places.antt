@@ -1,18 +1,20 @@
 -- Lists of places, and vectors that are 0 off a list. Assumes nothing.
-use mathlib.Core.Path.{_≡_, refl, sym, ap, _∙_}
+use mathlib.Core.Path.{_≡_, refl, sym, ap, ap₂, _∙_}
 use mathlib.Core.Bool.{Bool, true, false, _||_, true≢false}
 use mathlib.Core.Logic.{_⊎_, inl, inr}
 use mathlib.Core.List.{List, [], _∷_, _++_}
-use Prim.Native.Nat.{ℕ, zero, suc, _+_, _<_}
+use Prim.Native.Nat.{ℕ, zero, suc, _+_, _≤_, _<_}
 use native.Mathlib.Omega.{arith}
 use borrow.Author.Tests.{eqb-true, eqb-false, eq-eqb}
 use lib.Dec.{eqb}
 use lib.ListN.{length, getD}
-use Rattle.trits.specs.Trit.{t0, addT, mulT, putV, dotV}
+use Rattle.trits.specs.Trit.{Trit, t0, addT, mulT, putV, dotV}
+use Rattle.trits.proofs.Arithmetic.{mul-zero}
+use Rattle.trits.proofs.Products.{dot-zero}
 use Rattle.matrix.specs.Linear.{Vector, zeros, Matrix, times, elem, fill}
 use Rattle.matrix.specs.Orders.{Distinct}
-use Rattle.matrix.proofs.Dots.{put-same, put-other, dot-right, dot-zero, dot-put, dot-first}
-use Rattle.matrix.proofs.Field.{mul-zero}
+use Rattle.matrix.proofs.Dots.{put-same, put-other, dot-right, dot-put, dot-first}
+use Rattle.matrix.proofs.Field.{refuted}
 
 abbrev pub Below : ℕ → List ℕ → Type 0
 Below n ps = (q : ℕ) → elem q ps ≡ true → q < n
@@ -36,8 +38,8 @@ pub or-cases : (a b : Bool) → (a || b) ≡ true → (a ≡ true) ⊎ (b ≡ tr
 or-cases true b h = inl refl
 or-cases false b h = inr h
 
-pub or-none : (a b : Bool) → a ≡ false → b ≡ false → (a || b) ≡ false
-or-none a b h k = rw (h, k)
+pub false-or-false : (a b : Bool) → a ≡ false → b ≡ false → (a || b) ≡ false
+false-or-false a b h k = rw (h, k)
 
 pub elem-append : (q : ℕ) (xs ys : List ℕ) → elem q (xs ++ ys) ≡ (elem q xs || elem q ys)
 elem-append q [] ys = refl
@@ -58,6 +60,10 @@ elem-at (p ∷ ps) (suc j) h = or-true-right (eqb (getD ps j 0) p) (elem (getD p
 pub not-elem-at : (ps : List ℕ) (p j : ℕ) → elem p ps ≡ false → j < length ps → getD ps j 0 ≡ p → ⊥
 not-elem-at ps p j h k e = true≢false (sym (rw e at (elem-at ps j k)) ∙ h)
 
+-- a place past n is none of those below it
+pub elem-past : (n : ℕ) (ps : List ℕ) (q : ℕ) → Below n ps → n ≤ q → elem q ps ≡ false
+elem-past n ps q b h = refuted (elem q ps) (λ m. omega (arith, b q m))
+
 -- the product with a vector that is 0 off the list
 pub dot-places : (n : ℕ) (ps : List ℕ) (u v : Vector) → Distinct ps → Below n ps → ((q : ℕ) → q < n → elem q ps ≡ false → v q ≡ t0)
     → dotV u v n ≡ dotV (λ j. u (getD ps j 0)) (λ j. v (getD ps j 0)) (length ps)
@@ -74,7 +80,7 @@ dot-places n (p ∷ ps) u v d b z =
       where
         go : (t : Bool) → eqb q p ≡ t → putV v p t0 q ≡ t0
         go true k = rw (eqb-true q p k) (put-same v p t0)
-        go false k = put-other v p t0 q (eqb-false q p k) ∙ z q h (or-none (eqb q p) (elem q ps) k e)
+        go false k = put-other v p t0 q (eqb-false q p k) ∙ z q h (false-or-false (eqb q p) (elem q ps) k e)
 
 pub fill-at : (ps : List ℕ) (v w : Vector) (j : ℕ) → Distinct ps → j < length ps → fill ps v w (getD ps j 0) ≡ v j
 unfolding fill
@@ -90,6 +96,13 @@ fill-off [] v w q h = refl
 fill-off (p ∷ ps) v w q h =
     put-other (fill ps (λ j. v (suc j)) w) p (v 0) q (eqb-false q p (or-false-left (eqb q p) (elem q ps) h))
     ∙ fill-off ps (λ j. v (suc j)) w q (or-false-right (eqb q p) (elem q ps) h)
+
+-- no value past the places counts
+pub fill-same : (ps : List ℕ) (u v w : Vector) → ((j : ℕ) → j < length ps → u j ≡ v j) → fill ps u w ≡ fill ps v w
+unfolding fill
+fill-same [] u v w h = refl
+fill-same (p ∷ ps) u v w h =
+    ap₂ (λ (f : Vector) (x : Trit). putV f p x) (fill-same ps (λ j. u (suc j)) (λ j. v (suc j)) w (λ j l. h (suc j) (omega arith))) (h 0 (omega arith))
 
 -- the columns at the places listed
 abbrev pub picked : Matrix → List ℕ → Matrix

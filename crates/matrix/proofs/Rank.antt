@@ -12,9 +12,11 @@ use lib.Dec.{leb}
 use lib.ListN.{length, getD}
 use Rattle.trits.specs.Trit.{t0, mulT, dotV, upTo}
 use Rattle.trits.proofs.Ends.{upto-in, upto-out}
+use Rattle.trits.proofs.Arithmetic.{mul-zero}
+use Rattle.trits.proofs.Products.{dot-zero}
 use Rattle.matrix.specs.Linear.{Vector, Matrix, zeros, column, times, elem, solve, orZeros, pivots, rank, range}
-use Rattle.matrix.proofs.Field.{mul-zero, set-not}
-use Rattle.matrix.proofs.Dots.{dot-left, dot-right, dot-zero, dot-swap}
+use Rattle.matrix.proofs.Field.{set-not}
+use Rattle.matrix.proofs.Dots.{dot-left, dot-right, dot-swap}
 use Rattle.matrix.proofs.Dimension.{Reaches, dependent}
 use Rattle.matrix.proofs.Places.{Below, picked, times-places, elem-at}
 use Rattle.matrix.proofs.Search.{Spans, solve-sound, solve-complete}

@@ -13,7 +13,7 @@ use Rattle.trits.proofs.Tests.{any-none, none-any}
 use Rattle.matrix.specs.Linear.{Vector, zeros, agree, Matrix, times, elem, find, orElse, found, solve, inSpan}
 use Rattle.matrix.proofs.Field.{not-true, sub-zero-eq, unset-zero}
 use Rattle.matrix.proofs.Dots.{put-same, put-other}
-use Rattle.matrix.proofs.Places.{Supported, or-false-left, or-false-right, or-none}
+use Rattle.matrix.proofs.Places.{Supported, or-false-left, or-false-right, false-or-false}
 
 pub agree-eq : (r : ℕ) (u v : Vector) → agree r u v ≡ true → (i : ℕ) → i < r → u i ≡ v i
 unfolding agree
@@ -68,7 +68,7 @@ off-put ps u w p h q e = go (eqb q p) refl
   where
     go : (t : Bool) → eqb q p ≡ t → u q ≡ putV w p (u p) q
     go true k = rw (eqb-true q p k) (sym (put-same w p (u p)))
-    go false k = h q (or-none (eqb q p) (elem q ps) k e) ∙ sym (put-other w p (u p) q (eqb-false q p k))
+    go false k = h q (false-or-false (eqb q p) (elem q ps) k e) ∙ sym (put-other w p (u p) q (eqb-false q p k))
 
 pub find-complete : (test : Vector → Bool) (ps : List ℕ) (w u : Vector) → test u ≡ true → Off ps u w → found (find test ps w) ≡ true
 unfolding find

@@ -104,3 +104,19 @@ module _ (r at q : ℕ) (A : Matrix) where
       by : (t : Bool) → hasPivot r at q A ≡ t → cond (hasPivot r at q A) (suc at) at ≤ r
       by true e = rw e (let f = has-row e in omega (arith, f .0, f .1))
       by false e = rw e h
+
+-- ---- what a test chose
+
+module _ {A : Type 0} {b : Bool} (x y : A) where
+  pub pick-first : b ≡ true → x ≡ cond b x y
+  pick-first e = rw e
+
+  pub pick-second : b ≡ false → y ≡ cond b x y
+  pick-second e = rw e
+
+-- a count that one column raised, or left
+pub yes-count : {b : Bool} (n : ℕ) → b ≡ true → n + 1 ≡ cond b (suc n) n
+yes-count n e = add-one n ∙ pick-first (suc n) n e
+
+pub no-count : {b : Bool} (n : ℕ) → b ≡ false → n ≡ cond b (suc n) n
+no-count n e = pick-second (suc n) n e

@@ -8,19 +8,15 @@ use borrow.Author.Tests.{eqb-true}
 use lib.Dec.{eqb}
 use lib.ListN.{length, getD}
 use Rattle.trits.specs.Trit.{nonZero, sumTo, weightV}
+use Rattle.trits.proofs.Counts.{sum-first}
 use Rattle.matrix.specs.Linear.{Vector, elem}
 use Rattle.matrix.specs.Orders.{Order}
-use Rattle.matrix.proofs.Orders.{drop-one, drop-one-length, drop-one-other}
+use Rattle.matrix.proofs.Orders.{drop-one, order-less}
 
 -- f at the places listed, added up
 abbrev listed : (ℕ → ℕ) → List ℕ → ℕ
 listed f [] = 0
 listed f (p ∷ ps) = f p + listed f ps
-
-sum-first : (k : ℕ) (f : ℕ → ℕ) → sumTo f (suc k) ≡ f 0 + sumTo (λ i. f (suc i)) k
-unfolding sumTo
-sum-first zero f = omega arith
-sum-first (suc k) f = omega (arith, sum-first k f)
 
 listed-sum : (f : ℕ → ℕ) (ps : List ℕ) → sumTo (λ j. f (getD ps j 0)) (length ps) ≡ listed f ps
 unfolding sumTo
@@ -40,13 +36,8 @@ order-listed : (f : ℕ → ℕ) (n : ℕ) (ps : List ℕ) → Order n ps → su
 unfolding sumTo
 order-listed f zero [] o = refl
 order-listed f zero (p ∷ ps) o = absurd (omega (arith, o .size))
-order-listed f (suc n) ps o = ap (λ (k : ℕ). k + f n) (order-listed f n (drop-one n ps) smaller) ∙ sym (listed-drop f n ps here)
-  where
-    here : elem n ps ≡ true
-    here = o .every n (omega arith)
-
-    smaller : Order n (drop-one n ps)
-    smaller = record { size = omega (arith, o .size, drop-one-length n ps here); every = λ q h. drop-one-other n q ps (o .every q (omega arith)) (λ z. omega arith) }
+order-listed f (suc n) ps o =
+    ap (λ (k : ℕ). k + f n) (order-listed f n (drop-one n ps) (order-less n ps o)) ∙ sym (listed-drop f n ps (o .every n (omega arith)))
 
 pub sum-order : (f : ℕ → ℕ) (n : ℕ) (ps : List ℕ) → Order n ps → sumTo (λ j. f (getD ps j 0)) n ≡ sumTo f n
 sum-order f n ps o = ap (sumTo (λ j. f (getD ps j 0))) (sym (o .size)) ∙ listed-sum f ps ∙ sym (order-listed f n ps o)

@@ -10,11 +10,10 @@ use lib.Dec.{eqb, ltb}
 use lib.ListN.{length, getD, take, set, length-set}
 use lib.Seq.{getD-set-same, getD-set-other, getD-take, take-suc, take-set-le, length-take-le}
 use Rattle.trits.specs.Trit.{t0, addT, mulT, isSet, dotV}
-use Rattle.trits.proofs.Arithmetic.{mul-comm}
+use Rattle.trits.proofs.Arithmetic.{mul-comm, mul-zero}
 use Rattle.matrix.specs.Linear.{Vector, Matrix, zeros, column, times, elem, fill, inSpan, orZeros}
 use Rattle.matrix.specs.Orders.{Order}
 use Rattle.matrix.specs.Steps.{swapRows, clearRows}
-use Rattle.matrix.proofs.Field.{mul-zero}
 use Rattle.matrix.proofs.Dots.{dot-add, dot-mul, dot-zeros, dot-cong}
 use Rattle.matrix.proofs.Dimension.{Reaches}
 use Rattle.matrix.proofs.Places.{elem-append, elem-at, fill-at, times-places}

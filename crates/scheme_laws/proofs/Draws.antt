@@ -1,7 +1,7 @@
 -- What a draw solves: the pivots' values, the pairs of its last part, and what it has passed when it releases. Assumes nothing.
 use mathlib.Core.Path.{_≡_, sym, ap, _∙_, subst}
 use mathlib.Core.Bool.{true, false, true≢false, and-eq-true-iff}
-use mathlib.Core.Logic.{_⊎_, inl, inr}
+use mathlib.Core.Logic.{_⊎_}
 use mathlib.Core.List.{List}
 use Prim.Native.Nat.{ℕ, _+_, _-_, _<_}
 use native.Mathlib.Omega.{arith}
@@ -14,12 +14,13 @@ use Rattle.matrix.specs.Linear.{Vector, Matrix, zeros, times, elem, orZeros, fi
 use Rattle.matrix.specs.Orders.{Distinct, Order, isOrder}
 use Rattle.matrix.proofs.Places.{Below, elem-append, fill-at, fill-off, or-cases, or-true-right}
 use Rattle.matrix.proofs.Search.{Off}
-use Rattle.matrix.proofs.Greedy.{Kept, bool-cases, pivots-kept, pivots-elem}
+use Rattle.matrix.proofs.Greedy.{Kept, pivots-kept, pivots-elem}
 use Rattle.matrix.proofs.Orders.{order-good, elem-index, order-test, test-order}
-use Rattle.matrix.proofs.Counts.{Within, Disjoint, distinct-parts, without-out}
+use Rattle.matrix.proofs.Counts.{Within, Disjoint, distinct-parts, without-none}
 use Rattle.matrix.proofs.Solutions.{solve-exists}
 use Rattle.matrix.proofs.Elimination.{Reduced}
 use Rattle.matrix.proofs.Values.{solve-by-rows}
+use Rattle.matrix.proofs.Field.{refuted}
 use Rattle.scheme.specs.declared.sizes.Sizes.{Sizes}
 use Rattle.scheme.specs.Sizes.{half, places, ru, rv, gapV, gapU}
 use Rattle.scheme.specs.Secret.{Secret, leftOf, rightOf}
@@ -133,15 +134,11 @@ module _ (z : Sizes) (s : Secret) (ch : Choices) (va : Valid z ch) where
         let k = elem-index q (lastU z ch) m in (
           ch .valuesU (gapU z + k .0),
           va .values (k .0) (omega (arith, k .1, length-drop (ru z + gapU z) (ch .orderU), va .orderU .size, ra .ku-low)),
-          drawU-good full x eV .0 q (fresh (bool-cases (elem q (pivotsU z s ch))))
+          drawU-good full x eV .0 q (refuted (elem q (pivotsU z s ch)) (λ e. true≢false (sym m ∙ last-apart q e)))
               ∙ ap (suppliedU z s eV ch) (sym (k .2))
               ∙ fill-at (lastU z ch) (λ j. forced s eV (getD (lastU z ch) j 0) (ch .valuesU (gapU z + j))) _ (k .0) (parts (half z) (ru z + gapU z) (ch .orderU) (va .orderU) .1) (k .1)
               ∙ ap (λ (t : ℕ). forced s eV t (ch .valuesU (gapU z + k .0))) (k .2),
         )
-      where
-        fresh : (elem q (pivotsU z s ch) ≡ true) ⊎ (elem q (pivotsU z s ch) ≡ false) → elem q (pivotsU z s ch) ≡ false
-        fresh (inl e) = absurd (true≢false (sym m ∙ last-apart q e))
-        fresh (inr e) = e
 
     pub last-pair : (q : ℕ) → elem q (lastU z ch) ≡ true → (isSet (leftOf s (drawU z s x eV ch) eV q) ≡ true) × (isSet (rightOf s (drawU z s x eV ch) eV q) ≡ true)
     last-pair q m = let t = last-value q m in forced-pair s (drawU z s x eV ch) eV q (t .0) (unit q (last-below q m)) (t .1) (t .2)
@@ -150,11 +147,7 @@ module _ (z : Sizes) (s : Secret) (ch : Choices) (va : Valid z ch) where
 
 -- the pivots are not among the other places
 skipped : (piv ps : List ℕ) (v w : Vector) (q : ℕ) → elem q piv ≡ true → fill (without piv ps) v w q ≡ w q
-skipped piv ps v w q m = fill-off (without piv ps) v w q (go (bool-cases (elem q (without piv ps))))
-  where
-    go : (elem q (without piv ps) ≡ true) ⊎ (elem q (without piv ps) ≡ false) → elem q (without piv ps) ≡ false
-    go (inl k) = absurd (true≢false (sym m ∙ without-out piv ps q k .1))
-    go (inr k) = k
+skipped piv ps v w q m = fill-off (without piv ps) v w q (without-none piv ps q m)
 
 module _ (z : Sizes) (s : Secret) (ch : Choices) (va : Valid z ch) where
   -- with the matrix reduced at the pivots, the value at the pivot of row c is row c times x less what is supplied

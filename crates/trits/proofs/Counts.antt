@@ -20,12 +20,16 @@ unfolding sumTo
 sum-cong zero f g e = refl
 sum-cong (suc k) f g e = ap₂ (λ (x y : ℕ). x + y) (sum-cong k f g (λ i l. e i (omega arith))) (e k (le-refl (suc k)))
 
+-- vectors that agree below k
+pub weight-same : (k : ℕ) (u v : ℕ → Trit) → ((i : ℕ) → i < k → u i ≡ v i) → weightV u k ≡ weightV v k
+weight-same k u v h = sum-cong k (λ i. nonZero (u i)) (λ i. nonZero (v i)) (λ i l. ap nonZero (h i l))
+
 pub sum-add : (a k : ℕ) (f : ℕ → ℕ) → sumTo f (a + k) ≡ sumTo f a + sumTo (λ i. f (a + i)) k
 unfolding sumTo
 sum-add a zero f = ap (sumTo f) (add-zero a) ∙ sym (add-zero (sumTo f a))
 sum-add a (suc k) f = ap (sumTo f) (add-suc a k) ∙ omega (arith, sum-add a k f)
 
-sum-first : (k : ℕ) (f : ℕ → ℕ) → sumTo f (suc k) ≡ f 0 + sumTo (λ i. f (suc i)) k
+pub sum-first : (k : ℕ) (f : ℕ → ℕ) → sumTo f (suc k) ≡ f 0 + sumTo (λ i. f (suc i)) k
 unfolding sumTo
 sum-first zero f = omega arith
 sum-first (suc k) f = omega (arith, sum-first k f)

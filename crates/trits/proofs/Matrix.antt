@@ -3,7 +3,7 @@ use mathlib.Core.Path.{_≡_, sym, ap, ap₂, _∙_, subst}
 use mathlib.Core.Logic.{_⊎_, inl, inr, _≢_}
 use mathlib.Core.Bool.{Bool, false, not, _&&_, _||_, cond, and-false}
 use mathlib.Core.List.{List, []}
-use Prim.Native.Nat.{ℕ, _+_, _-_, _*_, _/_, _%_, _^_, _≤_, _<_}
+use Prim.Native.Nat.{ℕ, zero, suc, _+_, _-_, _*_, _/_, _%_, _^_, _≤_, _<_}
 use native.Mathlib.Nat.{mul-le-mul-right, suc-mul}
 use native.Mathlib.Decide.{decLt}
 use native.Mathlib.Numerals.{add-one}
@@ -14,11 +14,11 @@ use native.Mathlib.Omega.{arith}
 use borrow.Author.Tests.{eq-eqb, ne-eqb, lt-ltb, le-ltb}
 use borrow.Rule.Slice.PartMut.{midOf}
 use lib.Dec.{eqb, ltb}
-use lib.ListN.{length, getD, take, drop}
+use lib.ListN.{length, getD, take, drop, length-append}
 use lib.Seq.{take-all}
 use Rattle.trits.specs.Trit.{t0, anyTo}
 use Rattle.trits.specs.Planes.{tritAt, wordsFor, pastEnd, Row}
-use Rattle.trits.specs.Rows.{rowPart, matrixAt, rowsPastEnd}
+use Rattle.trits.specs.Rows.{rowsOf, rowPart, matrixAt, rowsPastEnd}
 use Rattle.trits.proofs.Reading.{read-past}
 use Rattle.trits.proofs.Parts.{length-mid, getD-mid, part-row, part-trit}
 use Rattle.trits.proofs.Tests.{none-any, nonzero-or, past-none, past-last}
@@ -36,6 +36,12 @@ rows-apart i j w f = by (decLt i j)
     by : Dec (i < j) → (i * w + w ≤ j * w) ⊎ (j * w + w ≤ i * w)
     by (yes l) = inl (row-le w l)
     by (no g) = let n : i ≢ j = f in inr (row-le w (omega arith))
+
+-- the words of k rows of w words each
+pub length-rows : (f : ℕ → List ℕ) (w : ℕ) → ((i : ℕ) → length (f i) ≡ w) → (k : ℕ) → length (rowsOf f k) ≡ k * w
+unfolding rowsOf
+length-rows f w s zero = omega arith
+length-rows f w s (suc k) = length-append (rowsOf f k) (f k) ∙ omega (arith, length-rows f w s k, s k, suc-mul k w)
 
 -- ---- the part that a row is
 

@@ -27,6 +27,12 @@ coded-number t0 = refl
 coded-number t1 = refl
 coded-number t2 = refl
 
+-- where every product is 0
+pub dot-zero : (n : ℕ) (u v : ℕ → Trit) → ((i : ℕ) → i < n → mulT (u i) (v i) ≡ t0) → dotV u v n ≡ t0
+unfolding dotV
+dot-zero zero u v h = refl
+dot-zero (suc n) u v h = ap₂ addT (dot-zero n u v (λ i k. h i (omega arith))) (h n (omega arith))
+
 pub dot-counts : (u v : ℕ → Trit) (m : ℕ) → tritOf (onesOfDot u v m + 2 * twosOfDot u v m) ≡ dotV u v m
 unfolding sumTo dotV
 dot-counts u v zero = refl

@@ -1,18 +1,24 @@
 -- Refusals: what a chain of tests that ended in 0 has shown, what a buffer is at exit, and which refusals leave the working space. Assumes nothing.
 use mathlib.Core.Path.{_≡_, refl, sym, ap, _∙_}
 use mathlib.Core.Bool.{Bool, true, false, cond}
+use mathlib.Core.Logic.{_≢_}
 use mathlib.Core.List.{List}
-use Prim.Native.Nat.{ℕ, _<_}
+use Prim.Native.Nat.{ℕ, _≤_, _<_}
 use native.Mathlib.Decide.{ℕ-discrete}
 use native.Mathlib.Omega.{arith}
 use borrow.Author.Tests.{eq-eqb, ne-eqb}
 use lib.Dec.{eqb, lit<}
-use lib.ListN.{length}
-use Rattle.trits.specs.Planes.{bothSet, zeroWords}
+use lib.ListN.{length, getD}
+use mir.Syntax.{w64}
+use mir.Val.{Fits}
+use Rattle.trits.specs.Trit.{t0}
+use Rattle.trits.specs.Planes.{tritAt, bothSet, wordsFor, zeroWords, Row}
 use Rattle.trits.specs.Rows.{rowsPastEnd}
 use Rattle.trits.specs.Refusal.{numberOf, refuse, demand, first, atExit, spaceStays, spaceExit, planesRefusal}
 use Rattle.trits.specs.declared.refusal.Refusal.{Refusal}
 use Rattle.trits.specs.declared.refusal.Refusal.the-variants.{Size, Length, BothPlanes, PastEnd, PackedByte, StreamEnd, NoPermutation, ZeroTrit, RankU, RankV, Line, FirstPartV, FirstPartU, Weight, NoKey, WholeKey, OtherKey}
+use Rattle.trits.proofs.Tests.{both-apart, past-zero}
+use Rattle.trits.proofs.Matrix.{one-row-past}
 
 -- ---- the number of a refusal is never 0
 
@@ -34,6 +40,10 @@ number-positive Weight = lit< tt
 number-positive NoKey = lit< tt
 number-positive WholeKey = lit< tt
 number-positive OtherKey = lit< tt
+
+-- a number that is not 0 is above it
+pub positive : {k : ℕ} → (k ≡ 0 → ⊥) → 0 < k
+positive {k} f = let n : k ≢ 0 = f in omega arith
 
 -- ---- one group of tests after another
 
@@ -74,6 +84,40 @@ planes-passed ones twos rows m e =
     let b = passed-refuse (rowsPastEnd ones twos rows m) 4 0 (lit< tt) (a .1) in
     (a .0, b .0)
 
+-- such planes can be read
+pub planes-row : {ones twos : List ℕ} (rows m : ℕ) → planesRefusal ones twos rows m ≡ 0 → length twos ≡ length ones
+    → ((j : ℕ) → Fits w64 (getD ones j 0)) → ((j : ℕ) → Fits w64 (getD twos j 0)) → Row ones twos
+planes-row {ones} {twos} rows m e l f g = record { same = l; apart = both-apart f g (planes-passed ones twos rows m e .0) }
+
+-- and one row of them is 0 past its length
+pub row-ended : (ones twos : List ℕ) (m : ℕ) → planesRefusal ones twos 1 m ≡ 0 → length ones ≡ wordsFor m → length twos ≡ wordsFor m
+    → (q : ℕ) → m ≤ q → tritAt ones twos q ≡ t0
+row-ended ones twos m e lo lt =
+    past-zero ones twos m (lt ∙ sym lo) (sym (one-row-past ones twos m lo lt) ∙ planes-passed ones twos 1 m e .1)
+
+-- ---- what is true of each refusal in a chain is true of what the chain tells
+
+module _ (P : ℕ → Type 0) where
+  pub refuse-all : (t : Bool) (k x : ℕ) → P k → P x → P (refuse t k x)
+  refuse-all true k x h g = h
+  refuse-all false k x h g = g
+
+  pub demand-all : (t : Bool) (k x : ℕ) → P k → P x → P (demand t k x)
+  demand-all true k x h g = g
+  demand-all false k x h g = h
+
+  pub first-all : (a b : ℕ) → P a → P b → P (first a b)
+  unfolding first
+  first-all a b h g = by (eqb a 0)
+    where
+      by : (t : Bool) → P (cond t b a)
+      by true = g
+      by false = h
+
+  pub planes-all : (ones twos : List ℕ) (rows m : ℕ) → P 3 → P 4 → P 0 → P (planesRefusal ones twos rows m)
+  unfolding planesRefusal
+  planes-all ones twos rows m h g z = refuse-all (bothSet ones twos) 3 _ h (refuse-all (rowsPastEnd ones twos rows m) 4 0 g z)
+
 -- ---- the state or a lent buffer at exit
 
 -- a refusal leaves it as it was
@@ -104,21 +148,30 @@ pub leaves-none : Leaves 0
 leaves-none = record { stays = λ f. absurd (f refl) }
 
 pub leaves-refuse : (t : Bool) (k x : ℕ) → spaceStays k ≡ true → Leaves x → Leaves (refuse t k x)
-leaves-refuse true k x h g = record { stays = λ f. h }
-leaves-refuse false k x h g = g
+leaves-refuse t k x h g = refuse-all Leaves t k x (record { stays = λ f. h }) g
 
 pub leaves-demand : (t : Bool) (k x : ℕ) → spaceStays k ≡ true → Leaves x → Leaves (demand t k x)
-leaves-demand true k x h g = g
-leaves-demand false k x h g = record { stays = λ f. h }
+leaves-demand t k x h g = demand-all Leaves t k x (record { stays = λ f. h }) g
 
 pub leaves-first : (a b : ℕ) → Leaves a → Leaves b → Leaves (first a b)
-unfolding first
-leaves-first a b h g = by (eqb a 0)
-  where
-    by : (t : Bool) → Leaves (cond t b a)
-    by true = g
-    by false = h
+leaves-first a b h g = first-all Leaves a b h g
 
 pub leaves-planes : (ones twos : List ℕ) (rows m : ℕ) → Leaves (planesRefusal ones twos rows m)
-unfolding planesRefusal
-leaves-planes ones twos rows m = leaves-refuse (bothSet ones twos) 3 _ refl (leaves-refuse (rowsPastEnd ones twos rows m) 4 0 refl leaves-none)
+leaves-planes ones twos rows m = planes-all Leaves ones twos rows m (record { stays = λ f. refl }) (record { stays = λ f. refl }) leaves-none
+
+-- the space after a call that a chain refused, told by k
+pub left-kept : (plane : List ℕ) {r k : ℕ} → k ≡ r → 0 < k → Leaves r → plane ≡ spaceExit r plane
+left-kept plane {r} e l h = space-kept plane {k = r} refl (h .stays (λ z. omega arith))
+
+-- a chain of tests after whose every end it is zero
+pub record Clears (r : ℕ) : Type 0 where
+  pub cleared : spaceStays r ≡ false
+
+pub clears-none : Clears 0
+clears-none = record { cleared = refl }
+
+pub clears-demand : (t : Bool) (k x : ℕ) → spaceStays k ≡ false → Clears x → Clears (demand t k x)
+clears-demand t k x h g = demand-all Clears t k x (record { cleared = h }) g
+
+pub left-cleared : (plane : List ℕ) {r : ℕ} → Clears r → zeroWords (length plane) ≡ spaceExit r plane
+left-cleared plane {r} h = space-zero plane {k = r} refl (h .cleared)

@@ -15,10 +15,10 @@ use lib.ListN.{length, getD, List·getD-eq-default}
 use lib.Dec.{eqb}
 use lib.Bits.{bitAnd, bitOr, and-lt, or-lt}
 use lib.Pow.{shr-lt, shr-shr, pow-pos}
-use Rattle.trits.specs.Trit.{t0, anyTo}
-use Rattle.trits.specs.Planes.{bit, trit, bitAt, tritAt, bothAt, eitherAt, bothSet, pastEnd, wordsFor, Apart}
+use Rattle.trits.specs.Trit.{Trit, t0, t1, t2, anyTo}
+use Rattle.trits.specs.Planes.{bit, trit, one, two, bitAt, tritAt, onesOf, twosOf, bothAt, eitherAt, bothSet, pastEnd, wordsFor, Apart}
 use Rattle.trits.proofs.Bits.{bit-and, bit-or, bit-lt, bit-none, bits-eq}
-use Rattle.trits.proofs.Reading.{bitAt-place, read-past}
+use Rattle.trits.proofs.Reading.{bitAt-place, read-past, ones-bit, twos-bit, length-ones, holds-reads}
 use Rattle.trits.proofs.WordOps.{no-bits}
 
 -- ---- whether a test holds at some place
@@ -34,16 +34,16 @@ any-add a zero p = ap (anyTo p) (add-zero a) ∙ sym (or-false (anyTo p a))
 any-add a (suc k) p =
     ap (anyTo p) (add-suc a k) ∙ ap (λ (x : Bool). x || p (a + k)) (any-add a k p) ∙ or-assoc (anyTo p a) (anyTo (λ i. p (a + i)) k) (p (a + k))
 
-or-both : (a b : Bool) → (a || b) ≡ false → (a ≡ false) × (b ≡ false)
-or-both true b e = absurd (true≢false e)
-or-both false b e = (refl, e)
+pub or-false-both : (a b : Bool) → (a || b) ≡ false → (a ≡ false) × (b ≡ false)
+or-false-both true b e = absurd (true≢false e)
+or-false-both false b e = (refl, e)
 
 -- it is false: p holds at no place below m
 pub any-none : (m : ℕ) (p : ℕ → Bool) → anyTo p m ≡ false → (i : ℕ) → i < m → p i ≡ false
 unfolding anyTo
 any-none zero p e i l = absurd (not-suc-le-zero l)
 any-none (suc m) p e i l =
-    let h = or-both (anyTo p m) (p m) e in
+    let h = or-false-both (anyTo p m) (p m) e in
     ⊎-elim (λ q. ap p q ∙ h .1) (λ q. any-none m p (h .0) i q) (eq-or-lt-of-le (le-of-suc-le-suc l))
 
 pub none-any : (m : ℕ) (p : ℕ → Bool) → ((i : ℕ) → i < m → p i ≡ false) → anyTo p m ≡ false
@@ -96,16 +96,16 @@ any-bit k x h = go (anyTo (λ i. eqb (bit i x) 1) k) refl
     go false e =
         e ∙ sym (ap not (eq-eqb x 0 (bits-eq k x 0 h (pow-pos k) (λ i l. bit-not-one i x (any-none k (λ i. eqb (bit i x) 1) e i l)))))
 
-or-none : (a b : ℕ) → a < 2 → b < 2 → bitOr a b ≡ 0 → a ≡ 0
-or-none zero b p q e = refl
-or-none (suc zero) zero p q e = absurd (omega arith)
-or-none (suc zero) (suc zero) p q e = absurd (omega arith)
-or-none (suc zero) (suc (suc b)) p q e = absurd (omega arith)
-or-none (suc (suc a)) b p q e = absurd (omega arith)
+or-bit-zero : (a b : ℕ) → a < 2 → b < 2 → bitOr a b ≡ 0 → a ≡ 0
+or-bit-zero zero b p q e = refl
+or-bit-zero (suc zero) zero p q e = absurd (omega arith)
+or-bit-zero (suc zero) (suc zero) p q e = absurd (omega arith)
+or-bit-zero (suc zero) (suc (suc b)) p q e = absurd (omega arith)
+or-bit-zero (suc (suc a)) b p q e = absurd (omega arith)
 
 -- words joined by `|` are 0 only where each is
 pub or-zero : (x y : ℕ) → bitOr x y ≡ 0 → x ≡ 0
-or-zero x y e = no-bits x (λ i. or-none (bit i x) (bit i y) (bit-lt i x) (bit-lt i y) (sym (bit-or i x y) ∙ ap (bit i) e ∙ bit-none i))
+or-zero x y e = no-bits x (λ i. or-bit-zero (bit i x) (bit i y) (bit-lt i x) (bit-lt i y) (sym (bit-or i x y) ∙ ap (bit i) e ∙ bit-none i))
 
 pub nonzero-or : (x y : ℕ) → not (eqb (bitOr x y) 0) ≡ (not (eqb x 0) || not (eqb y 0))
 nonzero-or x y = by (ℕ-discrete x 0)
@@ -235,3 +235,22 @@ unfolding pastEnd tritAt bitAt
 zero-past os ts m h =
     none-any (64 * length os - m) (λ k. eitherAt os ts (m + k)) (λ k l.
     zero-bit (bitAt os (m + k)) (bitAt ts (m + k)) (bit-lt ((m + k) % 64) _) (bit-lt ((m + k) % 64) _) (h (m + k) (omega arith)))
+
+-- ---- the planes of a vector pass
+
+never-both : (x : Trit) → (eqb (one x) 1 && eqb (two x) 1) ≡ false
+never-both t0 = refl
+never-both t1 = refl
+never-both t2 = refl
+
+pub written-both : (v : ℕ → Trit) (n : ℕ) → bothSet (onesOf v n) (twosOf v n) ≡ false
+unfolding bothSet
+written-both v n =
+    none-any (64 * length (onesOf v n)) (bothAt (onesOf v n) (twosOf v n)) (λ i b.
+    let c : i < 64 * n = omega (arith, length-ones v n) in
+    ap₂ (λ (x y : ℕ). eqb x 1 && eqb y 1) (ones-bit v n i c) (twos-bit v n i c) ∙ never-both (v i))
+
+pub written-past : (v : ℕ → Trit) (m n : ℕ) → ((i : ℕ) → m ≤ i → v i ≡ t0) → m ≤ 64 * n → pastEnd (onesOf v n) (twosOf v n) m ≡ false
+written-past v m n z l =
+    let r = holds-reads (onesOf v n) (twosOf v n) n v (λ j c. z j (omega arith)) (record { ones-are = refl; twos-are = refl }) in
+    zero-past (onesOf v n) (twosOf v n) m (λ i b. ap (λ (u : ℕ → Trit). u i) (r .trits) ∙ z i b)

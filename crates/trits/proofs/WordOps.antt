@@ -28,18 +28,18 @@ table f g h x y = eqb→eq (f x y) (g x y) (at (λ b. eqb (f x b) (g x b)) (at (
 abbrev pub carry : ℕ → ℕ → ℕ → ℕ → ℕ
 carry a b c d = bitXor (bitOr a d) (bitOr b c)
 
-abbrev pub sumOnes : ℕ → ℕ → ℕ → ℕ → ℕ
-sumOnes a b c d = bitXor (bitOr b d) (carry a b c d)
+abbrev pub addOnes : ℕ → ℕ → ℕ → ℕ → ℕ
+addOnes a b c d = bitXor (bitOr b d) (carry a b c d)
 
-abbrev pub sumTwos : ℕ → ℕ → ℕ → ℕ → ℕ
-sumTwos a b c d = bitXor (bitOr a c) (carry a b c d)
+abbrev pub addTwos : ℕ → ℕ → ℕ → ℕ → ℕ
+addTwos a b c d = bitXor (bitOr a c) (carry a b c d)
 
-pub add-op : WordOp sumOnes sumTwos addT
+pub add-op : WordOp addOnes addTwos addT
 add-op = record {
   ones-bit = λ i a b c d. simp (bit-xor, bit-or);
   twos-bit = λ i a b c d. simp (bit-xor, bit-or);
-  ones-table = table (λ x y. sumOnes (one x) (two x) (one y) (two y)) (λ x y. one (addT x y)) tt;
-  twos-table = table (λ x y. sumTwos (one x) (two x) (one y) (two y)) (λ x y. two (addT x y)) tt;
+  ones-table = table (λ x y. addOnes (one x) (two x) (one y) (two y)) (λ x y. one (addT x y)) tt;
+  twos-table = table (λ x y. addTwos (one x) (two x) (one y) (two y)) (λ x y. two (addT x y)) tt;
 }
 
 abbrev pub mulOnes : ℕ → ℕ → ℕ → ℕ → ℕ

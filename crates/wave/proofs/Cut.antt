@@ -1,17 +1,18 @@
 -- A draw looks at k_V of the V trits and at k_U of the U values: those past them may be 0, as they are in lent planes. Assumes nothing.
-use mathlib.Core.Path.{_≡_, refl, ap, ap₂, _∙_}
-use mathlib.Core.List.{List, [], _∷_}
-use Prim.Native.Nat.{ℕ, suc, _+_, _-_, _<_}
+use mathlib.Core.Path.{_≡_, ap, _∙_}
+use mathlib.Core.List.{List}
+use Prim.Native.Nat.{ℕ, _+_, _-_, _<_}
 use native.Mathlib.Omega.{arith}
 use lib.ListN.{length, getD, length-drop}
 use lib.Seq.{length-take-le}
-use Rattle.trits.specs.Trit.{Trit, isSet, nonZero, putV, upTo}
-use Rattle.trits.proofs.Counts.{sum-cong}
+use Rattle.trits.specs.Trit.{isSet, upTo}
+use Rattle.trits.proofs.Counts.{weight-same}
 use Rattle.trits.proofs.Ends.{upto-in}
 use Rattle.matrix.specs.Linear.{Vector, zeros, times, solve, orZeros, without, fill}
 use Rattle.matrix.proofs.Greedy.{pivots-elem}
 use Rattle.matrix.proofs.Orders.{order-good}
 use Rattle.matrix.proofs.Counts.{without-length}
+use Rattle.matrix.proofs.Places.{fill-same}
 use Rattle.scheme.specs.declared.sizes.Sizes.{Sizes}
 use Rattle.scheme.specs.Sizes.{half, places, ru, rv, codim, gapV, gapU}
 use Rattle.scheme.specs.Secret.{Secret, join, uOf, vOf, whole}
@@ -19,13 +20,6 @@ use Rattle.scheme.specs.Draw.{Choices, placed, firstV, pivotsV, suppliedV, draw
 use Rattle.scheme.proofs.Ranges.{Ranges}
 use Rattle.scheme_laws.proofs.Draws.{Valid, choices-valid, Passes, passes-released, released-passes, parts, first-in, keptV, keptU}
 use Rattle.wave.specs.Vectors.{Releases}
-
--- as many trits are taken as there are places
-fill-cong : (ps : List ℕ) (u v w : Vector) → ((j : ℕ) → j < length ps → u j ≡ v j) → fill ps u w ≡ fill ps v w
-unfolding fill
-fill-cong [] u v w h = refl
-fill-cong (p ∷ ps) u v w h =
-    ap₂ (λ (f : Vector) (x : Trit). putV f p x) (fill-cong ps (λ j. u (suc j)) (λ j. v (suc j)) w (λ j l. h (suc j) (omega arith))) (h 0 (omega arith))
 
 -- the choices with 0 past the trits that there are
 abbrev pub cut : Sizes → Choices → Choices
@@ -42,7 +36,7 @@ module _ (z : Sizes) (s : Secret) (ch : Choices) (ra : Ranges z) (va : Valid z c
 
     supplied-v : suppliedV z s (cut z ch) ≡ suppliedV z s ch
     unfolding suppliedV pivotsV
-    supplied-v = fill-cong (without (pivotsV z s ch) (ch .orderV)) (upTo (z .kv) (ch .tritsV)) (ch .tritsV) zeros (λ j l. upto-in (ch .tritsV) (z .kv) j (omega (arith, l, others-v)))
+    supplied-v = fill-same (without (pivotsV z s ch) (ch .orderV)) (upTo (z .kv) (ch .tritsV)) (ch .tritsV) zeros (λ j l. upto-in (ch .tritsV) (z .kv) j (omega (arith, l, others-v)))
 
     draw-v : (x : Vector) → drawV z s x (cut z ch) ≡ drawV z s x ch
     unfolding drawV pivotsV
@@ -66,9 +60,9 @@ module _ (z : Sizes) (s : Secret) (ch : Choices) (ra : Ranges z) (va : Valid z c
     unfolding suppliedU pivotsU
     supplied-u eV =
         ap (fill (lastU z ch) (λ j. forced s eV (getD (lastU z ch) j 0) (upTo (z .ku) (ch .valuesU) (gapU z + j))))
-        (fill-cong (without (pivotsU z s ch) (firstU z ch)) (upTo (z .ku) (ch .valuesU)) (ch .valuesU) zeros
+        (fill-same (without (pivotsU z s ch) (firstU z ch)) (upTo (z .ku) (ch .valuesU)) (ch .valuesU) zeros
         (λ j l. upto-in (ch .valuesU) (z .ku) j (omega (arith, l, others-u, ra .gu-low))))
-        ∙ fill-cong (lastU z ch) (λ j. forced s eV (getD (lastU z ch) j 0) (upTo (z .ku) (ch .valuesU) (gapU z + j))) (λ j. forced s eV (getD (lastU z ch) j 0) (ch .valuesU (gapU z + j)))
+        ∙ fill-same (lastU z ch) (λ j. forced s eV (getD (lastU z ch) j 0) (upTo (z .ku) (ch .valuesU) (gapU z + j))) (λ j. forced s eV (getD (lastU z ch) j 0) (ch .valuesU (gapU z + j)))
         (fill (without (pivotsU z s ch) (firstU z ch)) (ch .valuesU) zeros)
         (λ j l. ap (forced s eV (getD (lastU z ch) j 0)) (upto-in (ch .valuesU) (z .ku) (gapU z + j) (omega (arith, l, last-size, ra .gu-low))))
 
@@ -113,7 +107,7 @@ module _ (z : Sizes) (s : Secret) (p : List ℕ) (y e : Vector) (ra : Ranges z) 
       passes-released z s p y (cut z ch) (record {
         fullV = passes .fullV;
         fullU = passes .fullU;
-        weighs = sum-cong (places z) (λ i. nonZero (drawn z s p y (cut z ch) i)) (λ i. nonZero (drawn z s p y ch i)) (λ i l. ap nonZero (same i)) ∙ passes .weighs;
+        weighs = weight-same (places z) (drawn z s p y (cut z ch)) (drawn z s p y ch) (λ i l. same i) ∙ passes .weighs;
       })
 
   pub cut-word : (i : ℕ) → i < places z → drawn z s p y (cut z (re .choices)) i ≡ e i

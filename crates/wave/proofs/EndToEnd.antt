@@ -5,23 +5,20 @@ use mathlib.Core.List.{List}
 use Prim.Native.Nat.{ℕ, _-_, _*_, _%_, _≤_, _<_}
 use native.Mathlib.Nat.{le-refl}
 use native.Mathlib.Omega.{arith}
-use borrow.Author.Tests.{eqb-true, eq-eqb, leb-true, le-leb, le-ltb}
+use borrow.Author.Tests.{eq-eqb, leb-true, le-leb, le-ltb}
 use lib.Dec.{eqb, leb}
 use lib.ListN.{length}
 use Rattle.trits.specs.Trit.{weightV, upTo}
 use Rattle.trits.specs.Planes.{tritAt, wordsFor, onesOf, twosOf}
 use Rattle.trits.specs.Rows.{rowPart}
 use Rattle.trits.specs.Refusal.{planesRefusal}
-use Rattle.trits.proofs.Refusals.{exit-new, passed-first, first-goes, planes-passed}
+use Rattle.trits.proofs.Refusals.{exit-new, passed-first, first-goes, row-ended}
 use Rattle.trits.proofs.Reading.{length-ones, length-twos}
 use Rattle.trits.proofs.Ends.{upto-in, upto-out, upto-ended}
-use Rattle.trits.proofs.Matrix.{one-row-past}
-use Rattle.trits.proofs.Tests.{past-zero}
 use Rattle.packed.specs.Packed.{bytesFor, packedRow, packedBytes, badByte}
 use Rattle.packed.specs.Calls.{packOf, packRefusal, packExit}
 use Rattle.packed.proofs.RoundTrip.{packed-length, packed-back, packed-good}
 use Rattle.matrix.specs.Linear.{Vector}
-use Rattle.matrix.proofs.Field.{not-false}
 use Rattle.matrix.proofs.Places.{or-false-left, or-false-right}
 use Rattle.verdict.specs.Verdict.{Key, fullWeight}
 use Rattle.verdict.proofs.FullWord.{weight-cong, weight-of}
@@ -43,10 +40,11 @@ use Rattle.scheme.proofs.Ranges.{sizes-fit, codim-dim}
 use Rattle.calls.specs.Lent.{secretOf, pairDiffers}
 use Rattle.calls.specs.BuildCall.{BuildCall, keyRowWords, keyExit}
 use Rattle.calls.specs.DrawCall.{DrawCall, choicesDiffer, drawLengthsDiffer, drawAnswer, wordOf, sExit}
+use Rattle.calls.proofs.Secrets.{pair-same, differs}
 use Rattle.wave.specs.Terms.{Built, builtKey, sized, Under, KeyTerms}
 use Rattle.wave.specs.Verifier.{Host, packedKeyRow, carried, carriedCheck, carriedPlanes, yes}
 use Rattle.wave.proofs.Written.{written-passes}
-use Rattle.wave.proofs.Passed.{differs, DrawPassed, draw-call}
+use Rattle.wave.proofs.Passed.{DrawPassed, draw-call}
 use Rattle.wave.proofs.Checks.{packed-not-refused}
 use Rattle.wave.proofs.ReachCalls.{few, ones-row, twos-row, built-row, handed-ones, handed-twos, handed-signature, drawn-terms}
 
@@ -64,7 +62,7 @@ module _ (m : ℕ) (ones twos bytes : List ℕ) (few : m ≤ 16384) (o : length 
 -- a row in planes that is not refused is 0 past its length
 ended : (ones twos : List ℕ) (m : ℕ) → planesRefusal ones twos 1 m ≡ 0 → length ones ≡ wordsFor m → length twos ≡ wordsFor m → upTo m (tritAt ones twos) ≡ tritAt ones twos
 ended ones twos m e lo lt =
-    upto-ended (tritAt ones twos) m (past-zero ones twos m (lt ∙ sym lo) (sym (one-row-past ones twos m lo lt) ∙ planes-passed ones twos 1 m e .1))
+    upto-ended (tritAt ones twos) m (row-ended ones twos m e lo lt)
 
 -- ---- sizes
 
@@ -89,16 +87,12 @@ fits-held z number h l =
     rw (le-leb number 255 l, a .0, b .0, c .0, le-leb 2 (dim z) (omega arith), le-leb (dim z) (z .n - 2) (omega arith), k .0, k .1)
 
 -- y has its lengths
-both-lengths : (m a b : ℕ) → pairDiffers m a b ≡ false → (a ≡ m) × (b ≡ m)
-both-lengths m a b e =
-    (eqb-true a m (not-false (eqb a m) (or-false-left (not (eqb a m)) (not (eqb b m)) e)), eqb-true b m (not-false (eqb b m) (or-false-right (not (eqb a m)) (not (eqb b m)) e)))
-
 y-lengths : (z : Sizes) (l : DrawCall) → drawLengthsDiffer z l ≡ false → (length (l .y .ones) ≡ wordsFor (codim z)) × (length (l .y .twos) ≡ wordsFor (codim z))
 unfolding drawLengthsDiffer choicesDiffer
 y-lengths z l e =
     let a = or-false-right (differs z (l .secret)) _ e in
     let b = or-false-right (not (eqb (length (l .p)) (places z))) _ a in
-    both-lengths (wordsFor (codim z)) (length (l .y .ones)) (length (l .y .twos)) (or-false-left (pairDiffers (wordsFor (codim z)) (length (l .y .ones)) (length (l .y .twos))) _ b)
+    pair-same (wordsFor (codim z)) (length (l .y .ones)) (length (l .y .twos)) (or-false-left (pairDiffers (wordsFor (codim z)) (length (l .y .ones)) (length (l .y .twos))) _ b)
 
 module _ (z : Sizes) (i : BuildCall) (b : Built z i) (g w : ℕ) (l : DrawCall) (u : Under z i l) (d : drawAnswer (sized z g w) l ≡ 0) (m : Host z) where
   abbrev Z : Sizes

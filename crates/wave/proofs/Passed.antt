@@ -1,15 +1,13 @@
 -- What a call of the builder or of the signer that was not refused has passed, and that a draw passes which has all of that. Assumes nothing.
-use mathlib.Core.Path.{_≡_, refl, sym, ap, _∙_}
-use mathlib.Core.Bool.{Bool, true, false, not}
+use mathlib.Core.Path.{_≡_}
+use mathlib.Core.Bool.{true, false, not}
 use Prim.Native.Nat.{ℕ, _-_, _+_}
 use borrow.Author.Tests.{eq-eqb}
 use lib.Dec.{lit<}
 use lib.ListN.{length}
-use Rattle.trits.specs.Trit.{isSet, anyTo}
 use Rattle.trits.specs.Planes.{tritAt, wordsFor}
 use Rattle.trits.specs.Refusal.{first, planesRefusal}
 use Rattle.trits.proofs.Refusals.{passed-refuse, passed-demand, passed-first}
-use Rattle.matrix.specs.Linear.{Vector}
 use Rattle.matrix.specs.Orders.{isOrder}
 use Rattle.matrix.proofs.Places.{or-false-left}
 use Rattle.scheme.specs.declared.sizes.Sizes.{Sizes}
@@ -17,29 +15,13 @@ use Rattle.scheme.specs.Sizes.{half, places, dim, ru, rv, codim, gapU, sizesFit
 use Rattle.scheme.specs.Secret.{noZero, hasZero}
 use Rattle.scheme.specs.Build.{buildFits, buildRefusal}
 use Rattle.scheme.specs.Draw.{choicesFit, drawRefusal}
-use Rattle.calls.specs.Lent.{Planes, secretOf, pairDiffers, secretDiffers, secretRefusal}
+use Rattle.scheme.proofs.Zeros.{noZero-of}
+use Rattle.calls.specs.Lent.{Planes, secretOf, pairDiffers, secretRefusal}
 use Rattle.calls.specs.BuildCall.{BuildCall, buildLengthsDiffer, buildAnswer}
 use Rattle.calls.specs.DrawCall.{DrawCall, syndromeOf, choicesOf, drawWorkWords, choicesDiffer, drawLengthsDiffer, choicesRefusal, drawAnswer}
-
--- a trit that is 0 is there, or none is
-pub zero-none : (m : ℕ) (v : Vector) → hasZero m v ≡ false → noZero m v ≡ true
-unfolding hasZero noZero
-zero-none m v e = ap not e
-
-pub none-zero : (m : ℕ) (v : Vector) → noZero m v ≡ true → hasZero m v ≡ false
-unfolding hasZero noZero
-none-zero m v e = by (hasZero m v) refl e
-  where
-    by : (t : Bool) → anyTo (λ i. not (isSet (v i))) m ≡ t → not (anyTo (λ i. not (isSet (v i))) m) ≡ true → anyTo (λ i. not (isSet (v i))) m ≡ false
-    by true q h = q ∙ sym (ap not (sym q) ∙ h)
-    by false q h = q
+use Rattle.calls.proofs.Secrets.{differs}
 
 -- ---- the secret, whatever g and w are
-
--- the lengths of its planes, in both calls
-abbrev pub differs : Sizes → Planes → Bool
-differs z k =
-    secretDiffers z (length (k .hu .ones)) (length (k .hu .twos)) (length (k .hv .ones)) (length (k .hv .twos)) (length (k .b .ones)) (length (k .b .twos)) (length (k .c .ones)) (length (k .c .twos))
 
 -- c is nowhere 0
 pub secret-unit : (z : Sizes) (k : Planes) → secretRefusal z k ≡ 0 → noZero (half z) (tritAt (k .c .ones) (k .c .twos)) ≡ true
@@ -49,7 +31,7 @@ secret-unit z k e =
     let b = passed-first (planesRefusal (k .hv .ones) (k .hv .twos) (rv z) (half z)) _ (a .1) in
     let c = passed-first (planesRefusal (k .b .ones) (k .b .twos) 1 (half z)) _ (b .1) in
     let d = passed-first (planesRefusal (k .c .ones) (k .c .twos) 1 (half z)) _ (c .1) in
-    zero-none (half z) (tritAt (k .c .ones) (k .c .twos)) (passed-refuse (hasZero (half z) (tritAt (k .c .ones) (k .c .twos))) 8 0 (lit< tt) (d .1) .0)
+    noZero-of (half z) (tritAt (k .c .ones) (k .c .twos)) (passed-refuse (hasZero (half z) (tritAt (k .c .ones) (k .c .twos))) 8 0 (lit< tt) (d .1) .0)
 
 -- ---- a build
 
@@ -126,20 +108,20 @@ call-draws z l p =
 -- the choices are in order
 pub choices-fit : (z : Sizes) (l : DrawCall) → DrawPassed z l → choicesFit z (choicesOf l) ≡ true
 unfolding choicesFit
-choices-fit z l p = rw (p .order-v, p .order-u, zero-none (z .ku - gapU z) (λ j. tritAt (l .u .ones) (l .u .twos) (gapU z + j)) (p .last-u))
+choices-fit z l p = rw (p .order-v, p .order-u, noZero-of (z .ku - gapU z) (λ j. tritAt (l .u .ones) (l .u .twos) (gapU z + j)) (p .last-u))
 
 -- ---- lengths that are right
 
 same-pair : (m a b : ℕ) → a ≡ m → b ≡ m → pairDiffers m a b ≡ false
 same-pair m a b p q = rw (eq-eqb a m p, eq-eqb b m q)
 
-pub choices-same : (z : Sizes) {p y1 y2 ov v1 v2 ou u1 u2 e1 e2 s1 s2 w1 w2 : ℕ}
+pub no-choice-differs : (z : Sizes) {p y1 y2 ov v1 v2 ou u1 u2 e1 e2 s1 s2 w1 w2 : ℕ}
     → p ≡ places z → y1 ≡ wordsFor (codim z) → y2 ≡ wordsFor (codim z) → ov ≡ half z → v1 ≡ wordsFor (z .kv) → v2 ≡ wordsFor (z .kv)
     → ou ≡ half z → u1 ≡ wordsFor (z .ku) → u2 ≡ wordsFor (z .ku) → e1 ≡ wordsFor (places z) → e2 ≡ wordsFor (places z)
     → s1 ≡ wordsFor (dim z) → s2 ≡ wordsFor (dim z) → w1 ≡ drawWorkWords z → w2 ≡ drawWorkWords z
     → choicesDiffer z p y1 y2 ov v1 v2 ou u1 u2 e1 e2 s1 s2 w1 w2 ≡ false
 unfolding choicesDiffer
-choices-same z {p} {y1} {y2} {ov} {v1} {v2} {ou} {u1} {u2} {e1} {e2} {s1} {s2} {w1} {w2} ep ey1 ey2 eov ev1 ev2 eou eu1 eu2 ee1 ee2 es1 es2 ew1 ew2 =
+no-choice-differs z {p} {y1} {y2} {ov} {v1} {v2} {ou} {u1} {u2} {e1} {e2} {s1} {s2} {w1} {w2} ep ey1 ey2 eov ev1 ev2 eou eu1 eu2 ee1 ee2 es1 es2 ew1 ew2 =
     rw (
       eq-eqb p (places z) ep,
       same-pair (wordsFor (codim z)) y1 y2 ey1 ey2,

@@ -9,11 +9,11 @@ use borrow.Author.Tests.{ltb-true, ltb-false, lt-ltb, le-ltb}
 use lib.Dec.{ltb}
 use lib.ListN.{length, getD, take, drop, length-drop, length-append}
 use lib.Seq.{take-at, drop-at, take-append-add}
-use Rattle.trits.specs.Trit.{Trit, t0, t1, isSet, nonZero, weightV}
-use Rattle.trits.proofs.Counts.{sum-cong}
+use Rattle.trits.specs.Trit.{Trit, t0, t1, isSet}
+use Rattle.trits.proofs.Counts.{weight-same}
 use Rattle.matrix.specs.Linear.{Vector, zeros, times, elem, orZeros, fill, pivots, rank, without, range}
 use Rattle.matrix.specs.Orders.{Distinct, Order}
-use Rattle.matrix.proofs.Field.{zero-or}
+use Rattle.matrix.proofs.Field.{zero-or, refuted}
 use Rattle.matrix.proofs.Dots.{dot-right}
 use Rattle.matrix.proofs.Places.{Below, elem-at, elem-append, fill-at, fill-off, or-true-right}
 use Rattle.matrix.proofs.Greedy.{Kept, bool-cases, pivots-kept, pivots-elem, rank-iff, spans-mono, kept-spans}
@@ -34,9 +34,6 @@ use Rattle.scheme_laws.proofs.Draws.{Valid, choices-valid, valid-choices, Passe
 use Rattle.wave.specs.Terms.{sized, Terms}
 use Rattle.wave.specs.Vectors.{Released, Releases}
 use Rattle.wave.proofs.Syndrome.{syndrome-iff}
-
-weight-cong : (n : ℕ) (u v : Vector) → ((i : ℕ) → i < n → u i ≡ v i) → weightV u n ≡ weightV v n
-weight-cong n u v h = sum-cong n (λ i. nonZero (u i)) (λ i. nonZero (v i)) (λ i l. ap nonZero (h i l))
 
 -- (y, 0...0), in secret places
 abbrev pub start : Sizes → List ℕ → Vector → Vector
@@ -121,7 +118,7 @@ module _ (z : Sizes) (s : Secret) (order : List ℕ) (y e : Vector) (bu : Builds
   released-terms : Terms z s (keyOrder z s order) (keyRow z s order) y e
   released-terms =
       record {
-        weighs = weight-cong (places z) e (drawn z s (keyOrder z s order) y ch) (λ i h. sym (re .word i h)) ∙ passes .weighs;
+        weighs = weight-same (places z) e (drawn z s (keyOrder z s order) y ch) (λ i h. sym (re .word i h)) ∙ passes .weighs;
         has-syndrome = syndrome-parts z s order bu y e .1
             (record {
               partU = λ i l. dot-right (half z) (s .hu i) (uOf z s (placed (keyOrder z s order) e)) eU (λ q h. secret-parts q h .0)
@@ -330,11 +327,10 @@ module _ (z : Sizes) (s : Secret) (order : List ℕ) (y e : Vector) (bu : Builds
       off q m true t =
           sym (fill-own others-V eVF (chF .tritsV) zeros q (without-distinct (pivotsV z s chF) orderVF (order-good (half z) orderVF orderVF-good .0)) (λ j h. refl)
           (without-in (pivotsV z s chF) orderVF q (orderVF-good .every q (ltb-true q (half z) t)) m))
-      off q m false t = rw t (sym (fill-off others-V (chF .tritsV) zeros q (none (bool-cases (elem q others-V)))))
+      off q m false t = rw t (sym (fill-off others-V (chF .tritsV) zeros q (refuted (elem q others-V) none)))
         where
-          none : (elem q others-V ≡ true) ⊎ (elem q others-V ≡ false) → elem q others-V ≡ false
-          none (inl k) = absurd (omega (arith, ltb-false q (half z) t, order-good (half z) orderVF orderVF-good .1 q (without-out (pivotsV z s chF) orderVF q k .0)))
-          none (inr k) = k
+          none : elem q others-V ≡ true → ⊥
+          none k = omega (arith, ltb-false q (half z) t, order-good (half z) orderVF orderVF-good .1 q (without-out (pivotsV z s chF) orderVF q k .0))
 
   drawnU : drawU z s (uOf z s xF) eVF chF ≡ eUF
   unfolding drawU suppliedU pivotsU
@@ -391,7 +387,7 @@ module _ (z : Sizes) (s : Secret) (order : List ℕ) (y e : Vector) (bu : Builds
         choices = chF;
         given = valid-choices z chF validF;
         passed = passes-released z s (keyOrder z s order) y chF
-            (record { fullV = fullVF; fullU = fullUF; weighs = weight-cong (places z) (drawn z s (keyOrder z s order) y chF) e drawn-is ∙ f .weighs });
+            (record { fullV = fullVF; fullU = fullUF; weighs = weight-same (places z) (drawn z s (keyOrder z s order) y chF) e drawn-is ∙ f .weighs });
         word = drawn-is;
       }
 

@@ -27,6 +27,7 @@ use Rattle.scheme.specs.Build.{keyOrder, keyRow}
 use Rattle.scheme.specs.Draw.{Choices, drawn, drawRefusal, signature}
 use Rattle.scheme_laws.proofs.Pairs.{zero-no}
 use Rattle.scheme.proofs.Ranges.{sizes-fit}
+use Rattle.scheme.proofs.Zeros.{hasZero-of}
 use Rattle.scheme_laws.proofs.Draws.{Valid}
 use Rattle.calls.specs.Lent.{secretOf, secretDiffers, secretRefusal}
 use Rattle.calls.specs.BuildCall.{BuildCall, keyRowWords, orderExit, keyOnesOf, keyTwosOf, keyExit}
@@ -35,7 +36,7 @@ use Rattle.wave.specs.Terms.{Built, builtKey, sized, LentSyndrome, LentA
 use Rattle.wave.specs.Vectors.{Released, Releases}
 use Rattle.wave.proofs.Written.{written-back, written-passes, ones-words, twos-words, zero-words, rows-part}
 use Rattle.wave.proofs.Cut.{cut, cut-valid, cut-passed, cut-word}
-use Rattle.wave.proofs.Passed.{none-zero, build-call, build-fits, DrawPassed, draw-call, call-draws, choices-fit, choices-same, lengths-same}
+use Rattle.wave.proofs.Passed.{build-call, build-fits, DrawPassed, draw-call, call-draws, choices-fit, no-choice-differs, lengths-same}
 use Rattle.wave.proofs.Verifier.{build-ended}
 use Rattle.wave.proofs.Reach.{reach}
 
@@ -173,7 +174,7 @@ module _ (z : Sizes) (i : BuildCall) (b : Built z i) (g w : ℕ) (fit : sizesFit
   unfolding secretDiffers
   made-lengths =
       lengths-same Z made (build-call z i b .lengths)
-      (choices-same Z (p-order .size) (ly .ones-size) (ly .twos-size) (valid .orderV .size) (length-ones (ch .tritsV) (wordsFor (z .kv))) (length-twos (ch .tritsV) (wordsFor (z .kv)))
+      (no-choice-differs Z (p-order .size) (ly .ones-size) (ly .twos-size) (valid .orderV .size) (length-ones (ch .tritsV) (wordsFor (z .kv))) (length-twos (ch .tritsV) (wordsFor (z .kv)))
       (valid .orderU .size) (length-ones (ch .valuesU) (wordsFor (z .ku))) (length-twos (ch .valuesU) (wordsFor (z .ku)))
       (length-zeros (wordsFor (places z))) (length-zeros (wordsFor (places z))) (length-zeros (wordsFor (dim z))) (length-zeros (wordsFor (dim z))) (length-zeros (drawWorkWords z)) (length-zeros (drawWorkWords z)))
 
@@ -193,7 +194,7 @@ module _ (z : Sizes) (i : BuildCall) (b : Built z i) (g w : ℕ) (fit : sizesFit
         trits-v = written-passes (z .kv) (re .choices .tritsV);
         order-u = test-order (half z) (ch .orderU) (valid .orderU);
         values-u = written-passes (z .ku) (re .choices .valuesU);
-        last-u = none-zero (z .ku - gapU Z) (λ j. choicesOf made .valuesU (gapU Z + j))
+        last-u = hasZero-of (z .ku - gapU Z) (λ j. choicesOf made .valuesU (gapU Z + j))
             (ap (λ (c : Choices). noZero (z .ku - gapU Z) (λ j. c .valuesU (gapU Z + j))) choices-are ∙ zero-no (z .ku - gapU Z) (λ j. ch .valuesU (gapU Z + j)) (valid .values));
         draws = ap (drawRefusal Z (s z i b) (orderExit z i) (tritAt yOnes yTwos)) choices-are ∙ cut-passed Z (s z i b) (orderExit z i) (tritAt yOnes yTwos) e (sizes-fit Z fit) re;
       }

@@ -8,9 +8,10 @@ use lib.ListN.{length, getD, take}
 use lib.Seq.{getD-take, length-take-le}
 use Rattle.trits.specs.Trit.{Trit, t2, addT, mulT, dotV}
 use Rattle.trits.proofs.Arithmetic.{add-zero-r, add-neg}
+use Rattle.trits.proofs.Products.{dot-zero}
 use Rattle.matrix.specs.Linear.{Vector, Matrix, zeros, times}
 use Rattle.matrix.proofs.Field.{sub-zero-eq}
-use Rattle.matrix.proofs.Dots.{dot-left, dot-right, dot-zero, dot-comm, dot-add, dot-mul, dot-swap, dot-split}
+use Rattle.matrix.proofs.Dots.{dot-left, dot-right, dot-comm, dot-add, dot-mul, dot-swap, dot-split}
 use Rattle.matrix.proofs.Dimension.{Injective}
 use Rattle.matrix.proofs.Places.{picked, fill-at}
 use Rattle.matrix.proofs.Greedy.{kept-injective}

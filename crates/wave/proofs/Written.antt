@@ -1,24 +1,22 @@
 -- A vector written in planes passes the tests of its contents and is read back; rows written one after another are each their stretch. Assumes nothing.
-use mathlib.Core.Path.{_≡_, refl, sym, ap, ap₂, _∙_}
-use mathlib.Core.Bool.{false, _&&_}
+use mathlib.Core.Path.{_≡_, refl, sym, ap, _∙_}
 use mathlib.Core.List.{List, _++_}
 use Prim.Native.Nat.{ℕ, zero, suc, _+_, _*_, _^_, _<_}
-use native.Mathlib.Nat.{suc-mul}
 use native.Mathlib.Decide.{decLt}
 use native.Mathlib.Omega.{arith}
-use lib.Dec.{eqb, lit<}
-use lib.ListN.{length, getD, take, drop, length-append, length-drop, List·getD-eq-default}
+use lib.Dec.{lit<}
+use lib.ListN.{length, getD, take, drop, length-drop, List·getD-eq-default}
 use lib.Seq.{take-all, drop-at, take-append-le, drop-append-le}
-use Rattle.trits.specs.Trit.{Trit, t0, t1, t2, upTo}
-use Rattle.trits.specs.Planes.{fromBits, one, two, tritAt, onesOf, twosOf, zeroWords, wordsFor, bothAt, bothSet}
+use Rattle.trits.specs.Trit.{upTo}
+use Rattle.trits.specs.Planes.{fromBits, one, two, tritAt, onesOf, twosOf, zeroWords, wordsFor}
 use Rattle.trits.specs.Rows.{rowPart, rowsOf}
 use Rattle.trits.specs.Refusal.{planesRefusal}
 use Rattle.trits.proofs.Bits.{from-lt}
 use Rattle.trits.proofs.Lists.{getD-tabulate, zero-at}
-use Rattle.trits.proofs.Reading.{one-lt, two-lt, ones-bit, twos-bit, length-ones, length-twos, holds-reads}
+use Rattle.trits.proofs.Reading.{one-lt, two-lt, length-ones, length-twos, holds-reads}
 use Rattle.trits.proofs.Ends.{upto-out}
-use Rattle.trits.proofs.Tests.{none-any, zero-past}
-use Rattle.trits.proofs.Matrix.{row-le, part-there, one-row-past}
+use Rattle.trits.proofs.Tests.{written-both, written-past}
+use Rattle.trits.proofs.Matrix.{row-le, part-there, one-row-past, length-rows}
 use Rattle.matrix.specs.Linear.{Vector}
 use Rattle.wave.specs.Terms.{Bits}
 
@@ -35,26 +33,14 @@ module _ (m : ℕ) (v : Vector) where
   pub written-back : tritAt (onesOf (upTo m v) (wordsFor m)) (twosOf (upTo m v) (wordsFor m)) ≡ upTo m v
   written-back = holds-reads ones twos (wordsFor m) (upTo m v) (λ i l. upto-out v m i (omega arith)) (record { ones-are = refl; twos-are = refl }) .trits
 
-  never-both : (x : Trit) → (eqb (one x) 1 && eqb (two x) 1) ≡ false
-  never-both t0 = refl
-  never-both t1 = refl
-  never-both t2 = refl
-
-  apart : bothSet ones twos ≡ false
-  unfolding bothSet
-  apart =
-      none-any (64 * length ones) (bothAt ones twos) (λ i b.
-      let c : i < 64 * wordsFor m = omega (arith, length-ones (upTo m v) (wordsFor m)) in
-      ap₂ (λ (x y : ℕ). eqb x 1 && eqb y 1) (ones-bit (upTo m v) (wordsFor m) i c) (twos-bit (upTo m v) (wordsFor m) i c) ∙ never-both (upTo m v i))
-
   -- its planes are not refused
   pub written-passes : planesRefusal (onesOf (upTo m v) (wordsFor m)) (twosOf (upTo m v) (wordsFor m)) 1 m ≡ 0
   unfolding planesRefusal
   written-passes =
       rw (
-        apart,
+        written-both (upTo m v) (wordsFor m),
         one-row-past ones twos m (length-ones (upTo m v) (wordsFor m)) (length-twos (upTo m v) (wordsFor m)),
-        zero-past ones twos m (λ i l. ap (λ (u : Vector). u i) written-back ∙ upto-out v m i l),
+        written-past (upTo m v) m (wordsFor m) (λ i l. upto-out v m i l) (omega arith),
       )
 
 -- ---- 64-bit words
@@ -81,11 +67,6 @@ zero-words n j = rw (zero-at n j) (lit< tt)
 -- ---- rows of w words, one after another
 
 module _ (f : ℕ → List ℕ) (w : ℕ) (s : (i : ℕ) → length (f i) ≡ w) where
-  length-rows : (k : ℕ) → length (rowsOf f k) ≡ k * w
-  unfolding rowsOf
-  length-rows zero = omega arith
-  length-rows (suc k) = length-append (rowsOf f k) (f k) ∙ omega (arith, length-rows k, s k, suc-mul k w)
-
   row-at : (k j : ℕ) → j < k → take w (drop (j * w) (rowsOf f k)) ≡ f j
   unfolding rowsOf
   row-at zero j h = absurd (omega arith)
@@ -95,15 +76,15 @@ module _ (f : ℕ → List ℕ) (w : ℕ) (s : (i : ℕ) → length (f i) ≡ w)
       by ih (yes l) =
           let g = row-le w {i = j} {m = k} l in
           let d = length-drop (j * w) (rowsOf f k) in
-          ap (take w) (drop-append-le (j * w) (rowsOf f k) (f k) (omega (arith, length-rows k)))
-          ∙ take-append-le w (drop (j * w) (rowsOf f k)) (f k) (omega (arith, length-rows k, d))
+          ap (take w) (drop-append-le (j * w) (rowsOf f k) (f k) (omega (arith, length-rows f w s k)))
+          ∙ take-append-le w (drop (j * w) (rowsOf f k)) (f k) (omega (arith, length-rows f w s k, d))
           ∙ ih l
       by ih (no n) =
           let e : j ≡ k = omega arith in
           ap (λ (x : ℕ). take w (drop (x * w) (rowsOf f k ++ f k))) e
-          ∙ ap (take w) (drop-at (rowsOf f k) (f k) (k * w) (length-rows k))
+          ∙ ap (take w) (drop-at (rowsOf f k) (f k) (k * w) (length-rows f w s k))
           ∙ take-all w (f k) (omega (arith, s k)) ∙ ap f (sym e)
 
   -- row j is what was written there
   pub rows-part : (k j : ℕ) → j < k → rowPart (rowsOf f k) k w j ≡ f j
-  rows-part k j h = sym (part-there (rowsOf f k) k w j (length-rows k) h) ∙ row-at k j h
+  rows-part k j h = sym (part-there (rowsOf f k) k w j (length-rows f w s k) h) ∙ row-at k j h

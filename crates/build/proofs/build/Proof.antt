@@ -8,14 +8,14 @@ use denote.Ref.{now}
 use lib.Dec.{lit<}
 use Rattle.trits.specs.Planes.{pairOf}
 use Rattle.trits.specs.Refusal.{atExit, spaceExit}
-use Rattle.trits.proofs.Refusals.{exit-kept}
+use Rattle.trits.proofs.Refusals.{exit-kept, positive}
 use Rattle.matrix.proofs.Field.{not-true, not-false}
 use Rattle.scheme.specs.declared.sizes.Sizes.{Sizes}
 use Rattle.scheme.specs.Sizes.{sizesFit}
 use Rattle.scheme.specs.Build.{keyOrder}
 use Rattle.calls.specs.Lent.{planes, secretOf}
 use Rattle.calls.specs.BuildCall.{BuildCall, buildCall, buildLengthsDiffer, buildAnswer, orderExit, keyOnesOf, keyTwosOf, keyExit, buildWorkExit}
-use Rattle.calls.proofs.Exits.{positive, work-kept}
+use Rattle.calls.proofs.Exits.{work-kept}
 use Rattle.calls.proofs.Secrets.{readable}
 use Rattle.build.proofs.Answers.{same-lengths, answer-size, answer-length, answer-contents, answer-ranks, contents-le, contents-passed, work-ended}
 use Rattle.build.proofs.Answers.{lengths-secret, lengths-key}
@@ -105,7 +105,7 @@ returns-3 c =
     let told = c .before .code .ensures in
     let e = c .before .before .test-contents .ensures in
     let g = answer-contents z (lent s) (fits else1) (lengths (c .before .before .before)) e (λ y. c .if3 .taken (told ∙ y)) in
-    let k = kept z (lent s) (told ∙ g) (positive _ (c .if3 .taken)) (omega (arith, told, e, contents-le z (lent s))) in
+    let k = kept z (lent s) (told ∙ g) (positive (c .if3 .taken)) (omega (arith, told, e, contents-le z (lent s))) in
     (g, k .0, k .1, k .2)
 
 finish-requires : tie.Need-finish-requires

@@ -3,10 +3,10 @@
 use mathlib.Core.Path.{sym, _∙_}
 use native.Mathlib.Omega.{arith}
 use borrow.Author.Needs.{needs}
+use Rattle.trits.proofs.Refusals.{positive, left-kept}
 use Rattle.check_tests.specs.Check.{checkAnswer}
 use Rattle.check_tests.proofs.Passed.{whole, check-passed}
-use Rattle.held_key.proofs.Answers.{positive}
-use Rattle.check_tests.proofs.Answers.{answer-kept, answer-new, leaves-check, left-kept, left-zero}
+use Rattle.check_tests.proofs.Answers.{answer-kept, answer-new, leaves-check, left-zero}
 use Rattle.checker.proofs.Spaces.{check-spaces}
 use Rattle.checker.proofs.check.Statement.{statement}
 use Rattle.checker.proofs.check.Tie as tie

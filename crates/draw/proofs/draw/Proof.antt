@@ -8,14 +8,14 @@ use denote.Ref.{now}
 use lib.Dec.{lit<}
 use Rattle.trits.specs.Planes.{Pair, pairOf, rowPair}
 use Rattle.trits.specs.Refusal.{first, atExit, spaceExit}
-use Rattle.trits.proofs.Refusals.{exit-kept}
+use Rattle.trits.proofs.Refusals.{exit-kept, positive}
 use Rattle.matrix.proofs.Field.{not-true, not-false}
 use Rattle.scheme.specs.declared.sizes.Sizes.{Sizes}
 use Rattle.scheme.specs.Sizes.{places, dim, sizesFit}
 use Rattle.scheme.specs.Draw.{signature}
 use Rattle.calls.specs.Lent.{planes, secretOf, secretRefusal}
 use Rattle.calls.specs.DrawCall.{DrawCall, drawCall, syndromeOf, choicesOf, drawLengthsDiffer, drawAnswer, wordOf, wordExit, sExit, drawWorkExit}
-use Rattle.calls.proofs.Exits.{positive, work-kept}
+use Rattle.calls.proofs.Exits.{work-kept}
 use Rattle.calls.proofs.Secrets.{readable}
 use Rattle.draw_tests.proofs.Answers.{same-lengths, same-choices, answer-size, answer-length, answer-contents, answer-ending, contents-le, contents-secret}
 use Rattle.draw_tests.proofs.Answers.{work-ended, lengths-secret, lengths-choices, ready}
@@ -117,7 +117,7 @@ returns-3 c =
     let told = c .before .code .ensures in
     let e = c .before .before .test-contents .ensures ∙ ap (first (secretRefusal z (lent s .secret))) (same-choices z (lent s)) in
     let g = answer-contents z (lent s) (fits else1) (lengths (c .before .before .before)) (told ∙ e) (c .if3 .taken) in
-    let k = kept z (lent s) g (positive _ (c .if3 .taken)) (omega (arith, told, e, contents-le z (lent s))) in
+    let k = kept z (lent s) g (positive (c .if3 .taken)) (omega (arith, told, e, contents-le z (lent s))) in
     (sym told ∙ g, k .0, k .1, k .2)
 
 finish-requires : tie.Need-finish-requires

@@ -9,14 +9,13 @@ use lib.ListN.{length}
 use denote.Ref.{now}
 use Rattle.trits.specs.Trit.{upTo}
 use Rattle.trits.specs.Planes.{wordsFor, onesOf, twosOf, zeroWords}
-use Rattle.trits.proofs.Refusals.{exit-kept, exit-new}
+use Rattle.trits.proofs.Refusals.{exit-kept, exit-new, positive}
 use Rattle.matrix.specs.Linear.{Vector}
 use Rattle.scheme.specs.Sizes.{places, dim}
 use Rattle.draw_pairs.proofs.DrawRows.{word-written, signature-written}
 use Rattle.calls.specs.Lent.{planes, halfWords, secretOf}
 use Rattle.calls.specs.DrawCall.{DrawCall, matrixRows, syndromeOf, choicesOf, wordOf}
 use Rattle.calls.proofs.Bounds.{bounds}
-use Rattle.calls.proofs.Exits.{positive}
 use Rattle.draw_tests.specs.Steps.{given}
 use Rattle.draw_tests.proofs.Space.{space}
 use borrow.Author.Needs.{needs}
@@ -90,7 +89,7 @@ returns c =
       cleared (after-clear .clear .ensures .1) (k .before .before .work-twos .given),
     ))
     (λ w.
-    let h = positive _ (w .0 .left) in (
+    let h = positive (w .0 .left) in (
       told .0,
       w .1 ∙ exit-kept _ _ e h,
       w .2 ∙ exit-kept _ _ e h,

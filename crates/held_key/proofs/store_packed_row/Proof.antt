@@ -8,12 +8,11 @@ use lib.ListN.{length-take, length-drop}
 use denote.Ref.{now}
 use Rattle.trits.specs.Planes.{wordsFor, onesOf, twosOf}
 use Rattle.trits.proofs.Reading.{length-ones, length-twos}
-use Rattle.trits.proofs.Refusals.{exit-kept, exit-new}
+use Rattle.trits.proofs.Refusals.{exit-kept, exit-new, positive}
 use Rattle.packed.specs.Packed.{packedRow}
 use Rattle.held_key.specs.Held.{rowTrits, rowWords}
 use Rattle.held_key.specs.Store.{storedHeld}
 use Rattle.held_key.proofs.Room.{stored-packed-passed}
-use Rattle.held_key.proofs.Answers.{positive}
 use Rattle.held_key.proofs.Storing.{plane-kept, plane-lent}
 use Rattle.held_key.proofs.store_packed_row.Statement.{statement}
 use Rattle.held_key.proofs.store_packed_row.Tie as tie

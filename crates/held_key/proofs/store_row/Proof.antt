@@ -6,11 +6,10 @@ use native.Mathlib.Omega.{arith}
 use borrow.Author.Needs.{needs}
 use denote.Ref.{now}
 use Rattle.trits.specs.Rows.{putWords}
-use Rattle.trits.proofs.Refusals.{exit-kept, exit-new}
+use Rattle.trits.proofs.Refusals.{exit-kept, exit-new, positive}
 use Rattle.held_key.specs.Held.{rowWords}
 use Rattle.held_key.specs.Store.{storedHeld}
 use Rattle.held_key.proofs.Room.{room, stored-passed}
-use Rattle.held_key.proofs.Answers.{positive}
 use Rattle.held_key.proofs.Storing.{plane-kept, plane-put}
 use Rattle.held_key.proofs.store_row.Statement.{statement}
 use Rattle.held_key.proofs.store_row.Tie as tie

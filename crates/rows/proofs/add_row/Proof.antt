@@ -5,15 +5,15 @@ use mathlib.Core.Path.{_≡_, refl}
 use native.Mathlib.Omega.{arith}
 use lib.ListN.{length}
 use Rattle.trits.proofs.Patches.{Patched, patch-none, patch-more, patch-here, rows-read, wordsAt}
-use Rattle.trits.proofs.WordOps.{sumOnes, sumTwos, add-op}
+use Rattle.trits.proofs.WordOps.{addOnes, addTwos, add-op}
 use Rattle.rows.proofs.add_row.Statement.{statement}
 use Rattle.rows.proofs.add_row.Tie as tie
 
 abbrev Inv-loop : tie.InvT-loop
 Inv-loop ones₀ twos₀ src-ones src-twos i₀ ones twos i =
     (i ≤ length ones₀)
-    × Patched (wordsAt sumOnes ones₀ twos₀ src-ones src-twos 0) 0 i ones₀ ones
-    × Patched (wordsAt sumTwos ones₀ twos₀ src-ones src-twos 0) 0 i twos₀ twos
+    × Patched (wordsAt addOnes ones₀ twos₀ src-ones src-twos 0) 0 i ones₀ ones
+    × Patched (wordsAt addTwos ones₀ twos₀ src-ones src-twos 0) 0 i twos₀ twos
 
 abbrev μ-loop : tie.MeasureT-loop
 μ-loop ones₀ twos₀ src-ones src-twos i₀ ones twos i = length ones₀ - i

@@ -9,11 +9,10 @@ use lib.ListN.{length}
 use denote.Ref.{now}
 use Rattle.trits.specs.Planes.{zeroWords}
 use Rattle.trits.specs.Refusal.{codeOf}
-use Rattle.trits.proofs.Refusals.{exit-kept, exit-new}
+use Rattle.trits.proofs.Refusals.{exit-kept, exit-new, positive}
 use Rattle.scheme.specs.Secret.{Secret}
 use Rattle.scheme.specs.Build.{buildRefusal}
 use Rattle.calls.specs.Lent.{planes, secretOf}
-use Rattle.calls.proofs.Exits.{positive}
 use Rattle.build_ranks.specs.Steps.{matrices}
 use Rattle.build_release.proofs.Released.{full-rank, same-ranks}
 use borrow.Author.Needs.{needs}
@@ -73,7 +72,7 @@ returns c =
       cleared (after-clear .clear .ensures .1) (omega (arith, ap length (w .21), w .15 .given, k .before .before .work-twos .given)),
     ))
     (λ w.
-    let h = positive _ (w .0 .left) in (
+    let h = positive (w .0 .left) in (
       told k,
       w .1 ∙ exit-kept _ _ e h,
       w .2 ∙ exit-kept _ _ e h,

@@ -1,9 +1,10 @@
 -- Where the step found a pivot the place is kept; otherwise it changes places.
 -- Assumes nothing.
 use borrow.Author.Needs.{needs}
-use Rattle.build_key.proofs.Arranging.{yes-count, no-count, yes-list, no-list}
+use Rattle.build_key.proofs.Arranging.{yes-list, no-list}
 use mathlib.Core.Path.{refl, sym, _∙_}
 use Prim.Native.Nat.{_-_}
+use Rattle.matrix.proofs.Steps.{yes-count, no-count}
 use Rattle.build_key.proofs.arrange.try_column.Statement.{statement}
 use Rattle.build_key.proofs.arrange.try_column.Tie as tie
 

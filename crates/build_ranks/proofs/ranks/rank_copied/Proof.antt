@@ -8,7 +8,7 @@ use borrow.Author.Needs.{needs}
 use lib.ListN.{length}
 use Rattle.trits.specs.Rows.{matrixAt}
 use Rattle.matrix.specs.Linear.{rank, range}
-use Rattle.build_ranks.proofs.Copies.{copied-rows}
+use Rattle.grid.proofs.RowParts.{copied-rows}
 use Rattle.build_ranks.proofs.ranks.rank_copied.Statement.{statement}
 use Rattle.build_ranks.proofs.ranks.rank_copied.Tie as tie
 

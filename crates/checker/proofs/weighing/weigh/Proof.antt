@@ -7,10 +7,11 @@ use lib.ListN.{length}
 use denote.Ref.{now}
 use Rattle.trits.specs.Planes.{tritAt, Row}
 use Rattle.trits.proofs.Counts.{weight-le}
+use Rattle.trits.proofs.Refusals.{planes-row, row-ended}
 use Rattle.held_key.specs.Held.{rowTrits}
 use Rattle.held_key.proofs.Sizes.{sizes}
 use Rattle.check_tests.proofs.Passed.{fitted, contents}
-use Rattle.checker.proofs.Weighed.{readable, row-ended, weighed, at-most}
+use Rattle.checker.proofs.Weighed.{weighed, at-most}
 use Rattle.checker.proofs.weighing.weigh.Statement.{statement}
 use Rattle.checker.proofs.weighing.weigh.Tie as tie
 
@@ -65,11 +66,11 @@ take-rows-requires c κs =
     let eo = after-copy-words .copy-words .ensures in
     let et = after-copy-words2 .copy-words2 .ensures in record {
       whole = start .pre .whole;
-      readable = readable ((a .held) .k) (rowTrits (a .held)) (t .0) (start .pre .whole .twos-size ∙ sym (start .pre .whole .ones-size))
+      readable = planes-row (a .held .k) (rowTrits (a .held)) (t .0) (start .pre .whole .twos-size ∙ sym (start .pre .whole .ones-size))
           (after-shared-slice-known .shared-slice-known .given) (after-shared-slice-known2 .shared-slice-known2 .given);
       work = record {
         row =
-            subst₂ Row (sym eo) (sym et) (readable 1 (rowTrits (a .held)) (t .1) (f .y-twos ∙ sym (f .y-ones))
+            subst₂ Row (sym eo) (sym et) (planes-row 1 (rowTrits (a .held)) (t .1) (f .y-twos ∙ sym (f .y-ones))
             (after-shared-slice-known3 .shared-slice-known3 .given) (after-shared-slice-known4 .shared-slice-known4 .given));
         size = ap length eo ∙ f .y-ones;
       };
@@ -134,7 +135,7 @@ returns c =
     (row-ended (now (a .y-ones)) (now (a .y-twos)) (rowTrits (a .held)) (t .1) (f .y-ones) (f .y-twos))
     (record {
       row =
-          subst₂ Row (sym eo) (sym et) (readable 1 (rowTrits (a .held)) (t .1) (f .y-twos ∙ sym (f .y-ones))
+          subst₂ Row (sym eo) (sym et) (planes-row 1 (rowTrits (a .held)) (t .1) (f .y-twos ∙ sym (f .y-ones))
           (after-shared-slice-known3 .shared-slice-known3 .given) (after-shared-slice-known4 .shared-slice-known4 .given));
       size = refl;
       trits = ap₂ tritAt eo et;

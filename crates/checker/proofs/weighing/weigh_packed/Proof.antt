@@ -9,11 +9,12 @@ use denote.Ref.{now}
 use Rattle.trits.proofs.Reading.{reads-to}
 use Rattle.trits.proofs.Counts.{weight-le}
 use Rattle.packed.specs.Packed.{packedRow}
+use Rattle.trits.proofs.Refusals.{planes-row}
 use Rattle.held_key.specs.Held.{rowTrits}
 use Rattle.held_key.proofs.Sizes.{sizes}
 use Rattle.packed.proofs.Digits.{packed-out}
 use Rattle.check_tests.proofs.Passed.{packed-fitted, packed-contents}
-use Rattle.checker.proofs.Weighed.{readable, weighed, at-most}
+use Rattle.checker.proofs.Weighed.{weighed, at-most}
 use Rattle.checker.proofs.weighing.weigh_packed.Statement.{statement}
 use Rattle.checker.proofs.weighing.weigh_packed.Tie as tie
 
@@ -72,7 +73,7 @@ take-packed-rows-requires c κs =
     let t = packed-contents (a .held) (now (a .ones)) (now (a .twos)) (now (a .y)) (now (a .s)) (start .pre .contents) in
     let u = after-write-packed .write-packed .ensures in record {
       whole = start .pre .whole;
-      readable = readable ((a .held) .k) (rowTrits (a .held)) (t .0) (start .pre .whole .twos-size ∙ sym (start .pre .whole .ones-size))
+      readable = planes-row (a .held .k) (rowTrits (a .held)) (t .0) (start .pre .whole .twos-size ∙ sym (start .pre .whole .ones-size))
           (after-shared-slice-known .shared-slice-known .given) (after-shared-slice-known2 .shared-slice-known2 .given);
       work = record { row = u .row; size = u .size ∙ start .pre .work-ones };
       s-size = packed-fitted (a .held) (length (now (a .y))) (length (now (a .s))) (start .pre .lengths) .1;

@@ -6,9 +6,10 @@ use native.Mathlib.Omega.{arith}
 use denote.Ref.{now}
 use lib.ListN.{length, take}
 use Rattle.trits.specs.Rows.{matrixAt}
+use Rattle.matrix.proofs.Orders.{place-below}
 use Rattle.elimination.proofs.Went.{Went, went-turn, went-count, went-grid}
 use Rattle.scheme_laws.proofs.Draws.{first-below}
-use Rattle.draw_reduce.proofs.Fronts.{none-tried, take-next, place-below}
+use Rattle.draw_reduce.proofs.Fronts.{none-tried, take-next}
 use Rattle.draw_reduce.proofs.reduce.eliminate_by.Statement.{statement}
 use Rattle.draw_reduce.proofs.reduce.eliminate_by.Tie as tie
 

@@ -8,7 +8,8 @@ use lib.ListN.{length, take}
 use Rattle.matrix.specs.Linear.{Matrix, rank}
 use Rattle.matrix.specs.Steps.{eliminated}
 use Rattle.grid.proofs.Cells.{grid-to}
-use Rattle.draw_reduce.proofs.Fronts.{copied-rows, copied-cells}
+use Rattle.grid.proofs.RowParts.{copied-rows}
+use Rattle.draw_reduce.proofs.Fronts.{copied-cells}
 use Rattle.draw_reduce.proofs.reduce.reduce_copied.Statement.{statement}
 use Rattle.draw_reduce.proofs.reduce.reduce_copied.Tie as tie
 

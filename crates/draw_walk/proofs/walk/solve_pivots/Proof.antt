@@ -1,9 +1,9 @@
 -- Each turn walks one place more (`solve-turn`); rows c and x are not the row that changes.
 -- Assumes nothing.
-use Rattle.draw_reduce.proofs.Fronts.{place-below}
 use Rattle.draw_walk.proofs.Supplied.{Walking, walking-none, taken-nil, solve-turn}
 use Rattle.draw_reduce.specs.Steps.{taken}
 use Rattle.matrix.specs.Linear.{times, fill}
+use Rattle.matrix.proofs.Orders.{place-below}
 use Rattle.trits.specs.Rows.{matrixAt}
 use denote.Ref.{now}
 use lib.ListN.{length, take}

@@ -2,14 +2,14 @@
 -- Assumes nothing.
 use borrow.Author.Needs.{needs}
 use Rattle.grid.proofs.RowParts.{trit-lt, put-number}
-use Rattle.draw_walk.proofs.Puts.{next-lt, pick-first, pick-second, grid-row, grid-own}
-use Rattle.elimination.proofs.Went.{yes-count, no-count}
+use Rattle.draw_walk.proofs.Puts.{next-lt, grid-row, grid-own}
 use Rattle.trits.specs.Rows.{matrixAt}
 use Rattle.trits.specs.Trit.{dotV}
 use denote.Ref.{now}
 use native.Mathlib.Omega.{arith}
 use mathlib.Core.Path.{sym, _∙_}
 use Prim.Native.Nat.{_*_}
+use Rattle.matrix.proofs.Steps.{yes-count, no-count, pick-first, pick-second}
 use Rattle.draw_walk.proofs.walk.solve_place.Statement.{statement}
 use Rattle.draw_walk.proofs.walk.solve_place.Tie as tie
 

@@ -1,9 +1,9 @@
 -- Each turn walks one place more (`supply-turn`); a place passed over finds a trit (`supply-room`).
 -- Assumes nothing.
-use Rattle.draw_reduce.proofs.Fronts.{place-below}
 use Rattle.draw_walk.proofs.Supplied.{Walking, walking-none, passed-nil, passed-count, supply-room, supply-turn}
 use Rattle.draw_reduce.specs.Steps.{passed}
 use Rattle.matrix.specs.Linear.{fill}
+use Rattle.matrix.proofs.Orders.{place-below}
 use Rattle.trits.specs.Rows.{matrixAt}
 use Rattle.trits.specs.Planes.{tritAt}
 use denote.Ref.{now}

@@ -1,9 +1,9 @@
 -- Each turn puts the value of one place more of the last part (`forced-turn`); row ev is not the row that changes.
 -- Assumes nothing.
-use Rattle.draw_reduce.proofs.Fronts.{place-below}
 use Rattle.draw_walk.proofs.Supplied.{forcedAt, forced-start, forced-turn, forced-all}
 use Rattle.grid.specs.Steps.{Grid, putRow}
 use Rattle.matrix.specs.Linear.{fill}
+use Rattle.matrix.proofs.Orders.{place-below}
 use Rattle.trits.specs.Rows.{matrixAt}
 use Rattle.trits.specs.Planes.{tritAt}
 use denote.Ref.{now}

@@ -1,12 +1,12 @@
 -- Where the place has the next pivot the count rises and nothing changes; else the trit is put and the count stays.
 -- Assumes nothing.
 use borrow.Author.Needs.{needs}
-use Rattle.draw_walk.proofs.Puts.{next-lt, pick-first, pick-second, grid-row, grid-own, other-case}
-use Rattle.elimination.proofs.Went.{yes-count, no-count}
+use Rattle.draw_walk.proofs.Puts.{next-lt, grid-row, grid-own, other-case}
 use Rattle.trits.specs.Rows.{matrixAt}
 use denote.Ref.{now}
 use native.Mathlib.Omega.{arith}
 use mathlib.Core.Path.{sym, _∙_}
+use Rattle.matrix.proofs.Steps.{yes-count, no-count, pick-first, pick-second}
 use Rattle.draw_walk.proofs.walk.supply_place.Statement.{statement}
 use Rattle.draw_walk.proofs.walk.supply_place.Tie as tie
 

@@ -7,7 +7,7 @@ use denote.Ref.{now}
 use lib.Dec.{lit<}
 use Rattle.calls.specs.Lent.{planes, halfWords}
 use Rattle.calls.proofs.Bounds.{bounds}
-use Rattle.calls.proofs.Exits.{positive}
+use Rattle.trits.proofs.Refusals.{positive}
 use Rattle.draw_tests.specs.Steps.{given}
 use Rattle.draw_word.proofs.Stages.{upto-row, ending-ranks, ending-fourteen, ending-none, made, unmade}
 use borrow.Author.Needs.{needs}
@@ -129,7 +129,7 @@ returns c =
     let e = after-solve-halves .solve-halves .ensures .0 in (
       ending-ranks (a .z) i e (λ y. c .if1 .taken (c .before .code .ensures ∙ y)),
       after-solve-halves .solve-halves .ensures .1,
-      unmade (positive _ (λ y. c .if1 .taken (c .before .code .ensures ∙ y))),
+      unmade (positive (λ y. c .if1 .taken (c .before .code .ensures ∙ y))),
     )
 
 join-word-requires : tie.Need-join-word-requires

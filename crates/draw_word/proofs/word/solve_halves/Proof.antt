@@ -6,12 +6,13 @@ use native.Mathlib.Omega.{arith}
 use denote.Ref.{now}
 use lib.Dec.{lit<}
 use Rattle.matrix.proofs.Field.{not-true, not-false}
+use Rattle.matrix.proofs.Orders.{order-own}
 use Rattle.scheme.specs.Secret.{Secret}
 use Rattle.scheme.specs.Draw.{Choices}
 use Rattle.calls.specs.Lent.{planes, halfWords, secretOf}
 use Rattle.calls.proofs.Bounds.{bounds, prod}
 use Rattle.draw_word.specs.Steps.{choices}
-use Rattle.draw_word.proofs.Stages.{order-own, ends-own, ends-to, test-v, test-u, kept-x, kept-u, halves-solved, unsolved}
+use Rattle.draw_word.proofs.Stages.{ends-own, ends-to, test-v, test-u, kept-x, kept-u, halves-solved, unsolved}
 use borrow.Author.Needs.{needs}
 use Rattle.draw_word.proofs.word.solve_halves.Statement.{statement}
 use Rattle.draw_word.proofs.word.solve_halves.Tie as tie

@@ -1,8 +1,7 @@
 -- The count rises by one where the step found a pivot, and then there was room for it.
 -- Assumes nothing.
 use borrow.Author.Needs.{needs}
-use Rattle.matrix.proofs.Steps.{has-row}
-use Rattle.elimination.proofs.Went.{yes-count, no-count}
+use Rattle.matrix.proofs.Steps.{has-row, yes-count, no-count}
 use Rattle.trits.specs.Rows.{matrixAt}
 use denote.Ref.{now}
 use native.Mathlib.Omega.{arith}

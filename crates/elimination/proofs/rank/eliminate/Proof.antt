@@ -1,8 +1,8 @@
 -- The columns tried so far are 0, 1, .. in their order; all of them are the whole, and the kept ones are as many as the rank (`eliminate-rank`).
 -- Assumes nothing.
 use Rattle.matrix.proofs.Orders.{order-good}
-use Rattle.matrix.proofs.Counts.{range-order}
-use Rattle.elimination.proofs.Went.{Went, went-none, went-turn, went-count, went-grid, range-next}
+use Rattle.matrix.proofs.Counts.{range-order, range-next}
+use Rattle.elimination.proofs.Went.{Went, went-none, went-turn, went-count, went-grid}
 use Rattle.matrix.specs.Linear.{range}
 use Rattle.trits.specs.Rows.{matrixAt}
 use native.Mathlib.Omega.{arith}

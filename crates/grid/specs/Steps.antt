@@ -135,3 +135,10 @@ pub record ForPairWeight (ones twos : List ℕ) (rows w u v : ℕ) : Type 0 wher
   pub narrow : w ≤ 65536
   pub u-in : u < rows
   pub v-in : v < rows
+
+-- a grid, and two of its rows: the first, and the one that is added to it or taken from it
+pub record ForAddRows (ones twos : List ℕ) (rows w i j : ℕ) : Type 0 where
+  pub grid : Rows ones twos rows w
+  pub i-in : i < rows
+  pub j-in : j < rows
+  pub apart : i ≢ j

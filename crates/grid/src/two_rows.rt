@@ -1,11 +1,10 @@
 // Two rows of one matrix: exchanged, added, subtracted, and their dot product.
 ghost use mathlib.Core.Path.{_≡_};
-ghost use mathlib.Core.Logic.{_≢_};
 ghost use Prim.Native.Nat.{_*_, _<_};
 ghost use Rattle.trits.specs.Trit.{addT, subT, number, dotV};
 ghost use Rattle.trits.specs.Rows.{matrixAt};
 ghost use Rattle.matrix.specs.Steps.{swapRows};
-ghost use Rattle.grid.specs.Steps.{Rows, Grid, Swapped, joinRow, ForSwapPlane, ForSwapRows, ForRowDot};
+ghost use Rattle.grid.specs.Steps.{Grid, Swapped, joinRow, ForSwapPlane, ForSwapRows, ForRowDot, ForAddRows};
 
 // Rows a and b of one plane change places.
 pub fn swap_plane(plane: &mut [u64], rows: usize, w: usize, a: usize, b: usize)
@@ -37,8 +36,7 @@ pub fn swap_rows(ones: &mut [u64], twos: &mut [u64], rows: usize, w: usize, a: u
 
 // Row j is added to row i.
 pub fn add_rows(ones: &mut [u64], twos: &mut [u64], rows: usize, w: usize, i: usize, j: usize)
-    requires { ⌜ Rows (now ones) (now twos) rows w ⌝ }
-    requires { ⌜ (i < rows) × (j < rows) × (i ≢ j) ⌝ }
+    requires { ⌜ ForAddRows (now ones) (now twos) rows w i j ⌝ }
     ensures { λ _. ⌜ Grid (now (ones .exit)) (now (twos .exit)) rows w (joinRow addT i j (matrixAt w (now (ones .entry)) (now (twos .entry)))) ⌝ }
 {
     let at = i * w;
@@ -60,8 +58,7 @@ pub fn add_rows(ones: &mut [u64], twos: &mut [u64], rows: usize, w: usize, i: us
 
 // Row j is subtracted from row i.
 pub fn sub_rows(ones: &mut [u64], twos: &mut [u64], rows: usize, w: usize, i: usize, j: usize)
-    requires { ⌜ Rows (now ones) (now twos) rows w ⌝ }
-    requires { ⌜ (i < rows) × (j < rows) × (i ≢ j) ⌝ }
+    requires { ⌜ ForAddRows (now ones) (now twos) rows w i j ⌝ }
     ensures { λ _. ⌜ Grid (now (ones .exit)) (now (twos .exit)) rows w (joinRow subT i j (matrixAt w (now (ones .entry)) (now (twos .entry)))) ⌝ }
 {
     let at = i * w;

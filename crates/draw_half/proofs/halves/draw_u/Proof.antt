@@ -129,8 +129,12 @@ supply-forced-requires c κs =
 sub-rows-requires : tie.Need-sub-rows-requires
 sub-rows-requires c κs =
     let after-supply-forced = supply-forced-from-sub-rows-arg2 c in
-    let s = start-from-supply-forced after-supply-forced in
-    (after-supply-forced .supply-forced .ensures .rows, (s .pre .x-in, s .pre .e-in, s .pre .apart))
+    let s = start-from-supply-forced after-supply-forced in record {
+      grid = after-supply-forced .supply-forced .ensures .rows;
+      i-in = s .pre .x-in;
+      j-in = s .pre .e-in;
+      apart = s .pre .apart;
+    }
 
 solve-pivots-requires : tie.Need-solve-pivots-requires
 solve-pivots-requires c κs =

@@ -97,8 +97,12 @@ supply-requires c κs =
 sub-rows-requires : tie.Need-sub-rows-requires
 sub-rows-requires c κs =
     let after-supply = supply-from-sub-rows-arg2 c in
-    let s = start-from-supply after-supply in
-    (after-supply .supply .ensures .rows, (s .pre .x-in, s .pre .e-in, s .pre .apart))
+    let s = start-from-supply after-supply in record {
+      grid = after-supply .supply .ensures .rows;
+      i-in = s .pre .x-in;
+      j-in = s .pre .e-in;
+      apart = s .pre .apart;
+    }
 
 solve-pivots-requires : tie.Need-solve-pivots-requires
 solve-pivots-requires c κs =

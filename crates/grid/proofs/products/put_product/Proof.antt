@@ -37,8 +37,12 @@ zero-row-requires c κs =
 add-rows-requires : tie.Need-add-rows-requires
 add-rows-requires c κs =
     let after-zero-row = zero-row-from-add-rows-arg2 c in
-    let s = start-from-zero-row after-zero-row in
-    (after-zero-row .zero-row .ensures .rows, (s .pre .t-in, s .pre .i-in, s .pre .apart))
+    let s = start-from-zero-row after-zero-row in record {
+      grid = after-zero-row .zero-row .ensures .rows;
+      i-in = s .pre .t-in;
+      j-in = s .pre .i-in;
+      apart = s .pre .apart;
+    }
 
 mul-by-requires : tie.Need-mul-by-requires
 mul-by-requires c κs =

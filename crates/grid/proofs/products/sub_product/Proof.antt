@@ -35,8 +35,12 @@ put-product-requires c κs =
 sub-rows-requires : tie.Need-sub-rows-requires
 sub-rows-requires c κs =
     let after-put-product = put-product-from-sub-rows-arg2 c in
-    let s = start-from-put-product after-put-product in
-    (after-put-product .put-product .ensures .rows, (s .pre .a-in, s .pre .t-in, s .pre .a-apart))
+    let s = start-from-put-product after-put-product in record {
+      grid = after-put-product .put-product .ensures .rows;
+      i-in = s .pre .a-in;
+      j-in = s .pre .t-in;
+      apart = s .pre .a-apart;
+    }
 
 same-length : tie.Need-same-length
 same-length c =

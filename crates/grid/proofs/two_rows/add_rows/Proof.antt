@@ -16,24 +16,24 @@ abbrev μ-loop : tie.MeasureT-loop
 μ-loop ones₀ twos₀ rows w i j at from k₀ ones twos k = w - k
 
 mul-at : tie.Need-mul-at Inv-loop μ-loop
-mul-at c = omega (arith, row-le (c .args .w) {i = c .args .i} {m = c .args .rows} (c .pre .1 .0), c .pre .0 .size)
+mul-at c = omega (arith, row-le (c .args .w) {i = c .args .i} {m = c .args .rows} (c .pre .i-in), c .pre .grid .size)
 
 mul-from : tie.Need-mul-from Inv-loop μ-loop
-mul-from c = omega (arith, row-le (c .args .w) {i = c .args .j} {m = c .args .rows} (c .pre .1 .1), c .pre .0 .size)
+mul-from c = omega (arith, row-le (c .args .w) {i = c .args .j} {m = c .args .rows} (c .pre .j-in), c .pre .grid .size)
 
 loop-holds : tie.Need-loop-holds Inv-loop μ-loop
-loop-holds c = joining-none (c .pre .0) (c .pre .1 .0) (c .pre .1 .1)
+loop-holds c = joining-none (c .pre .grid) (c .pre .i-in) (c .pre .j-in)
 
 loop-again : tie.Need-loop-again Inv-loop μ-loop
 loop-again c =
     let s = c .before .before .before .before .before in
-    joining-more (s .loop .inv) (s .before .pre .1 .2) (omega arith) refl refl
+    joining-more (s .loop .inv) (s .before .pre .apart) (omega arith) refl refl
 
 returns : tie.Need-returns Inv-loop μ-loop
 returns c =
     let s = c .before .before in
     let l = c .before .loop in
-    joined-grid add-op refl (s .args .w) (s .args .i) (s .args .j) (s .pre .0) (l .inv .ones) (l .inv .twos) (omega arith)
+    joined-grid add-op refl (s .args .w) (s .args .i) (s .args .j) (s .pre .grid) (l .inv .ones) (l .inv .twos) (omega arith)
 
 pub add-rows-spec : {M : Type 1} → statement M
 add-rows-spec =

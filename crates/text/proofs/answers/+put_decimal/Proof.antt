@@ -115,13 +115,15 @@ put-decimal-put-byte-requires-2 : (t : ℕ) → put-decimal-lts.Need-put-byte-re
   put-decimal.Post,
 ) (put-decimal-at t) put-decimal.Post
 put-decimal-put-byte-requires-2 t c κs =
-    let s = c .before .before .before .before .before .before .before in
+    let after-put-decimal = c .before .before .before in
+    let else1 = after-put-decimal .before .before in
+    let s = else1 .before .before in
     omega (
       arith,
       s .pre .1,
-      length-more (s .args .n) (c .before .before .before .before .before .if1 .left),
-      c .before .before .before .put-decimal .ensures .0,
-      c .before .before .before .put-decimal .kept .0,
+      length-more (s .args .n) (else1 .if1 .left),
+      after-put-decimal .put-decimal .ensures .0,
+      after-put-decimal .put-decimal .kept .0,
     )
 
 put-decimal-same-length-2 : (t : ℕ) → put-decimal-lts.Need-same-length-2 (
@@ -140,10 +142,12 @@ put-decimal-returns-2 : (t : ℕ) → put-decimal-lts.Need-returns-2 (
   put-decimal.Post,
 ) (put-decimal-at t) put-decimal.Post
 put-decimal-returns-2 t c =
-    let s = c .before .before .before .before .before .before .before .before .before .before in
+    let after-put-decimal = c .before .before .before .before .before .before in
+    let else1 = after-put-decimal .before .before in
+    let s = else1 .before .before in
     let n = s .args .n in
-    let h = c .before .before .before .before .before .before .before .before .if1 .left in
-    let d = c .before .before .before .before .before .before .put-decimal .ensures in
+    let h = else1 .if1 .left in
+    let d = after-put-decimal .put-decimal .ensures in
     let p = c .before .before .put-byte2 .ensures in
     let g = put-then (now (s .args .out)) (s .args .at) (decimal (n / 10)) _ ((48 + n % 10) ∷ []) (omega (arith, s .pre .1, length-more n h)) (d .0) (d .1)
     (p .1) in

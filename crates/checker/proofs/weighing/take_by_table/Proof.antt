@@ -76,15 +76,13 @@ loop-holds c =
 
 shared-slice-read-trit : tie.Need-shared-slice-read-trit Inv-loop μ-loop
 shared-slice-read-trit c =
-    let l = start-from-at-loop (c .before .before) .pre .s-size in
-    omega arith
+    omega (arith, start-from-at-loop (c .before .before) .pre .s-size)
 
 trit-requires : tie.Need-trit-requires Inv-loop μ-loop
 trit-requires c κs =
     let start = start-from-at-loop (c .before .before) in
-    let l = start .pre .s-size in
     let s = now (start .args .s) in
-    let b = bytes-small s (bytes-passed s (start .pre .s-tested)) (c .before .before .loop .i / 5) (omega arith) in record {
+    let b = bytes-small s (bytes-passed s (start .pre .s-tested)) (c .before .before .loop .i / 5) (omega (arith, start .pre .s-size)) in record {
       is-table = start .pre .is-table;
       byte = omega (arith, b);
       digit = omega (arith, b);

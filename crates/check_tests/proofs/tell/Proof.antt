@@ -2,7 +2,6 @@
 -- Assumes nothing.
 use mathlib.Core.Path.{sym, ap, _∙_}
 use borrow.Author.Needs.{needs}
-use Rattle.trits.specs.Trit.{number}
 use Rattle.check_tests.specs.Check.{told}
 use Rattle.check_tests.proofs.Answers.{refused-numbers}
 use Rattle.check_tests.proofs.tell.Statement.{statement}

@@ -1,23 +1,68 @@
 -- The tests are made in the order of `callRefusal`, and each return tells what they found.
 -- Assumes nothing.
-use mathlib.Core.Path.{sym, _∙_}
+use mathlib.Core.Path.{_≡_, sym, _∙_}
+use mathlib.Core.Bool.{true, false}
 use native.Mathlib.Omega.{arith}
 use borrow.Author.Needs.{needs}
+use lib.Dec.{eqb}
 use borrow.Author.Tests.{eq-eqb, ne-eqb}
-use Rattle.held_key.specs.Held.{rowWords, keyWords}
+use Rattle.held_key.specs.Held.{sound, rowWords, keyWords}
+use Rattle.trits.specs.Refusal.{demand}
 use Rattle.check_tests.specs.Check.{callRefusal}
 use Rattle.check_tests.proofs.test_call.Statement.{statement}
 use Rattle.check_tests.proofs.test_call.Tie as tie
 
 -- The places that the answers look back to, each from a later one.
-abbrev else3-from-then6 : tie.Then6 → tie.Else3
-else3-from-then6 c = c .before .before .before .before .before
+abbrev start-from-else4 : tie.Else4 → tie.Start
+start-from-else4 c = c .before .before .before .before .before .before .before .before
 
-abbrev then2-from-else5 : tie.Else5 → tie.Then2
-then2-from-else5 c = c .before .before .before .before .before .before
+abbrev else4-from-else6 : tie.Else6 → tie.Else4
+else4-from-else6 c = c .before .before .before
 
-abbrev then2-from-else6 : tie.Else6 → tie.Then2
-then2-from-else6 c = then2-from-else5 (c .before)
+-- there is a key, and its state is sound
+begun : (c : tie.Else1) → eqb (c .before .before .args .held .begun) 0 ≡ false
+begun c = ne-eqb _ _ (c .if1 .left)
+
+state-sound : (c : tie.Then2) → sound (c .before .before .before .before .args .held) ≡ true
+state-sound c = sym (c .before .is-sound .ensures) ∙ c .if2 .taken
+
+-- what is left of the chain once the key is whole and the one named: the lengths
+lengths-left : (c : tie.Else4) → let a = start-from-else4 c .args in
+    callRefusal (a .held) (a .number) (a .ones) (a .twos) (a .work-ones) (a .work-twos) ≡
+    demand (eqb (a .ones) (keyWords (a .held))) 2 (demand (eqb (a .twos) (keyWords (a .held))) 2
+    (demand (eqb (a .work-ones) (rowWords (a .held))) 2 (demand (eqb (a .work-twos) (rowWords (a .held))) 2 0)))
+unfolding callRefusal
+lengths-left c =
+    let else3 = c .before .before in
+    let then2 = else3 .before .before in
+    let a = start-from-else4 c .args in
+    rw (
+      begun (then2 .before .before),
+      state-sound then2,
+      eq-eqb _ _ (else3 .if3 .left),
+      eq-eqb (a .number) (a .held .number) (omega (arith, c .if4 .left)),
+    )
+
+-- the ones plane has its length
+ones-fit : (c : tie.Else5) → let a = start-from-else4 (c .before .before) .args in eqb (a .ones) (keyWords (a .held)) ≡ true
+ones-fit c = eq-eqb _ _ (c .if5 .left ∙ c .before .key-words .ensures)
+
+-- what is left of the chain once both planes have their lengths: the working space
+work-left : (c : tie.Else6) → let a = start-from-else4 (else4-from-else6 c) .args in
+    callRefusal (a .held) (a .number) (a .ones) (a .twos) (a .work-ones) (a .work-twos) ≡
+    demand (eqb (a .work-ones) (rowWords (a .held))) 2 (demand (eqb (a .work-twos) (rowWords (a .held))) 2 0)
+work-left c =
+    let a = start-from-else4 (else4-from-else6 c) .args in
+    rw (
+      lengths-left (else4-from-else6 c),
+      ones-fit (c .before),
+      eq-eqb (a .twos) (keyWords (a .held)) (c .if6 .left ∙ c .before .before .key-words .ensures),
+    )
+
+-- the ones plane of the working space has its length
+work-ones-fit : (c : tie.Else7) → let a = start-from-else4 (else4-from-else6 (c .before .before)) .args in
+    eqb (a .work-ones) (rowWords (a .held)) ≡ true
+work-ones-fit c = eq-eqb _ _ (c .if7 .left ∙ c .before .row-words .ensures)
 
 returns : tie.Need-returns
 unfolding callRefusal
@@ -30,144 +75,73 @@ is-sound-requires c κs = search needs
 returns-2 : tie.Need-returns-2
 unfolding callRefusal
 returns-2 c =
-    rw (
-      ne-eqb _ _ (c .before .before .before .before .if1 .left),
-      sym (c .before .before .before .is-sound .ensures) ∙ c .before .before .if2 .taken,
-      ne-eqb _ _ (c .if3 .taken),
-    )
+    rw (begun (c .before .before .before .before), state-sound (c .before .before), ne-eqb _ _ (c .if3 .taken))
 
 returns-3 : tie.Need-returns-3
 unfolding callRefusal
 returns-3 c =
     let then2 = c .before .before .before .before in
-    let after-is-sound = then2 .before in
-    let else1 = after-is-sound .before in
-    let start = else1 .before .before in
+    let a = then2 .before .before .before .before .args in
     rw (
-      ne-eqb _ _ (else1 .if1 .left),
-      sym (after-is-sound .is-sound .ensures) ∙ then2 .if2 .taken,
+      begun (then2 .before .before),
+      state-sound then2,
       eq-eqb _ _ (c .before .before .if3 .left),
-      ne-eqb (start .args .number) (start .args .held .number) (λ e. omega (arith, e, c .if4 .taken)),
+      ne-eqb (a .number) (a .held .number) (λ e. omega (arith, e, c .if4 .taken)),
     )
 
 key-words-requires : tie.Need-key-words-requires
-key-words-requires c κs =
-    let then2 = c .before .before .before .before in
-    let after-is-sound = then2 .before in
-    sym (after-is-sound .is-sound .ensures) ∙ then2 .if2 .taken
+key-words-requires c κs = state-sound (c .before .before .before .before)
 
 returns-4 : tie.Need-returns-4
-unfolding callRefusal
 returns-4 c =
-    let else3 = c .before .before .before .before in
-    let then2 = else3 .before .before in
-    let after-is-sound = then2 .before in
-    let else1 = after-is-sound .before in
-    let start = else1 .before .before in
-    let a = start .args in
-    rw (
-      ne-eqb _ _ (else1 .if1 .left),
-      sym (after-is-sound .is-sound .ensures) ∙ then2 .if2 .taken,
-      eq-eqb _ _ (else3 .if3 .left),
-      eq-eqb (a .number) (a .held .number) (omega (arith, c .before .before .if4 .left)),
-      ne-eqb (a .ones) (keyWords (a .held)) (λ e. c .if5 .taken (e ∙ sym (c .before .key-words .ensures))),
-    )
+    let else4 = c .before .before in
+    let a = start-from-else4 else4 .args in
+    rw (lengths-left else4, ne-eqb (a .ones) (keyWords (a .held)) (λ e. c .if5 .taken (e ∙ sym (c .before .key-words .ensures))))
 
 returns-5 : tie.Need-returns-5
-unfolding callRefusal
 returns-5 c =
-    let else3 = else3-from-then6 c in
-    let then2 = else3 .before .before in
-    let after-is-sound = then2 .before in
-    let else1 = after-is-sound .before in
-    let start = else1 .before .before in
-    let a = start .args in
+    let else4 = c .before .before .before in
+    let a = start-from-else4 else4 .args in
     rw (
-      ne-eqb _ _ (else1 .if1 .left),
-      sym (after-is-sound .is-sound .ensures) ∙ then2 .if2 .taken,
-      eq-eqb _ _ (else3 .if3 .left),
-      eq-eqb (a .number) (a .held .number) (omega (arith, c .before .before .before .if4 .left)),
-      eq-eqb (a .ones) (keyWords (a .held)) (c .before .if5 .left ∙ c .before .before .key-words .ensures),
+      lengths-left else4,
+      ones-fit (c .before),
       ne-eqb (a .twos) (keyWords (a .held)) (λ e. c .if6 .taken (e ∙ sym (c .before .before .key-words .ensures))),
     )
 
 row-words-requires : tie.Need-row-words-requires
 row-words-requires c κs =
-    let then2 = then2-from-else6 c in
-    let after-is-sound = then2 .before in
-    sym (after-is-sound .is-sound .ensures) ∙ then2 .if2 .taken
+    state-sound (else4-from-else6 c .before .before .before .before)
 
 returns-6 : tie.Need-returns-6
-unfolding callRefusal
 returns-6 c =
-    let after-key-words = c .before .before .before .before in
-    let else4 = after-key-words .before in
-    let else3 = else4 .before .before in
-    let then2 = else3 .before .before in
-    let after-is-sound = then2 .before in
-    let else1 = after-is-sound .before in
-    let start = else1 .before .before in
-    let a = start .args in
-    rw (
-      ne-eqb _ _ (else1 .if1 .left),
-      sym (after-is-sound .is-sound .ensures) ∙ then2 .if2 .taken,
-      eq-eqb _ _ (else3 .if3 .left),
-      eq-eqb (a .number) (a .held .number) (omega (arith, else4 .if4 .left)),
-      eq-eqb (a .ones) (keyWords (a .held)) (c .before .before .before .if5 .left ∙ after-key-words .key-words .ensures),
-      eq-eqb (a .twos) (keyWords (a .held)) (c .before .before .if6 .left ∙ after-key-words .key-words .ensures),
-      ne-eqb (a .work-ones) (rowWords (a .held)) (λ e. c .if7 .taken (e ∙ sym (c .before .row-words .ensures))),
-    )
+    let else6 = c .before .before in
+    let a = start-from-else4 (else4-from-else6 else6) .args in
+    rw (work-left else6, ne-eqb (a .work-ones) (rowWords (a .held)) (λ e. c .if7 .taken (e ∙ sym (c .before .row-words .ensures))))
 
 returns-7 : tie.Need-returns-7
-unfolding callRefusal
 returns-7 c =
-    let else5 = c .before .before .before .before in
-    let after-key-words = else5 .before in
-    let else4 = after-key-words .before in
-    let else3 = else4 .before .before in
-    let then2 = else3 .before .before in
-    let after-is-sound = then2 .before in
-    let else1 = after-is-sound .before in
-    let start = else1 .before .before in
-    let a = start .args in
+    let else6 = c .before .before .before in
+    let a = start-from-else4 (else4-from-else6 else6) .args in
     rw (
-      ne-eqb _ _ (else1 .if1 .left),
-      sym (after-is-sound .is-sound .ensures) ∙ then2 .if2 .taken,
-      eq-eqb _ _ (else3 .if3 .left),
-      eq-eqb (a .number) (a .held .number) (omega (arith, else4 .if4 .left)),
-      eq-eqb (a .ones) (keyWords (a .held)) (else5 .if5 .left ∙ after-key-words .key-words .ensures),
-      eq-eqb (a .twos) (keyWords (a .held)) (c .before .before .before .if6 .left ∙ after-key-words .key-words .ensures),
-      eq-eqb (a .work-ones) (rowWords (a .held)) (c .before .if7 .left ∙ c .before .before .row-words .ensures),
+      work-left else6,
+      work-ones-fit (c .before),
       ne-eqb (a .work-twos) (rowWords (a .held)) (λ e. c .if8 .taken (e ∙ sym (c .before .before .row-words .ensures))),
     )
 
 returns-8 : tie.Need-returns-8
-unfolding callRefusal
 returns-8 c =
-    let else5 = c .before .before .before .before in
-    let after-key-words = else5 .before in
-    let else4 = after-key-words .before in
-    let else3 = else4 .before .before in
-    let then2 = else3 .before .before in
-    let after-is-sound = then2 .before in
-    let else1 = after-is-sound .before in
-    let start = else1 .before .before in
-    let a = start .args in
+    let else6 = c .before .before .before in
+    let a = start-from-else4 (else4-from-else6 else6) .args in
     rw (
-      ne-eqb _ _ (else1 .if1 .left),
-      sym (after-is-sound .is-sound .ensures) ∙ then2 .if2 .taken,
-      eq-eqb _ _ (else3 .if3 .left),
-      eq-eqb (a .number) (a .held .number) (omega (arith, else4 .if4 .left)),
-      eq-eqb (a .ones) (keyWords (a .held)) (else5 .if5 .left ∙ after-key-words .key-words .ensures),
-      eq-eqb (a .twos) (keyWords (a .held)) (c .before .before .before .if6 .left ∙ after-key-words .key-words .ensures),
-      eq-eqb (a .work-ones) (rowWords (a .held)) (c .before .if7 .left ∙ c .before .before .row-words .ensures),
+      work-left else6,
+      work-ones-fit (c .before),
       eq-eqb (a .work-twos) (rowWords (a .held)) (c .if8 .left ∙ c .before .before .row-words .ensures),
     )
 
 returns-9 : tie.Need-returns-9
 unfolding callRefusal
 returns-9 c =
-    rw (ne-eqb _ _ (c .before .before .if1 .left), sym (c .before .is-sound .ensures) ∙ c .if2 .left)
+    rw (begun (c .before .before), sym (c .before .is-sound .ensures) ∙ c .if2 .left)
 
 pub test-call-spec : {M : Type 1} → statement M
 test-call-spec =

@@ -1,14 +1,15 @@
 -- The held rows, y and s are tested in the order of `packedContents`, and the first refusal is returned.
 -- Assumes nothing.
 use Prim.Native.Nat.{ℕ, _*_}
-use mathlib.Core.Path.{sym, ap, _∙_}
+use mathlib.Core.Path.{_≡_, sym, ap, _∙_}
 use native.Mathlib.Omega.{arith}
 use borrow.Author.Needs.{needs}
 use denote.Ref.{now}
 use Rattle.trits.specs.Planes.{wordsFor}
-use Rattle.trits.specs.Refusal.{planesRefusal}
+use Rattle.trits.specs.Refusal.{codeOf, first, planesRefusal}
 use Rattle.trits.proofs.Refusals.{first-stops, first-goes}
 use Rattle.check_tests.specs.Check.{packedContents}
+use Rattle.held_key.specs.Held.{rowTrits}
 use Rattle.held_key.proofs.Sizes.{sizes}
 use Rattle.check_tests.proofs.test_packed_contents.Statement.{statement}
 use Rattle.check_tests.proofs.test_packed_contents.Tie as tie
@@ -17,28 +18,28 @@ use Rattle.check_tests.proofs.test_packed_contents.Tie as tie
 abbrev start-from-row-trits : tie.After-row-trits → tie.Start
 start-from-row-trits c = c .before .before .before .before .before
 
-abbrev start-from-test-planes : tie.After-test-planes → tie.Start
-start-from-test-planes c = c .before .before .before .before .before .before
+-- what the test of the key's planes told
+key-told : (c : tie.After-test-planes) → let a = start-from-row-trits (c .before) .args in
+    codeOf (c .test-planes .result) ≡ planesRefusal (now (a .ones)) (now (a .twos)) (a .held .k) (rowTrits (a .held))
+key-told c = c .test-planes .ensures ∙ ap (planesRefusal _ _ _) (c .before .row-trits .ensures)
 
-abbrev start-from-code : tie.After-code → tie.Start
-start-from-code c = start-from-test-planes (c .before)
-
-abbrev start-from-then1 : tie.Then1 → tie.Start
-start-from-then1 c = start-from-code (c .before)
+-- the key's planes passed, so that what follows decides
+key-goes : (c : tie.Else1) {x rest : ℕ} → x ≡ rest → let a = start-from-row-trits (c .before .before .before) .args in
+    x ≡ first (planesRefusal (now (a .ones)) (now (a .twos)) (a .held .k) (rowTrits (a .held))) rest
+key-goes c = first-goes (key-told (c .before .before)) (sym (c .before .code .ensures) ∙ c .if1 .left)
 
 row-trits-requires : tie.Need-row-trits-requires
 row-trits-requires c κs = search needs
 
 test-planes-requires : tie.Need-test-planes-requires
 test-planes-requires c κs =
-    let start = start-from-row-trits c in
-    let a = start .args in
-    let w = start .pre in
-    let s = sizes (a .held) (w .is-sound) in
+    let s = start-from-row-trits c in
+    let a = s .args in
+    let w = s .pre in
     let e = c .row-trits .ensures in record {
       ones-size = w .ones-size ∙ ap (λ (m : ℕ). a .held .k * wordsFor m) (sym e);
       twos-size = w .twos-size ∙ ap (λ (m : ℕ). a .held .k * wordsFor m) (sym e);
-      small = omega (arith, s, e);
+      small = omega (arith, sizes (a .held) (w .is-sound), e);
     }
 
 code-requires : tie.Need-code-requires
@@ -47,11 +48,7 @@ code-requires c κs = search needs
 returns : tie.Need-returns
 unfolding packedContents
 returns c =
-    let start = start-from-then1 c in
-    let a = start .args in
-    first-stops _ (c .before .before .test-planes .ensures ∙
-    ap (planesRefusal (now (a .ones)) (now (a .twos)) (a .held .k)) (c .before .before .before .row-trits .ensures))
-    (λ z. c .if1 .taken (c .before .code .ensures ∙ z))
+    first-stops _ (key-told (c .before .before)) (λ z. c .if1 .taken (c .before .code .ensures ∙ z))
 
 test-bytes-requires : tie.Need-test-bytes-requires
 test-bytes-requires c κs = search needs
@@ -62,14 +59,7 @@ code-requires-2 c κs = search needs
 returns-2 : tie.Need-returns-2
 unfolding packedContents
 returns-2 c =
-    let after-code = c .before .before .before .before in
-    let after-test-planes = after-code .before in
-    let after-row-trits = after-test-planes .before in
-    let start = start-from-row-trits after-row-trits in
-    let a = start .args in
-    first-goes (after-test-planes .test-planes .ensures ∙ ap (planesRefusal (now (a .ones)) (now (a .twos)) (a .held .k)) (after-row-trits .row-trits .ensures))
-    (sym (after-code .code .ensures) ∙ c .before .before .before .if1 .left)
-    (first-stops _ (c .before .before .test-bytes .ensures) (λ z. c .if2 .taken (c .before .code2 .ensures ∙ z)))
+    key-goes (c .before .before .before) (first-stops _ (c .before .before .test-bytes .ensures) (λ z. c .if2 .taken (c .before .code2 .ensures ∙ z)))
 
 test-bytes-requires-2 : tie.Need-test-bytes-requires-2
 test-bytes-requires-2 c κs = search needs
@@ -77,15 +67,8 @@ test-bytes-requires-2 c κs = search needs
 returns-3 : tie.Need-returns-3
 unfolding packedContents
 returns-3 c =
-    let else1 = c .before .before .before .before in
-    let after-code = else1 .before in
-    let after-test-planes = after-code .before in
-    let after-row-trits = after-test-planes .before in
-    let start = start-from-row-trits after-row-trits in
-    let a = start .args in
-    first-goes (after-test-planes .test-planes .ensures ∙ ap (planesRefusal (now (a .ones)) (now (a .twos)) (a .held .k)) (after-row-trits .row-trits .ensures))
-    (sym (after-code .code .ensures) ∙ else1 .if1 .left) (first-goes (c .before .before .before .test-bytes .ensures)
-    (sym (c .before .before .code2 .ensures) ∙ c .before .if2 .left) (c .test-bytes2 .ensures))
+    key-goes (c .before .before .before .before)
+    (first-goes (c .before .before .before .test-bytes .ensures) (sym (c .before .before .code2 .ensures) ∙ c .before .if2 .left) (c .test-bytes2 .ensures))
 
 pub test-packed-contents-spec : {M : Type 1} → statement M
 test-packed-contents-spec =

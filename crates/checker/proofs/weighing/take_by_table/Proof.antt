@@ -36,17 +36,28 @@ start-from-slice-known2 c = c .before .before .before .before .before
 abbrev start-from-at-loop : tie.At-loop Inv-loop μ-loop → tie.Start Inv-loop μ-loop
 start-from-at-loop c = c .before .before .before .before .before .before
 
-abbrev start-from-in-loop : tie.In-loop Inv-loop μ-loop → tie.Start Inv-loop μ-loop
-start-from-in-loop c = start-from-at-loop (c .before)
-
-abbrev start-from-trit : tie.After-trit Inv-loop μ-loop → tie.Start Inv-loop μ-loop
-start-from-trit c = start-from-in-loop (c .before .before)
-
 abbrev start-from-take-row : tie.After-take-row Inv-loop μ-loop → tie.Start Inv-loop μ-loop
-start-from-take-row c = start-from-trit (c .before .before .before)
+start-from-take-row c = start-from-at-loop (c .before .before .before .before .before .before)
 
-abbrev start-from-after-loop : tie.After-loop Inv-loop μ-loop → tie.Start Inv-loop μ-loop
-start-from-after-loop c = start-from-at-loop (c .before)
+-- the trit read is that of s
+trit-read : (c : tie.After-trit Inv-loop μ-loop) → let at-loop = c .before .before .before in
+    let a = start-from-at-loop at-loop .args in
+    tritOf (c .trit .result) ≡ packedRow (a .held .k) (now (a .s)) (at-loop .loop .i)
+trit-read c =
+    let at-loop = c .before .before .before in
+    let a = start-from-at-loop at-loop .args in
+    packed-trit (now (a .s)) (a .held .k) (at-loop .loop .i) (c .trit .result) (omega arith) (c .trit .ensures)
+
+-- with this row, the rows taken are the trits of s up to i that are not 0
+counted : (c : tie.After-take-row Inv-loop μ-loop) → let at-loop = c .before .before .before .before .before .before in
+    let a = start-from-at-loop at-loop .args in
+    at-loop .loop .taken + c .take-row .result ≡ weightV (packedRow (a .held .k) (now (a .s))) (at-loop .loop .i + 1)
+counted c =
+    let after-trit = c .before .before .before in
+    let at-loop = after-trit .before .before .before in
+    let a = start-from-at-loop at-loop .args in
+    turn-weight (packedRow (a .held .k) (now (a .s))) (at-loop .loop .i) (tritOf (after-trit .trit .result)) (trit-read after-trit) (at-loop .loop .inv .1)
+    (c .take-row .ensures .0)
 
 loop-holds : tie.Need-loop-holds Inv-loop μ-loop
 unfolding sumTo
@@ -65,14 +76,13 @@ loop-holds c =
 
 shared-slice-read-trit : tie.Need-shared-slice-read-trit Inv-loop μ-loop
 shared-slice-read-trit c =
-    let l = start-from-in-loop (c .before) .pre .s-size in
-    omega arith
+    omega (arith, start-from-at-loop (c .before .before) .pre .s-size)
 
 trit-requires : tie.Need-trit-requires Inv-loop μ-loop
 trit-requires c κs =
-    let start = start-from-in-loop (c .before) in
-    let l = start .pre .s-size in
-    let b = bytes-small (now (start .args .s)) (bytes-passed (now (start .args .s)) (start .pre .s-tested)) (c .before .before .loop .i / 5) (omega arith) in record {
+    let start = start-from-at-loop (c .before .before) in
+    let s = now (start .args .s) in
+    let b = bytes-small s (bytes-passed s (start .pre .s-tested)) (c .before .before .loop .i / 5) (omega (arith, start .pre .s-size)) in record {
       is-table = start .pre .is-table;
       byte = omega (arith, b);
       digit = omega (arith, b);
@@ -93,14 +103,15 @@ take-row-requires c κs =
 add-taken : tie.Need-add-taken Inv-loop μ-loop
 add-taken c =
     let after-take-row = c .before .before .before .before in
-    let after-trit = after-take-row .before .before .before in
-    let at-loop = after-trit .before .before .before in
+    let at-loop = after-take-row .before .before .before .before .before .before in
     let start = start-from-at-loop at-loop in
     let a = start .args in
-    let t = turn-weight (packedRow (a .held .k) (now (a .s))) (at-loop .loop .i) (tritOf (after-trit .trit .result))
-    (packed-trit (now (a .s)) (a .held .k) (at-loop .loop .i) (after-trit .trit .result) (omega arith) (after-trit .trit .ensures)) (at-loop .loop .inv .1)
-    (after-take-row .take-row .ensures .0) in
-    omega (arith, t, weight-le (packedRow (a .held .k) (now (a .s))) (at-loop .loop .i + 1), sizes (a .held) (start .pre .whole .is-sound))
+    omega (
+      arith,
+      counted after-take-row,
+      weight-le (packedRow (a .held .k) (now (a .s))) (at-loop .loop .i + 1),
+      sizes (a .held) (start .pre .whole .is-sound),
+    )
 
 add-i : tie.Need-add-i Inv-loop μ-loop
 add-i c =
@@ -116,14 +127,12 @@ loop-again c =
     let after-take-row = c .before .before .before .before in
     let after-trit = after-take-row .before .before .before in
     let at-loop = after-trit .before .before .before in
-    let start = start-from-at-loop at-loop in
-    let a = start .args in
-    let x = (packed-trit (now (a .s)) (a .held .k) (at-loop .loop .i) (after-trit .trit .result) (omega arith) (after-trit .trit .ensures)) in (
+    let a = start-from-at-loop at-loop .args in
+    let v = at-loop .loop .inv .2 in (
       omega arith,
-      turn-weight (packedRow (a .held .k) (now (a .s))) (at-loop .loop .i) (tritOf (after-trit .trit .result)) x (at-loop .loop .inv .1)
-          (after-take-row .take-row .ensures .0),
+      counted after-take-row,
       turn-reads (tritAt (now (a .work-ones)) (now (a .work-twos))) (heldKey (a .held) (now (a .ones)) (now (a .twos))) (packedRow (a .held .k) (now (a .s)))
-          (at-loop .loop .i) (tritOf (after-trit .trit .result)) x (at-loop .loop .inv .2 .size) (at-loop .loop .inv .2) (after-take-row .take-row .ensures .1),
+          (at-loop .loop .i) (tritOf (after-trit .trit .result)) (trit-read after-trit) (v .size) v (after-take-row .take-row .ensures .1),
     )
 
 same-length : tie.Need-same-length Inv-loop μ-loop
@@ -136,11 +145,12 @@ same-length-2 c =
 
 returns : tie.Need-returns Inv-loop μ-loop
 returns c =
-    let start = start-from-after-loop c in
+    let start = start-from-at-loop (c .before) in
     let a = start .args in
-    let e : c .before .loop .i ≡ a .held .k = omega arith in (
-      c .before .loop .inv .1 ∙ ap (weightV (packedRow (a .held .k) (now (a .s)))) e,
-      reads-to (c .before .loop .inv .2) (ap (λ (x : ℕ). zipV subT (tritAt (now (a .work-ones)) (now (a .work-twos)))
+    let l = c .before .loop in
+    let e : l .i ≡ a .held .k = omega arith in (
+      l .inv .1 ∙ ap (weightV (packedRow (a .held .k) (now (a .s)))) e,
+      reads-to (l .inv .2) (ap (λ (x : ℕ). zipV subT (tritAt (now (a .work-ones)) (now (a .work-twos)))
           (timesKey x (heldKey (a .held) (now (a .ones)) (now (a .twos))) (packedRow (a .held .k) (now (a .s))))) e),
     )
 

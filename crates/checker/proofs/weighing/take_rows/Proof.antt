@@ -32,17 +32,24 @@ start-from-slice-known2 c = c .before .before .before .before .before .before
 abbrev start-from-at-loop : tie.At-loop Inv-loop μ-loop → tie.Start Inv-loop μ-loop
 start-from-at-loop c = c .before .before .before .before .before .before .before
 
-abbrev start-from-in-loop : tie.In-loop Inv-loop μ-loop → tie.Start Inv-loop μ-loop
-start-from-in-loop c = start-from-at-loop (c .before)
-
-abbrev start-from-trit-at : tie.After-trit-at Inv-loop μ-loop → tie.Start Inv-loop μ-loop
-start-from-trit-at c = start-from-in-loop (c .before)
-
 abbrev start-from-take-row : tie.After-take-row Inv-loop μ-loop → tie.Start Inv-loop μ-loop
-start-from-take-row c = start-from-trit-at (c .before .before .before)
+start-from-take-row c = start-from-at-loop (c .before .before .before .before .before)
 
-abbrev start-from-after-loop : tie.After-loop Inv-loop μ-loop → tie.Start Inv-loop μ-loop
-start-from-after-loop c = start-from-at-loop (c .before)
+-- the trit read is that of s
+trit-read : (c : tie.After-trit-at Inv-loop μ-loop) → let a = start-from-at-loop (c .before .before) .args in
+    tritOf (c .trit-at .result) ≡ tritAt (now (a .s-ones)) (now (a .s-twos)) (c .before .before .loop .i)
+trit-read c = ap tritOf (c .trit-at .ensures) ∙ trit-number _
+
+-- with this row, the rows taken are the trits of s up to i that are not 0
+counted : (c : tie.After-take-row Inv-loop μ-loop) → let at-loop = c .before .before .before .before .before in
+    let a = start-from-at-loop at-loop .args in
+    at-loop .loop .taken + c .take-row .result ≡ weightV (tritAt (now (a .s-ones)) (now (a .s-twos))) (at-loop .loop .i + 1)
+counted c =
+    let after-trit-at = c .before .before .before in
+    let at-loop = after-trit-at .before .before in
+    let a = start-from-at-loop at-loop .args in
+    turn-weight (tritAt (now (a .s-ones)) (now (a .s-twos))) (at-loop .loop .i) (tritOf (after-trit-at .trit-at .result)) (trit-read after-trit-at)
+    (at-loop .loop .inv .1) (c .take-row .ensures .0)
 
 loop-holds : tie.Need-loop-holds Inv-loop μ-loop
 unfolding sumTo
@@ -61,7 +68,7 @@ loop-holds c =
 
 trit-at-requires : tie.Need-trit-at-requires Inv-loop μ-loop
 trit-at-requires c κs =
-    let p = start-from-in-loop c .pre in
+    let p = start-from-at-loop (c .before) .pre in
     (p .s-twos, omega (arith, p .s-trits))
 
 take-row-requires : tie.Need-take-row-requires Inv-loop μ-loop
@@ -79,14 +86,15 @@ take-row-requires c κs =
 add-taken : tie.Need-add-taken Inv-loop μ-loop
 add-taken c =
     let after-take-row = c .before .before .before .before in
-    let after-trit-at = after-take-row .before .before .before in
-    let at-loop = after-trit-at .before .before in
+    let at-loop = after-take-row .before .before .before .before .before in
     let start = start-from-at-loop at-loop in
     let a = start .args in
-    let t = turn-weight (tritAt (now (a .s-ones)) (now (a .s-twos))) (at-loop .loop .i) (tritOf (after-trit-at .trit-at .result))
-    (ap tritOf (after-trit-at .trit-at .ensures) ∙ trit-number (tritAt (now (a .s-ones)) (now (a .s-twos)) (at-loop .loop .i))) (at-loop .loop .inv .1)
-    (after-take-row .take-row .ensures .0) in
-    omega (arith, t, weight-le (tritAt (now (a .s-ones)) (now (a .s-twos))) (at-loop .loop .i + 1), sizes (a .held) (start .pre .whole .is-sound))
+    omega (
+      arith,
+      counted after-take-row,
+      weight-le (tritAt (now (a .s-ones)) (now (a .s-twos))) (at-loop .loop .i + 1),
+      sizes (a .held) (start .pre .whole .is-sound),
+    )
 
 add-i : tie.Need-add-i Inv-loop μ-loop
 add-i c =
@@ -102,15 +110,13 @@ loop-again c =
     let after-take-row = c .before .before .before .before in
     let after-trit-at = after-take-row .before .before .before in
     let at-loop = after-trit-at .before .before in
-    let start = start-from-at-loop at-loop in
-    let a = start .args in
-    let x = (ap tritOf (after-trit-at .trit-at .ensures) ∙ trit-number (tritAt (now (a .s-ones)) (now (a .s-twos)) (at-loop .loop .i))) in (
+    let a = start-from-at-loop at-loop .args in
+    let v = at-loop .loop .inv .2 in (
       omega arith,
-      turn-weight (tritAt (now (a .s-ones)) (now (a .s-twos))) (at-loop .loop .i) (tritOf (after-trit-at .trit-at .result)) x (at-loop .loop .inv .1)
-          (after-take-row .take-row .ensures .0),
+      counted after-take-row,
       turn-reads (tritAt (now (a .work-ones)) (now (a .work-twos))) (heldKey (a .held) (now (a .ones)) (now (a .twos)))
-          (tritAt (now (a .s-ones)) (now (a .s-twos))) (at-loop .loop .i) (tritOf (after-trit-at .trit-at .result)) x (at-loop .loop .inv .2 .size)
-          (at-loop .loop .inv .2) (after-take-row .take-row .ensures .1),
+          (tritAt (now (a .s-ones)) (now (a .s-twos))) (at-loop .loop .i) (tritOf (after-trit-at .trit-at .result)) (trit-read after-trit-at)
+          (v .size) v (after-take-row .take-row .ensures .1),
     )
 
 same-length : tie.Need-same-length Inv-loop μ-loop
@@ -123,11 +129,12 @@ same-length-2 c =
 
 returns : tie.Need-returns Inv-loop μ-loop
 returns c =
-    let start = start-from-after-loop c in
+    let start = start-from-at-loop (c .before) in
     let a = start .args in
-    let e : c .before .loop .i ≡ a .held .k = omega arith in (
-      c .before .loop .inv .1 ∙ ap (weightV (tritAt (now (a .s-ones)) (now (a .s-twos)))) e,
-      reads-to (c .before .loop .inv .2) (ap (λ (x : ℕ). zipV subT (tritAt (now (a .work-ones)) (now (a .work-twos)))
+    let l = c .before .loop in
+    let e : l .i ≡ a .held .k = omega arith in (
+      l .inv .1 ∙ ap (weightV (tritAt (now (a .s-ones)) (now (a .s-twos)))) e,
+      reads-to (l .inv .2) (ap (λ (x : ℕ). zipV subT (tritAt (now (a .work-ones)) (now (a .work-twos)))
           (timesKey x (heldKey (a .held) (now (a .ones)) (now (a .twos))) (tritAt (now (a .s-ones)) (now (a .s-twos))))) e),
     )
 

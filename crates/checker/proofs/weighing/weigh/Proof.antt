@@ -1,16 +1,17 @@
 -- The working space is y, then y less the rows that s names; its weight and the number of these rows are the weight of the full word (`weighed`).
 -- Assumes nothing.
-use mathlib.Core.Path.{refl, sym, ap, ap₂, _∙_, subst₂}
+use mathlib.Core.Path.{_≡_, refl, sym, ap, ap₂, _∙_, subst₂}
 use native.Mathlib.Omega.{arith}
 use borrow.Author.Needs.{needs}
 use lib.ListN.{length}
 use denote.Ref.{now}
-use Rattle.trits.specs.Planes.{tritAt, Row}
+use Rattle.trits.specs.Planes.{tritAt, Row, Reads}
+use Rattle.trits.specs.Refusal.{planesRefusal}
 use Rattle.trits.proofs.Counts.{weight-le}
 use Rattle.trits.proofs.Refusals.{planes-row, row-ended}
-use Rattle.held_key.specs.Held.{rowTrits}
+use Rattle.held_key.specs.Held.{rowTrits, rowWords}
 use Rattle.held_key.proofs.Sizes.{sizes}
-use Rattle.check_tests.proofs.Passed.{fitted, contents}
+use Rattle.check_tests.proofs.Passed.{Fitted, fitted, contents}
 use Rattle.checker.proofs.Weighed.{weighed, at-most}
 use Rattle.checker.proofs.weighing.weigh.Statement.{statement}
 use Rattle.checker.proofs.weighing.weigh.Tie as tie
@@ -19,61 +20,68 @@ use Rattle.checker.proofs.weighing.weigh.Tie as tie
 abbrev start-from-copy-words-arg : tie.After-copy-words-arg → tie.Start
 start-from-copy-words-arg c = c .before .before .before .before .before .before .before .before .before
 
-abbrev start-from-copy-words : tie.After-copy-words → tie.Start
-start-from-copy-words c = c .before .before .before .before .before .before .before .before .before .before
-
-abbrev shared-slice-known4-from-copy-words : tie.After-copy-words → tie.After-shared-slice-known4
-shared-slice-known4-from-copy-words c = c .before .before .before .before .before .before
+abbrev copy-words2-from-take-rows : tie.After-take-rows → tie.After-copy-words2
+copy-words2-from-take-rows c = c .before .before .before .before .before
 
 abbrev take-rows-from-weight-arg2 : tie.After-weight-arg2 → tie.After-take-rows
 take-rows-from-weight-arg2 c = c .before .before .before .before .before .before
 
-abbrev copy-words2-from-take-rows : tie.After-take-rows → tie.After-copy-words2
-copy-words2-from-take-rows c = c .before .before .before .before .before
+abbrev shared-slice-known4-from-copy-words2 : tie.After-copy-words2 → tie.After-shared-slice-known4
+shared-slice-known4-from-copy-words2 c = c .before .before .before .before .before .before .before .before .before .before
 
-abbrev copy-words-from-take-rows : tie.After-take-rows → tie.After-copy-words
-copy-words-from-take-rows c = copy-words2-from-take-rows c .before .before .before .before
+abbrev start-from-copy-words2 : tie.After-copy-words2 → tie.Start
+start-from-copy-words2 c = start-from-copy-words-arg (c .before .before .before .before .before)
 
-abbrev take-rows-from-weight : tie.After-weight → tie.After-take-rows
-take-rows-from-weight c = c .before .before .before .before .before .before .before
+-- y and s have the lengths that the key asks
+fitting : (s : tie.Start) → let a = s .args in
+    Fitted (a .held) (length (now (a .y-ones))) (length (now (a .y-twos))) (length (now (a .s-ones))) (length (now (a .s-twos)))
+fitting s = fitted _ _ _ _ _ (s .pre .lengths)
+
+-- the planes of the key and those of y passed their tests
+key-passed : (s : tie.Start) → let a = s .args in planesRefusal (now (a .ones)) (now (a .twos)) (a .held .k) (rowTrits (a .held)) ≡ 0
+key-passed s = contents _ _ _ _ _ _ _ (s .pre .contents) .0
+
+y-passed : (s : tie.Start) → let a = s .args in planesRefusal (now (a .y-ones)) (now (a .y-twos)) 1 (rowTrits (a .held)) ≡ 0
+y-passed s = contents _ _ _ _ _ _ _ (s .pre .contents) .1
+
+-- the working space, once both planes are copied, holds y
+copied : (c : tie.After-copy-words2) → let a = start-from-copy-words2 c .args in
+    Reads (c .before .before .before .before .copy-words .last .0) (c .copy-words2 .last .0) (rowWords (a .held)) (tritAt (now (a .y-ones)) (now (a .y-twos)))
+copied c =
+    let after-copy-words = c .before .before .before .before in
+    let after-shared-slice-known4 = shared-slice-known4-from-copy-words2 c in
+    let s = start-from-copy-words2 c in
+    let f = fitting s in
+    let eo = after-copy-words .copy-words .ensures in
+    let et = c .copy-words2 .ensures in record {
+      row =
+          subst₂ Row (sym eo) (sym et) (planes-row 1 (rowTrits (s .args .held)) (y-passed s) (f .y-twos ∙ sym (f .y-ones))
+          (after-shared-slice-known4 .before .shared-slice-known3 .given) (after-shared-slice-known4 .shared-slice-known4 .given));
+      size = ap length eo ∙ f .y-ones;
+      trits = ap₂ tritAt eo et;
+    }
 
 copy-words-requires : tie.Need-copy-words-requires
 copy-words-requires c κs =
-    let start = start-from-copy-words-arg c in
-    let a = start .args in
-    fitted (a .held) (length (now (a .y-ones))) (length (now (a .y-twos))) (length (now (a .s-ones))) (length (now (a .s-twos))) (start .pre .lengths) .y-ones ∙
-    sym (start .pre .work-ones)
+    let s = start-from-copy-words-arg c in
+    fitting s .y-ones ∙ sym (s .pre .work-ones)
 
 copy-words-requires-2 : tie.Need-copy-words-requires-2
 copy-words-requires-2 c κs =
-    let start = start-from-copy-words (c .before .before .before) in
-    let a = start .args in
-    fitted (a .held) (length (now (a .y-ones))) (length (now (a .y-twos))) (length (now (a .s-ones))) (length (now (a .s-twos))) (start .pre .lengths) .y-twos ∙
-    sym (start .pre .work-twos)
+    let s = start-from-copy-words-arg (c .before .before .before .before) in
+    fitting s .y-twos ∙ sym (s .pre .work-twos)
 
 take-rows-requires : tie.Need-take-rows-requires
 take-rows-requires c κs =
     let after-copy-words2 = c .before .before .before .before in
-    let after-copy-words = after-copy-words2 .before .before .before .before in
-    let after-shared-slice-known4 = shared-slice-known4-from-copy-words after-copy-words in
-    let after-shared-slice-known3 = after-shared-slice-known4 .before in
-    let after-shared-slice-known2 = after-shared-slice-known3 .before in
-    let after-shared-slice-known = after-shared-slice-known2 .before in
-    let start = after-shared-slice-known .before in
-    let a = start .args in
-    let f = fitted (a .held) (length (now (a .y-ones))) (length (now (a .y-twos))) (length (now (a .s-ones))) (length (now (a .s-twos))) (start .pre .lengths) in
-    let t = contents (a .held) (now (a .ones)) (now (a .twos)) (now (a .y-ones)) (now (a .y-twos)) (now (a .s-ones)) (now (a .s-twos)) (start .pre .contents) in
-    let eo = after-copy-words .copy-words .ensures in
-    let et = after-copy-words2 .copy-words2 .ensures in record {
-      whole = start .pre .whole;
-      readable = planes-row (a .held .k) (rowTrits (a .held)) (t .0) (start .pre .whole .twos-size ∙ sym (start .pre .whole .ones-size))
-          (after-shared-slice-known .shared-slice-known .given) (after-shared-slice-known2 .shared-slice-known2 .given);
-      work = record {
-        row =
-            subst₂ Row (sym eo) (sym et) (planes-row 1 (rowTrits (a .held)) (t .1) (f .y-twos ∙ sym (f .y-ones))
-            (after-shared-slice-known3 .shared-slice-known3 .given) (after-shared-slice-known4 .shared-slice-known4 .given));
-        size = ap length eo ∙ f .y-ones;
-      };
+    let after-shared-slice-known2 = shared-slice-known4-from-copy-words2 after-copy-words2 .before .before in
+    let s = start-from-copy-words2 after-copy-words2 in
+    let f = fitting s in
+    let work = copied after-copy-words2 in record {
+      whole = s .pre .whole;
+      readable = planes-row (s .args .held .k) (rowTrits (s .args .held)) (key-passed s) (s .pre .whole .twos-size ∙ sym (s .pre .whole .ones-size))
+          (after-shared-slice-known2 .before .shared-slice-known .given) (after-shared-slice-known2 .shared-slice-known2 .given);
+      work = record { row = work .row; size = work .size };
       s-trits = omega (arith, f .s-ones);
       s-twos = f .s-twos ∙ sym (f .s-ones);
     }
@@ -81,35 +89,26 @@ take-rows-requires c κs =
 weight-requires : tie.Need-weight-requires
 weight-requires c κs =
     let after-take-rows = take-rows-from-weight-arg2 c in
-    let after-copy-words = copy-words-from-take-rows after-take-rows in
-    let start = start-from-copy-words after-copy-words in
-    let a = start .args in
+    let after-copy-words2 = copy-words2-from-take-rows after-take-rows in
+    let s = start-from-copy-words2 after-copy-words2 in
     let r = after-take-rows .take-rows .ensures .1 in (
       r .row .same,
-      omega (
-        arith,
-        r .size,
-        ap length (after-copy-words .copy-words .ensures),
-        fitted (a .held) (length (now (a .y-ones))) (length (now (a .y-twos))) (length (now (a .s-ones))) (length (now (a .s-twos))) (start .pre .lengths) .y-ones,
-        sizes (a .held) (start .pre .whole .is-sound),
-      ),
+      omega (arith, r .size, copied after-copy-words2 .size, sizes (s .args .held) (s .pre .whole .is-sound)),
     )
 
 add-result : tie.Need-add-result
 add-result c =
-    let after-take-rows = take-rows-from-weight c in
-    let after-copy-words = copy-words-from-take-rows after-take-rows in
-    let start = start-from-copy-words after-copy-words in
-    let a = start .args in
-    let r = after-take-rows .take-rows .ensures .1 in
+    let after-take-rows = take-rows-from-weight-arg2 (c .before) in
+    let after-copy-words2 = copy-words2-from-take-rows after-take-rows in
+    let s = start-from-copy-words2 after-copy-words2 in
+    let a = s .args in
     omega (
       arith,
-      at-most r (c .weight .ensures),
+      at-most (after-take-rows .take-rows .ensures .1) (c .weight .ensures),
       after-take-rows .take-rows .ensures .0,
-      weight-le (tritAt (now (a .s-ones)) (now (a .s-twos))) ((a .held) .k),
-      ap length (after-copy-words .copy-words .ensures),
-      fitted (a .held) (length (now (a .y-ones))) (length (now (a .y-twos))) (length (now (a .s-ones))) (length (now (a .s-twos))) (start .pre .lengths) .y-ones,
-      sizes (a .held) (start .pre .whole .is-sound),
+      weight-le (tritAt (now (a .s-ones)) (now (a .s-twos))) (a .held .k),
+      copied after-copy-words2 .size,
+      sizes (a .held) (s .pre .whole .is-sound),
     )
 
 same-length : tie.Need-same-length
@@ -120,26 +119,14 @@ same-length-2 c = search needs
 
 returns : tie.Need-returns
 returns c =
-    let after-take-rows = take-rows-from-weight c in
+    let after-take-rows = take-rows-from-weight-arg2 (c .before) in
     let after-copy-words2 = copy-words2-from-take-rows after-take-rows in
-    let after-copy-words = after-copy-words2 .before .before .before .before in
-    let after-shared-slice-known4 = shared-slice-known4-from-copy-words after-copy-words in
-    let after-shared-slice-known3 = after-shared-slice-known4 .before in
-    let start = after-shared-slice-known3 .before .before .before in
-    let a = start .args in
-    let f = fitted (a .held) (length (now (a .y-ones))) (length (now (a .y-twos))) (length (now (a .s-ones))) (length (now (a .s-twos))) (start .pre .lengths) in
-    let t = contents (a .held) (now (a .ones)) (now (a .twos)) (now (a .y-ones)) (now (a .y-twos)) (now (a .s-ones)) (now (a .s-twos)) (start .pre .contents) in
-    let eo = after-copy-words .copy-words .ensures in
-    let et = after-copy-words2 .copy-words2 .ensures in
-    weighed (tritAt (now (a .y-ones)) (now (a .y-twos))) (tritAt (now (a .s-ones)) (now (a .s-twos))) (start .pre .whole) (t .0)
-    (row-ended (now (a .y-ones)) (now (a .y-twos)) (rowTrits (a .held)) (t .1) (f .y-ones) (f .y-twos))
-    (record {
-      row =
-          subst₂ Row (sym eo) (sym et) (planes-row 1 (rowTrits (a .held)) (t .1) (f .y-twos ∙ sym (f .y-ones))
-          (after-shared-slice-known3 .shared-slice-known3 .given) (after-shared-slice-known4 .shared-slice-known4 .given));
-      size = refl;
-      trits = ap₂ tritAt eo et;
-    }) (ap length eo ∙ f .y-ones) (after-take-rows .take-rows .ensures .1) (c .weight .ensures) (after-take-rows .take-rows .ensures .0)
+    let s = start-from-copy-words2 after-copy-words2 in
+    let a = s .args in
+    let f = fitting s in
+    weighed (tritAt (now (a .y-ones)) (now (a .y-twos))) (tritAt (now (a .s-ones)) (now (a .s-twos))) (s .pre .whole) (key-passed s)
+    (row-ended (now (a .y-ones)) (now (a .y-twos)) (rowTrits (a .held)) (y-passed s) (f .y-ones) (f .y-twos)) (copied after-copy-words2) refl
+    (after-take-rows .take-rows .ensures .1) (c .weight .ensures) (after-take-rows .take-rows .ensures .0)
 
 pub weigh-spec : {M : Type 1} → statement M
 weigh-spec =

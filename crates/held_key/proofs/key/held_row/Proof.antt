@@ -1,19 +1,21 @@
 -- A sound state that has stored row i hands out the part that `row_part` finds.
 -- Assumes nothing.
 use Prim.Native.Nat.{ℕ}
-use mathlib.Core.Path.{sym, ap, _∙_}
+use mathlib.Core.Path.{_≡_, sym, ap, _∙_}
+use mathlib.Core.Bool.{true}
 use borrow.Author.Needs.{needs}
 use native.Mathlib.Omega.{arith}
 use denote.Ref.{now}
+use Rattle.held_key.specs.Held.{sound}
 use Rattle.held_key.proofs.Sizes.{sizes}
 use Rattle.held_key.proofs.Stretch.{row-unsound, row-missing, row-stored}
 use Rattle.trits.specs.Rows.{rowPart}
 use Rattle.held_key.proofs.key.held_row.Statement.{statement}
 use Rattle.held_key.proofs.key.held_row.Tie as tie
 
--- The places that the answers look back to, each from a later one.
-abbrev start-from-row-words : tie.After-row-words → tie.Start
-start-from-row-words c = c .before .before .before .before .before
+-- the state is sound
+state-sound : (c : tie.Then1) → sound (c .before .before .before .args .held) ≡ true
+state-sound c = sym (c .before .is-sound .ensures) ∙ c .if1 .taken
 
 is-sound-requires : tie.Need-is-sound-requires
 is-sound-requires c κs = search needs
@@ -23,28 +25,25 @@ slice-aggregate-result c = search needs
 
 returns : tie.Need-returns
 returns c =
-    let a = c .before .before .before .before .before .args in
-    let s = sym (c .before .before .before .is-sound .ensures) ∙ c .before .before .if1 .taken in
-    row-missing (a .held) (now (a .plane)) (a .i) s (omega (arith, sizes (a .held) s))
+    let then1 = c .before .before in
+    let a = then1 .before .before .before .args in
+    row-missing (a .held) (now (a .plane)) (a .i) (state-sound then1) (omega (arith, sizes (a .held) (state-sound then1)))
 
 row-words-requires : tie.Need-row-words-requires
-row-words-requires c κs =
-    (sym (c .before .before .is-sound .ensures) ∙ c .before .if1 .taken)
+row-words-requires c κs = state-sound (c .before)
 
 row-part-requires : tie.Need-row-part-requires
 row-part-requires c κs =
-    let z = sizes (start-from-row-words c .args .held) (sym (c .before .before .before .is-sound .ensures) ∙ c .before .before .if1 .taken) in
-    omega (arith, c .row-words .ensures)
+    let then1 = c .before .before in
+    omega (arith, c .row-words .ensures, sizes (then1 .before .before .before .args .held) (state-sound then1))
 
 returns-2 : tie.Need-returns-2
 returns-2 c =
-    let after-is-sound = c .before .before .before .before in
-    let start = after-is-sound .before .before in
-    let a = start .args in
-    let s = sym (after-is-sound .is-sound .ensures) ∙ c .before .before .before .if1 .taken in
+    let then1 = c .before .before .before in
+    let a = then1 .before .before .before .args in
     c .row-part .ensures
     ∙ ap (λ (w : ℕ). rowPart (now (a .plane)) (a .held .k) w (a .i)) (c .before .row-words .ensures)
-    ∙ row-stored (a .held) (now (a .plane)) (a .i) s (omega arith)
+    ∙ row-stored (a .held) (now (a .plane)) (a .i) (state-sound then1) (omega arith)
 
 slice-aggregate-result-2 : tie.Need-slice-aggregate-result-2
 slice-aggregate-result-2 c = search needs

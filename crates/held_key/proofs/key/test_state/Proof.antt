@@ -1,19 +1,34 @@
 -- The tests are made in the order of `rowRefusal`, and each return tells what they found.
 -- Assumes nothing.
-use mathlib.Core.Path.{sym, _∙_}
+use mathlib.Core.Path.{_≡_, sym, _∙_}
+use mathlib.Core.Bool.{true, false}
 use borrow.Author.Needs.{needs}
+use lib.Dec.{eqb}
 use borrow.Author.Tests.{eq-eqb, ne-eqb}
-use Rattle.held_key.specs.Held.{keyWords}
+use Rattle.trits.specs.Refusal.{demand}
+use Rattle.held_key.specs.Held.{sound, keyWords}
 use Rattle.held_key.specs.Store.{rowRefusal}
 use Rattle.held_key.proofs.key.test_state.Statement.{statement}
 use Rattle.held_key.proofs.key.test_state.Tie as tie
 
--- The places that the answers look back to, each from a later one.
-abbrev then2-from-then5 : tie.Then5 → tie.Then2
-then2-from-then5 c = c .before .before .before .before .before
+-- there is a key, and its state is sound
+begun : (c : tie.Else1) → eqb (c .before .before .args .held .begun) 0 ≡ false
+begun c = ne-eqb _ _ (c .if1 .left)
 
-abbrev then2-from-else5 : tie.Else5 → tie.Then2
-then2-from-else5 c = c .before .before .before .before .before
+state-sound : (c : tie.Then2) → sound (c .before .before .before .before .args .held) ≡ true
+state-sound c = sym (c .before .is-sound .ensures) ∙ c .if2 .taken
+
+-- what is left of the chain once a row is missing: the lengths of the planes
+lengths-left : (c : tie.Else3) → let a = c .before .before .before .before .before .before .args in
+    rowRefusal (a .held) (a .ones) (a .twos) ≡ demand (eqb (a .ones) (keyWords (a .held))) 2 (demand (eqb (a .twos) (keyWords (a .held))) 2 0)
+unfolding rowRefusal
+lengths-left c = rw (begun (c .before .before .before .before), state-sound (c .before .before), ne-eqb _ _ (c .if3 .left))
+
+-- the ones plane has its length
+ones-fit : (c : tie.Else4) → let else3 = c .before .before in
+    let a = else3 .before .before .before .before .before .before .args in
+    eqb (a .ones) (keyWords (a .held)) ≡ true
+ones-fit c = eq-eqb _ _ (c .if4 .left ∙ c .before .key-words .ensures)
 
 returns : tie.Need-returns
 unfolding rowRefusal
@@ -26,66 +41,37 @@ is-sound-requires c κs = search needs
 returns-2 : tie.Need-returns-2
 unfolding rowRefusal
 returns-2 c =
-    rw (
-      ne-eqb _ _ (c .before .before .before .before .if1 .left),
-      sym (c .before .before .before .is-sound .ensures) ∙ c .before .before .if2 .taken,
-      eq-eqb _ _ (c .if3 .taken),
-    )
+    rw (begun (c .before .before .before .before), state-sound (c .before .before), eq-eqb _ _ (c .if3 .taken))
 
 key-words-requires : tie.Need-key-words-requires
-key-words-requires c κs =
-    sym (c .before .before .before .is-sound .ensures) ∙ c .before .before .if2 .taken
+key-words-requires c κs = state-sound (c .before .before)
 
 returns-3 : tie.Need-returns-3
-unfolding rowRefusal
 returns-3 c =
-    let then2 = c .before .before .before .before in
-    let after-is-sound = then2 .before in
-    let else1 = after-is-sound .before in
-    let start = else1 .before .before in
-    rw (
-      ne-eqb _ _ (else1 .if1 .left),
-      sym (after-is-sound .is-sound .ensures) ∙ then2 .if2 .taken,
-      ne-eqb _ _ (c .before .before .if3 .left),
-      ne-eqb (start .args .ones) (keyWords (start .args .held)) (λ e. c .if4 .taken (e ∙ sym (c .before .key-words .ensures))),
-    )
+    let else3 = c .before .before in
+    let a = else3 .before .before .before .before .before .before .args in
+    rw (lengths-left else3, ne-eqb (a .ones) (keyWords (a .held)) (λ e. c .if4 .taken (e ∙ sym (c .before .key-words .ensures))))
 
 returns-4 : tie.Need-returns-4
-unfolding rowRefusal
 returns-4 c =
-    let then2 = then2-from-then5 c in
-    let after-is-sound = then2 .before in
-    let else1 = after-is-sound .before in
-    let start = else1 .before .before in
-    let a = start .args in
+    let else3 = c .before .before .before in
+    let a = else3 .before .before .before .before .before .before .args in
     rw (
-      ne-eqb _ _ (else1 .if1 .left),
-      sym (after-is-sound .is-sound .ensures) ∙ then2 .if2 .taken,
-      ne-eqb _ _ (c .before .before .before .if3 .left),
-      eq-eqb (a .ones) (keyWords (a .held)) (c .before .if4 .left ∙ c .before .before .key-words .ensures),
+      lengths-left else3,
+      ones-fit (c .before),
       ne-eqb (a .twos) (keyWords (a .held)) (λ e. c .if5 .taken (e ∙ sym (c .before .before .key-words .ensures))),
     )
 
 returns-5 : tie.Need-returns-5
-unfolding rowRefusal
 returns-5 c =
-    let then2 = then2-from-else5 c in
-    let after-is-sound = then2 .before in
-    let else1 = after-is-sound .before in
-    let start = else1 .before .before in
-    let a = start .args in
-    rw (
-      ne-eqb _ _ (else1 .if1 .left),
-      sym (after-is-sound .is-sound .ensures) ∙ then2 .if2 .taken,
-      ne-eqb _ _ (c .before .before .before .if3 .left),
-      eq-eqb (a .ones) (keyWords (a .held)) (c .before .if4 .left ∙ c .before .before .key-words .ensures),
-      eq-eqb (a .twos) (keyWords (a .held)) (c .if5 .left ∙ c .before .before .key-words .ensures),
-    )
+    let else3 = c .before .before .before in
+    let a = else3 .before .before .before .before .before .before .args in
+    rw (lengths-left else3, ones-fit (c .before), eq-eqb (a .twos) (keyWords (a .held)) (c .if5 .left ∙ c .before .before .key-words .ensures))
 
 returns-6 : tie.Need-returns-6
 unfolding rowRefusal
 returns-6 c =
-    rw (ne-eqb _ _ (c .before .before .if1 .left), sym (c .before .is-sound .ensures) ∙ c .if2 .left)
+    rw (begun (c .before .before), sym (c .before .is-sound .ensures) ∙ c .if2 .left)
 
 pub test-state-spec : {M : Type 1} → statement M
 test-state-spec =

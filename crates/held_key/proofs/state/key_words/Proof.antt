@@ -6,7 +6,6 @@ use native.Mathlib.Omega.{arith}
 use borrow.Author.Needs.{needs}
 use Rattle.held_key.specs.Held.{keyWords}
 use Rattle.held_key.proofs.Sizes.{sizes}
-use Rattle.held_key.proofs.Room.{room}
 use Rattle.held_key.proofs.state.key_words.Statement.{statement}
 use Rattle.held_key.proofs.state.key_words.Tie as tie
 

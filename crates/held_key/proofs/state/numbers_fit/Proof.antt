@@ -1,15 +1,33 @@
 -- The ranges are tested one after another, and each return says what the tests so far found.
 -- Assumes nothing.
+use mathlib.Core.Path.{_≡_}
+use mathlib.Core.Bool.{_&&_}
+use Prim.Native.Nat.{_-_}
 use native.Mathlib.Omega.{arith}
 use borrow.Author.Needs.{needs}
+use lib.Dec.{leb}
 use borrow.Author.Tests.{le-leb, lt-leb, eq-eqb, ne-eqb}
 use Rattle.held_key.specs.Held.{mostKeyNumber, numbersFit}
 use Rattle.held_key.proofs.state.numbers_fit.Statement.{statement}
 use Rattle.held_key.proofs.state.numbers_fit.Tie as tie
 
--- The places that the answers look back to, each from a later one.
-abbrev start-from-then5 : tie.Then5 → tie.Start
-start-from-then5 c = c .before .before .before .before .before
+-- what is left of the chain once n is in its range: k and w
+k-left : (c : tie.Else4) → let a = c .before .before .before .before .args in
+    numbersFit (a .number) (a .n) (a .k) (a .w) ≡ (leb 2 (a .k) && (leb (a .k) (a .n - 2) && (leb 1 (a .w) && leb (a .w) (a .n))))
+unfolding numbersFit
+k-left c =
+    rw (
+      le-leb (c .before .before .before .before .args .number) mostKeyNumber (omega arith),
+      le-leb _ _ (c .before .before .if2 .left),
+      le-leb _ _ (c .before .if3 .left),
+      eq-eqb _ _ (c .if4 .left),
+    )
+
+-- and once k is too: w
+w-left : (c : tie.Else6) → let a = c .before .before .before .before .before .before .args in
+    numbersFit (a .number) (a .n) (a .k) (a .w) ≡ (leb 1 (a .w) && leb (a .w) (a .n))
+w-left c =
+    rw (k-left (c .before .before), le-leb _ _ (c .before .if5 .left), le-leb _ _ (c .if6 .left))
 
 returns : tie.Need-returns
 unfolding numbersFit
@@ -37,64 +55,23 @@ returns-4 c =
     )
 
 returns-5 : tie.Need-returns-5
-unfolding numbersFit
 returns-5 c =
-    rw (
-      le-leb (start-from-then5 c .args .number) mostKeyNumber (omega arith),
-      le-leb _ _ (c .before .before .before .if2 .left),
-      le-leb _ _ (c .before .before .if3 .left),
-      eq-eqb _ _ (c .before .if4 .left),
-      lt-leb _ _ (c .if5 .taken),
-    )
+    rw (k-left (c .before), lt-leb _ _ (c .if5 .taken))
 
 sub-if6 : tie.Need-sub-if6
 sub-if6 c = search needs
 
 returns-6 : tie.Need-returns-6
-unfolding numbersFit
 returns-6 c =
-    let else2 = c .before .before .before .before in
-    let start = else2 .before .before in
-    rw (
-      le-leb (start .args .number) mostKeyNumber (omega arith),
-      le-leb _ _ (else2 .if2 .left),
-      le-leb _ _ (c .before .before .before .if3 .left),
-      eq-eqb _ _ (c .before .before .if4 .left),
-      le-leb _ _ (c .before .if5 .left),
-      lt-leb _ _ (c .if6 .taken),
-    )
+    rw (k-left (c .before .before), le-leb _ _ (c .before .if5 .left), lt-leb _ _ (c .if6 .taken))
 
 returns-7 : tie.Need-returns-7
-unfolding numbersFit
 returns-7 c =
-    let else3 = c .before .before .before .before in
-    let else2 = else3 .before in
-    let start = else2 .before .before in
-    rw (
-      le-leb (start .args .number) mostKeyNumber (omega arith),
-      le-leb _ _ (else2 .if2 .left),
-      le-leb _ _ (else3 .if3 .left),
-      eq-eqb _ _ (c .before .before .before .if4 .left),
-      le-leb _ _ (c .before .before .if5 .left),
-      le-leb _ _ (c .before .if6 .left),
-      lt-leb _ _ (c .if7 .taken),
-    )
+    rw (w-left (c .before), lt-leb _ _ (c .if7 .taken))
 
 returns-8 : tie.Need-returns-8
-unfolding numbersFit
 returns-8 c =
-    let else3 = c .before .before .before .before in
-    let else2 = else3 .before in
-    let start = else2 .before .before in
-    rw (
-      le-leb (start .args .number) mostKeyNumber (omega arith),
-      le-leb _ _ (else2 .if2 .left),
-      le-leb _ _ (else3 .if3 .left),
-      eq-eqb _ _ (c .before .before .before .if4 .left),
-      le-leb _ _ (c .before .before .if5 .left),
-      le-leb _ _ (c .before .if6 .left),
-      le-leb _ _ (c .if7 .left),
-    )
+    rw (w-left (c .before), le-leb _ _ (c .if7 .left))
 
 pub numbers-fit-spec : {M : Type 1} → statement M
 numbers-fit-spec =

@@ -1,23 +1,52 @@
 -- Each return is decided by its own test, the tests before it having passed.
 -- Assumes nothing.
+use mathlib.Core.Path.{_≡_}
+use mathlib.Core.Bool.{_&&_}
+use Prim.Native.Nat.{_-_}
+use lib.Dec.{leb}
 use borrow.Author.Tests.{eq-eqb, ne-eqb, le-leb, lt-leb}
-use Rattle.scheme.specs.Sizes.{sizesFit}
+use Rattle.scheme.specs.Sizes.{half, gapU, gapV, sizesFit}
 use borrow.Author.Needs.{needs}
 use Rattle.scheme.proofs.sizes.sizes_fit.Statement.{statement}
 use Rattle.scheme.proofs.sizes.sizes_fit.Tie as tie
 
 -- The places that the answers look back to, each from a later one.
-abbrev else3-from-then5 : tie.Then5 → tie.Else3
-else3-from-then5 c = c .before .before .before .before .before
+abbrev start-from-else3 : tie.Else3 → tie.Start
+start-from-else3 c = c .before .before .before .before .before .before
 
-abbrev else4-from-then6 : tie.Then6 → tie.Else4
-else4-from-then6 c = c .before .before .before .before .before
+abbrev else3-from-else5 : tie.Else5 → tie.Else3
+else3-from-else5 c = c .before .before .before .before .before
 
-abbrev else5-from-then7 : tie.Then7 → tie.Else5
-else5-from-then7 c = c .before .before .before .before .before
+abbrev else5-from-else7 : tie.Else7 → tie.Else5
+else5-from-else7 c = c .before .before .before .before .before
 
-abbrev else6-from-then8 : tie.Then8 → tie.Else6
-else6-from-then8 c = c .before .before .before .before .before
+-- what is left of the chain once n is in its range: k_U, k_V, the gaps and w
+ku-left : (c : tie.Else3) → let z = start-from-else3 c .args .z in
+    sizesFit z ≡ (leb 1 (z .ku) && (leb (z .ku) (half z - 1) && (leb 1 (z .kv) && (leb (z .kv) (half z - 1)
+    && (leb (gapU z) (z .ku) && (leb (gapV z) (z .kv) && (leb 1 (z .w) && leb (z .w) (z .n))))))))
+unfolding sizesFit
+ku-left c =
+    let else2 = c .before .before in
+    rw (le-leb _ _ (else2 .before .before .if1 .left), le-leb _ _ (else2 .if2 .left), eq-eqb _ _ (c .if3 .left))
+
+-- once k_U is: k_V, the gaps and w
+kv-left : (c : tie.Else5) → let z = start-from-else3 (else3-from-else5 c) .args .z in
+    sizesFit z ≡ (leb 1 (z .kv) && (leb (z .kv) (half z - 1) && (leb (gapU z) (z .ku) && (leb (gapV z) (z .kv) && (leb 1 (z .w) && leb (z .w) (z .n))))))
+kv-left c =
+    rw (ku-left (else3-from-else5 c), le-leb _ _ (c .before .before .before .if4 .left), le-leb _ _ (c .if5 .left))
+
+-- once k_V is: the gaps and w
+gaps-left : (c : tie.Else7) → let z = start-from-else3 (else3-from-else5 (else5-from-else7 c)) .args .z in
+    sizesFit z ≡ (leb (gapU z) (z .ku) && (leb (gapV z) (z .kv) && (leb 1 (z .w) && leb (z .w) (z .n))))
+gaps-left c =
+    rw (kv-left (else5-from-else7 c), le-leb _ _ (c .before .before .before .if6 .left), le-leb _ _ (c .if7 .left))
+
+-- once the gaps are: w
+w-left : (c : tie.Else9) → let else7 = c .before .before .before .before in
+    let z = start-from-else3 (else3-from-else5 (else5-from-else7 else7)) .args .z in
+    sizesFit z ≡ (leb 1 (z .w) && leb (z .w) (z .n))
+w-left c =
+    rw (gaps-left (c .before .before .before .before), le-leb _ _ (c .before .before .if8 .left), le-leb _ _ (c .if9 .left))
 
 returns : tie.Need-returns
 unfolding sizesFit
@@ -35,155 +64,44 @@ returns-3 c =
     rw (le-leb _ _ (c .before .before .before .before .if1 .left), le-leb _ _ (c .before .before .if2 .left), ne-eqb _ _ (c .if3 .taken))
 
 returns-4 : tie.Need-returns-4
-unfolding sizesFit
 returns-4 c =
-    let else2 = c .before .before .before .before in
-    let else1 = else2 .before .before in
-    rw (le-leb _ _ (else1 .if1 .left), le-leb _ _ (else2 .if2 .left), eq-eqb _ _ (c .before .before .if3 .left), lt-leb _ _ (c .if4 .taken))
+    rw (ku-left (c .before .before), lt-leb _ _ (c .if4 .taken))
 
 sub-if5 : tie.Need-sub-if5
 sub-if5 c = search needs
 
 returns-5 : tie.Need-returns-5
-unfolding sizesFit
 returns-5 c =
-    let else3 = else3-from-then5 c in
-    let else2 = else3 .before .before in
-    let else1 = else2 .before .before in
-    rw (
-      le-leb _ _ (else1 .if1 .left),
-      le-leb _ _ (else2 .if2 .left),
-      eq-eqb _ _ (else3 .if3 .left),
-      le-leb _ _ (c .before .before .before .if4 .left),
-      lt-leb _ _ (c .if5 .taken),
-    )
+    let else4 = c .before .before .before in
+    rw (ku-left (else4 .before .before), le-leb _ _ (else4 .if4 .left), lt-leb _ _ (c .if5 .taken))
 
 returns-6 : tie.Need-returns-6
-unfolding sizesFit
 returns-6 c =
-    let else4 = else4-from-then6 c in
-    let else3 = else4 .before .before in
-    let else2 = else3 .before .before in
-    let else1 = else2 .before .before in
-    rw (
-      le-leb _ _ (else1 .if1 .left),
-      le-leb _ _ (else2 .if2 .left),
-      eq-eqb _ _ (else3 .if3 .left),
-      le-leb _ _ (else4 .if4 .left),
-      le-leb _ _ (c .before .before .if5 .left),
-      lt-leb _ _ (c .if6 .taken),
-    )
+    rw (kv-left (c .before .before), lt-leb _ _ (c .if6 .taken))
 
 sub-if7 : tie.Need-sub-if7
 sub-if7 c = search needs
 
 returns-7 : tie.Need-returns-7
-unfolding sizesFit
 returns-7 c =
-    let else5 = else5-from-then7 c in
-    let else4 = else5 .before .before .before in
-    let else3 = else4 .before .before in
-    let else2 = else3 .before .before in
-    let else1 = else2 .before .before in
-    rw (
-      le-leb _ _ (else1 .if1 .left),
-      le-leb _ _ (else2 .if2 .left),
-      eq-eqb _ _ (else3 .if3 .left),
-      le-leb _ _ (else4 .if4 .left),
-      le-leb _ _ (else5 .if5 .left),
-      le-leb _ _ (c .before .before .before .if6 .left),
-      lt-leb _ _ (c .if7 .taken),
-    )
+    let else6 = c .before .before .before in
+    rw (kv-left (else6 .before .before), le-leb _ _ (else6 .if6 .left), lt-leb _ _ (c .if7 .taken))
 
 returns-8 : tie.Need-returns-8
-unfolding sizesFit
 returns-8 c =
-    let else6 = else6-from-then8 c in
-    let else5 = else6 .before .before in
-    let else4 = else5 .before .before .before in
-    let else3 = else4 .before .before in
-    let else2 = else3 .before .before in
-    let else1 = else2 .before .before in
-    rw (
-      le-leb _ _ (else1 .if1 .left),
-      le-leb _ _ (else2 .if2 .left),
-      eq-eqb _ _ (else3 .if3 .left),
-      le-leb _ _ (else4 .if4 .left),
-      le-leb _ _ (else5 .if5 .left),
-      le-leb _ _ (else6 .if6 .left),
-      le-leb _ _ (c .before .before .if7 .left),
-      lt-leb _ _ (c .if8 .taken),
-    )
+    rw (gaps-left (c .before .before), lt-leb _ _ (c .if8 .taken))
 
 returns-9 : tie.Need-returns-9
-unfolding sizesFit
 returns-9 c =
-    let else7 = c .before .before .before .before in
-    let else6 = else7 .before .before .before in
-    let else5 = else6 .before .before in
-    let else4 = else5 .before .before .before in
-    let else3 = else4 .before .before in
-    let else2 = else3 .before .before in
-    let else1 = else2 .before .before in
-    rw (
-      le-leb _ _ (else1 .if1 .left),
-      le-leb _ _ (else2 .if2 .left),
-      eq-eqb _ _ (else3 .if3 .left),
-      le-leb _ _ (else4 .if4 .left),
-      le-leb _ _ (else5 .if5 .left),
-      le-leb _ _ (else6 .if6 .left),
-      le-leb _ _ (else7 .if7 .left),
-      le-leb _ _ (c .before .before .if8 .left),
-      lt-leb _ _ (c .if9 .taken),
-    )
+    rw (gaps-left (c .before .before .before .before), le-leb _ _ (c .before .before .if8 .left), lt-leb _ _ (c .if9 .taken))
 
 returns-10 : tie.Need-returns-10
-unfolding sizesFit
 returns-10 c =
-    let else8 = c .before .before .before .before in
-    let else7 = else8 .before .before in
-    let else6 = else7 .before .before .before in
-    let else5 = else6 .before .before in
-    let else4 = else5 .before .before .before in
-    let else3 = else4 .before .before in
-    let else2 = else3 .before .before in
-    let else1 = else2 .before .before in
-    rw (
-      le-leb _ _ (else1 .if1 .left),
-      le-leb _ _ (else2 .if2 .left),
-      eq-eqb _ _ (else3 .if3 .left),
-      le-leb _ _ (else4 .if4 .left),
-      le-leb _ _ (else5 .if5 .left),
-      le-leb _ _ (else6 .if6 .left),
-      le-leb _ _ (else7 .if7 .left),
-      le-leb _ _ (else8 .if8 .left),
-      le-leb _ _ (c .before .before .if9 .left),
-      lt-leb _ _ (c .if10 .taken),
-    )
+    rw (w-left (c .before .before), lt-leb _ _ (c .if10 .taken))
 
 returns-11 : tie.Need-returns-11
-unfolding sizesFit
 returns-11 c =
-    let else8 = c .before .before .before .before .before in
-    let else7 = else8 .before .before in
-    let else6 = else7 .before .before .before in
-    let else5 = else6 .before .before in
-    let else4 = else5 .before .before .before in
-    let else3 = else4 .before .before in
-    let else2 = else3 .before .before in
-    let else1 = else2 .before .before in
-    rw (
-      le-leb _ _ (else1 .if1 .left),
-      le-leb _ _ (else2 .if2 .left),
-      eq-eqb _ _ (else3 .if3 .left),
-      le-leb _ _ (else4 .if4 .left),
-      le-leb _ _ (else5 .if5 .left),
-      le-leb _ _ (else6 .if6 .left),
-      le-leb _ _ (else7 .if7 .left),
-      le-leb _ _ (else8 .if8 .left),
-      le-leb _ _ (c .before .before .before .if9 .left),
-      le-leb _ _ (c .before .if10 .left),
-    )
+    rw (w-left (c .before .before .before), le-leb _ _ (c .before .if10 .left))
 
 pub sizes-fit-spec : {M : Type 1} → statement M
 sizes-fit-spec =

@@ -3,7 +3,6 @@
 use mathlib.Core.Path.{refl}
 use borrow.Author.Needs.{needs}
 use denote.Ref.{now}
-use Rattle.text.specs.Steps.{before}
 use Rattle.trits.proofs.Parts.{put-front}
 use Rattle.text.proofs.answers.put_bytes.Statement.{statement}
 use Rattle.text.proofs.answers.put_bytes.Tie as tie

@@ -1,7 +1,6 @@
 -- The bytes of the header are written whole.
 -- Assumes nothing.
 use borrow.Author.Needs.{needs}
-use Rattle.text.specs.Steps.{before}
 use Rattle.text.specs.Answers.{header, printed}
 use Rattle.text.proofs.answers.put_header.Statement.{statement}
 use Rattle.text.proofs.answers.put_header.Tie as tie

@@ -2,7 +2,6 @@
 -- Assumes nothing.
 use borrow.Author.Needs.{needs}
 use denote.Ref.{now}
-use Rattle.text.specs.Steps.{before}
 use Rattle.text.proofs.Written.{twenty-digits, line-wrote}
 use Rattle.text.proofs.answers.put_line_refused.Statement.{statement}
 use Rattle.text.proofs.answers.put_line_refused.Tie as tie

@@ -1,19 +1,39 @@
 -- Four stretches, one after another (`pair-wrote`), of at most 42 bytes.
 -- Assumes nothing.
+use Prim.Native.Nat.{_+_, _≤_}
 use native.Mathlib.Omega.{arith}
 use borrow.Author.Needs.{needs}
+use lib.ListN.{length}
 use denote.Ref.{now}
-use Rattle.text.specs.Steps.{before}
 use Rattle.text.proofs.Written.{twenty-digits, pair-wrote}
 use Rattle.text.proofs.answers.put_pair.Statement.{statement}
 use Rattle.text.proofs.answers.put_pair.Tie as tie
 
 -- The places that the answers look back to, each from a later one.
-abbrev put-decimal-from-put-byte : tie.After-put-byte → tie.After-put-decimal
-put-decimal-from-put-byte c = c .before .before .before .before
+abbrev start-from-put-byte : tie.After-put-byte → tie.Start
+start-from-put-byte c = c .before .before .before .before .before .before .before
 
-abbrev put-byte-from-put-decimal2 : tie.After-put-decimal2 → tie.After-put-byte
-put-byte-from-put-decimal2 c = c .before .before .before .before
+-- the room that is left once the key is written, and the tab after it, and the formula
+key-room : (c : tie.After-put-decimal) → c .put-decimal .result + 22 ≤ length (c .put-decimal .last .0)
+key-room c =
+    let s = c .before .before .before in
+    omega (arith, s .pre, twenty-digits (s .args .key) (s .fits .key .fits), c .put-decimal .ensures .0, c .put-decimal .kept .0)
+
+tab-room : (c : tie.After-put-byte) → c .put-byte .result + 21 ≤ length (c .put-byte .last .0)
+tab-room c =
+    omega (arith, key-room (c .before .before .before .before), c .put-byte .ensures .0, c .put-byte .kept .0)
+
+formula-room : (c : tie.After-put-decimal2) → c .put-decimal2 .result + 1 ≤ length (c .put-decimal2 .last .0)
+formula-room c =
+    let after-put-byte = c .before .before .before .before in
+    let s = start-from-put-byte after-put-byte in
+    omega (
+      arith,
+      tab-room after-put-byte,
+      twenty-digits (s .args .formula) (s .fits .formula .fits),
+      c .put-decimal2 .ensures .0,
+      c .put-decimal2 .kept .0,
+    )
 
 put-decimal-requires : tie.Need-put-decimal-requires
 put-decimal-requires c κs =
@@ -21,48 +41,16 @@ put-decimal-requires c κs =
     omega (arith, s .pre, twenty-digits (s .args .key) (s .fits .key .fits))
 
 put-byte-requires : tie.Need-put-byte-requires
-put-byte-requires c κs =
-    let s = c .before .before .before .before .before .before in
-    omega (
-      arith,
-      s .pre,
-      twenty-digits (s .args .key) (s .fits .key .fits),
-      c .before .before .before .put-decimal .ensures .0,
-      c .before .before .before .put-decimal .kept .0,
-    )
+put-byte-requires c κs = omega (arith, key-room (c .before .before .before))
 
 put-decimal-requires-2 : tie.Need-put-decimal-requires-2
 put-decimal-requires-2 c κs =
-    let after-put-decimal = put-decimal-from-put-byte (c .before .before .before) in
-    let s = after-put-decimal .before .before .before in
-    omega (
-      arith,
-      s .pre,
-      twenty-digits (s .args .key) (s .fits .key .fits),
-      twenty-digits (s .args .formula) (s .fits .formula .fits),
-      after-put-decimal .put-decimal .ensures .0,
-      after-put-decimal .put-decimal .kept .0,
-      c .before .before .before .put-byte .ensures .0,
-      c .before .before .before .put-byte .kept .0,
-    )
+    let after-put-byte = c .before .before .before in
+    let s = start-from-put-byte after-put-byte in
+    omega (arith, tab-room after-put-byte, twenty-digits (s .args .formula) (s .fits .formula .fits))
 
 put-byte-requires-2 : tie.Need-put-byte-requires-2
-put-byte-requires-2 c κs =
-    let after-put-byte = put-byte-from-put-decimal2 (c .before .before .before) in
-    let after-put-decimal = after-put-byte .before .before .before .before in
-    let s = after-put-decimal .before .before .before in
-    omega (
-      arith,
-      s .pre,
-      twenty-digits (s .args .key) (s .fits .key .fits),
-      twenty-digits (s .args .formula) (s .fits .formula .fits),
-      after-put-decimal .put-decimal .ensures .0,
-      after-put-decimal .put-decimal .kept .0,
-      after-put-byte .put-byte .ensures .0,
-      after-put-byte .put-byte .kept .0,
-      c .before .before .before .put-decimal2 .ensures .0,
-      c .before .before .before .put-decimal2 .kept .0,
-    )
+put-byte-requires-2 c κs = omega (arith, formula-room (c .before .before .before))
 
 same-length : tie.Need-same-length
 same-length c = search needs

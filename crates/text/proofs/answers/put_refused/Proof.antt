@@ -1,19 +1,30 @@
 -- Three stretches, one after another (`refused-wrote`).
 -- Assumes nothing.
+use Prim.Native.Nat.{_+_, _≤_}
 use native.Mathlib.Omega.{arith}
 use borrow.Author.Needs.{needs}
+use lib.ListN.{length}
 use denote.Ref.{now}
-use Rattle.text.specs.Steps.{before}
 use Rattle.text.proofs.Written.{twenty-digits, refused-wrote}
 use Rattle.text.proofs.answers.put_refused.Statement.{statement}
 use Rattle.text.proofs.answers.put_refused.Tie as tie
 
--- The places that the answers look back to, each from a later one.
-abbrev start-from-put-bytes : tie.After-put-bytes → tie.Start
-start-from-put-bytes c = c .before .before .before .before
+-- the room that is left once the front is written, and the number
+front-room : (c : tie.After-put-bytes) → c .put-bytes .result + 21 ≤ length (c .put-bytes .last .0)
+front-room c =
+    omega (arith, c .before .before .before .before .pre, c .put-bytes .ensures .0, c .put-bytes .kept .0)
 
-abbrev put-bytes-from-put-decimal : tie.After-put-decimal → tie.After-put-bytes
-put-bytes-from-put-decimal c = c .before .before .before .before
+number-room : (c : tie.After-put-decimal) → c .put-decimal .result + 1 ≤ length (c .put-decimal .last .0)
+number-room c =
+    let after-put-bytes = c .before .before .before .before in
+    let s = after-put-bytes .before .before .before .before in
+    omega (
+      arith,
+      front-room after-put-bytes,
+      twenty-digits (s .args .refusal) (s .fits .refusal .fits),
+      c .put-decimal .ensures .0,
+      c .put-decimal .kept .0,
+    )
 
 slice-aggregate-put-bytes : tie.Need-slice-aggregate-put-bytes
 slice-aggregate-put-bytes c = search needs
@@ -23,28 +34,12 @@ put-bytes-requires c κs = search needs
 
 put-decimal-requires : tie.Need-put-decimal-requires
 put-decimal-requires c κs =
-    let s = start-from-put-bytes (c .before .before .before) in
-    omega (
-      arith,
-      s .pre,
-      twenty-digits (s .args .refusal) (s .fits .refusal .fits),
-      c .before .before .before .put-bytes .ensures .0,
-      c .before .before .before .put-bytes .kept .0,
-    )
+    let after-put-bytes = c .before .before .before in
+    let s = after-put-bytes .before .before .before .before in
+    omega (arith, front-room after-put-bytes, twenty-digits (s .args .refusal) (s .fits .refusal .fits))
 
 put-byte-requires : tie.Need-put-byte-requires
-put-byte-requires c κs =
-    let after-put-bytes = put-bytes-from-put-decimal (c .before .before .before) in
-    let s = after-put-bytes .before .before .before .before in
-    omega (
-      arith,
-      s .pre,
-      twenty-digits (s .args .refusal) (s .fits .refusal .fits),
-      after-put-bytes .put-bytes .ensures .0,
-      after-put-bytes .put-bytes .kept .0,
-      c .before .before .before .put-decimal .ensures .0,
-      c .before .before .before .put-decimal .kept .0,
-    )
+put-byte-requires c κs = omega (arith, number-room (c .before .before .before))
 
 same-length : tie.Need-same-length
 same-length c = search needs

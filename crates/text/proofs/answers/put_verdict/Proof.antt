@@ -1,65 +1,50 @@
 -- Key and formula, the weight, and yes or no, one after another (`verdict-wrote`).
 -- Assumes nothing.
+use Prim.Native.Nat.{_+_, _≤_}
 use native.Mathlib.Omega.{arith}
 use borrow.Author.Needs.{needs}
+use lib.ListN.{length}
 use denote.Ref.{now}
-use Rattle.text.specs.Steps.{before}
 use Rattle.text.proofs.Written.{twenty-digits, verdict-wrote}
 use lib.Dec.{eqb}
 use Rattle.text.proofs.answers.put_verdict.Statement.{statement}
 use Rattle.text.proofs.answers.put_verdict.Tie as tie
 
--- The places that the answers look back to, each from a later one.
-abbrev put-pair-from-put-decimal : tie.After-put-decimal → tie.After-put-pair
-put-pair-from-put-decimal c = c .before .before .before .before
+-- the room that is left once key and formula are written, and the weight, and the tab after it
+pair-room : (c : tie.After-put-pair) → c .put-pair .result + 54 ≤ length (c .put-pair .last .0)
+pair-room c =
+    omega (arith, c .before .before .before .pre, c .put-pair .ensures .0, c .put-pair .kept .0)
 
-abbrev put-decimal-from-put-byte : tie.After-put-byte → tie.After-put-decimal
-put-decimal-from-put-byte c = c .before .before .before .before
+weight-room : (c : tie.After-put-decimal) → c .put-decimal .result + 34 ≤ length (c .put-decimal .last .0)
+weight-room c =
+    let after-put-pair = c .before .before .before .before in
+    let s = after-put-pair .before .before .before in
+    omega (
+      arith,
+      pair-room after-put-pair,
+      twenty-digits (s .args .weight) (s .fits .weight .fits),
+      c .put-decimal .ensures .0,
+      c .put-decimal .kept .0,
+    )
+
+tab-room : (c : tie.After-put-byte) → c .put-byte .result + 33 ≤ length (c .put-byte .last .0)
+tab-room c =
+    omega (arith, weight-room (c .before .before .before .before), c .put-byte .ensures .0, c .put-byte .kept .0)
 
 put-pair-requires : tie.Need-put-pair-requires
 put-pair-requires c κs = search needs
 
 put-decimal-requires : tie.Need-put-decimal-requires
 put-decimal-requires c κs =
-    let s = c .before .before .before .before .before .before in
-    omega (
-      arith,
-      s .pre,
-      twenty-digits (s .args .weight) (s .fits .weight .fits),
-      c .before .before .before .put-pair .ensures .0,
-      c .before .before .before .put-pair .kept .0,
-    )
+    let after-put-pair = c .before .before .before in
+    let s = after-put-pair .before .before .before in
+    omega (arith, pair-room after-put-pair, twenty-digits (s .args .weight) (s .fits .weight .fits))
 
 put-byte-requires : tie.Need-put-byte-requires
-put-byte-requires c κs =
-    let after-put-pair = put-pair-from-put-decimal (c .before .before .before) in
-    let s = after-put-pair .before .before .before in
-    omega (
-      arith,
-      s .pre,
-      twenty-digits (s .args .weight) (s .fits .weight .fits),
-      after-put-pair .put-pair .ensures .0,
-      after-put-pair .put-pair .kept .0,
-      c .before .before .before .put-decimal .ensures .0,
-      c .before .before .before .put-decimal .kept .0,
-    )
+put-byte-requires c κs = omega (arith, weight-room (c .before .before .before))
 
 put-word-requires : tie.Need-put-word-requires
-put-word-requires c κs =
-    let after-put-decimal = put-decimal-from-put-byte (c .before .before .before) in
-    let after-put-pair = after-put-decimal .before .before .before .before in
-    let s = after-put-pair .before .before .before in
-    omega (
-      arith,
-      s .pre,
-      twenty-digits (s .args .weight) (s .fits .weight .fits),
-      after-put-pair .put-pair .ensures .0,
-      after-put-pair .put-pair .kept .0,
-      after-put-decimal .put-decimal .ensures .0,
-      after-put-decimal .put-decimal .kept .0,
-      c .before .before .before .put-byte .ensures .0,
-      c .before .before .before .put-byte .kept .0,
-    )
+put-word-requires c κs = omega (arith, tab-room (c .before .before .before))
 
 same-length : tie.Need-same-length
 same-length c = search needs

@@ -1,7 +1,6 @@
 -- One of two words.
 -- Assumes nothing.
 use borrow.Author.Needs.{needs}
-use Rattle.text.specs.Steps.{before}
 use borrow.Author.Tests.{eq-eqb, ne-eqb}
 use Rattle.text.proofs.answers.put_word.Statement.{statement}
 use Rattle.text.proofs.answers.put_word.Tie as tie

@@ -6,7 +6,6 @@ use native.Mathlib.Omega.{arith}
 use borrow.Author.Needs.{needs}
 use lib.ListN.{length, drop}
 use denote.Ref.{now}
-use Rattle.text.specs.Steps.{before}
 use Rattle.text.specs.Fields.{allBetween}
 use Rattle.text.proofs.Parting.{all-below, all-above, all-next, all-end}
 use Rattle.text.proofs.fields.all_between.Statement.{statement}

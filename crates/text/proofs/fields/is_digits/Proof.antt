@@ -3,7 +3,6 @@
 use mathlib.Core.Path.{_∙_}
 use borrow.Author.Needs.{needs}
 use denote.Ref.{now}
-use Rattle.text.specs.Steps.{before}
 use Rattle.text.proofs.Rows.{digits-none, digits-some}
 use Rattle.text.proofs.fields.is_digits.Statement.{statement}
 use Rattle.text.proofs.fields.is_digits.Tie as tie

@@ -3,7 +3,6 @@
 use mathlib.Core.Path.{_∙_}
 use borrow.Author.Needs.{needs}
 use denote.Ref.{now}
-use Rattle.text.specs.Steps.{before}
 use Rattle.text.proofs.Numbers.{number-none, number-one, number-zero, number-more}
 use Rattle.text.proofs.fields.is_number.Statement.{statement}
 use Rattle.text.proofs.fields.is_number.Tie as tie

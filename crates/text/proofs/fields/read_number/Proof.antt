@@ -3,7 +3,6 @@
 use mathlib.Core.Path.{sym, _∙_}
 use borrow.Author.Needs.{needs}
 use denote.Ref.{now}
-use Rattle.text.specs.Steps.{before}
 use Rattle.text.proofs.Numbers.{number-read, number-not}
 use Rattle.text.proofs.fields.read_number.Statement.{statement}
 use Rattle.text.proofs.fields.read_number.Tie as tie

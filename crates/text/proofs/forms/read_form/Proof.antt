@@ -1,17 +1,20 @@
 -- The first field is one letter, and the letter names the form.
 -- Assumes nothing.
 use mathlib.Core.Path.{_∙_}
+use Prim.Native.Nat.{_≤_}
 use native.Mathlib.Omega.{arith}
 use borrow.Author.Needs.{needs}
+use lib.ListN.{length}
 use denote.Ref.{now}
-use Rattle.text.specs.Steps.{before}
 use Rattle.text.proofs.Told.{form-length, form-alone, long, form-key, form-row, form-sign, form-none}
 use Rattle.text.proofs.forms.read_form.Statement.{statement}
 use Rattle.text.proofs.forms.read_form.Tie as tie
 
--- The places that the answers look back to, each from a later one.
-abbrev else2-from-read-sign : tie.After-read-sign → tie.Else2
-else2-from-read-sign c = c .before .before .before .before .before
+-- the line is longer than its letter
+is-long : (c : tie.Else2) → 2 ≤ length (now (c .before .before .before .before .args .line))
+is-long c =
+    let s = c .before .before .before .before in
+    long (s .args .most-key) (now (s .args .line)) _ (c .before .before .find-tab .ensures) (c .before .if1 .left) (c .if2 .left)
 
 find-tab-requires : tie.Need-find-tab-requires
 find-tab-requires c κs = search needs
@@ -26,21 +29,12 @@ returns-2 c =
     (form-alone (start .args .most-key) (now (start .args .line)) _ (c .before .before .find-tab .ensures) (c .before .if1 .left) (c .if2 .taken), tt)
 
 shared-slice-read-letter : tie.Need-shared-slice-read-letter
-shared-slice-read-letter c =
-    let s = c .before .before .before .before .before in
-    omega (
-      arith,
-      long (s .args .most-key) (now (s .args .line)) _ (c .before .before .before .find-tab .ensures) (c .before .before .if1 .left) (c .before .if2 .left),
-    )
+shared-slice-read-letter c = omega (arith, is-long (c .before))
 
 read-key-requires : tie.Need-read-key-requires
 read-key-requires c κs =
-    let after-find-tab = c .before .before .before .before in
-    let s = after-find-tab .before .before in (
-      long (s .args .most-key) (now (s .args .line)) _ (after-find-tab .find-tab .ensures) (c .before .before .before .if1 .left)
-          (c .before .before .if2 .left),
-      s .pre,
-    )
+    let else2 = c .before .before in
+    (is-long else2, else2 .before .before .before .before .pre)
 
 returns-3 : tie.Need-returns-3
 returns-3 c =
@@ -53,11 +47,7 @@ returns-3 c =
     )
 
 read-row-requires : tie.Need-read-row-requires
-read-row-requires c κs =
-    let else1 = c .before .before .before .before in
-    let after-find-tab = else1 .before in
-    let s = after-find-tab .before .before in
-    long (s .args .most-key) (now (s .args .line)) _ (after-find-tab .find-tab .ensures) (else1 .if1 .left) (c .before .before .before .if2 .left)
+read-row-requires c κs = is-long (c .before .before .before)
 
 returns-4 : tie.Need-returns-4
 returns-4 c =
@@ -73,14 +63,11 @@ returns-4 c =
 read-sign-requires : tie.Need-read-sign-requires
 read-sign-requires c κs =
     let else2 = c .before .before .before .before in
-    let else1 = else2 .before in
-    let after-find-tab = else1 .before in
-    let s = after-find-tab .before .before in
-    (long (s .args .most-key) (now (s .args .line)) _ (after-find-tab .find-tab .ensures) (else1 .if1 .left) (else2 .if2 .left), s .pre)
+    (is-long else2, else2 .before .before .before .before .pre)
 
 returns-5 : tie.Need-returns-5
 returns-5 c =
-    let else2 = else2-from-read-sign c in
+    let else2 = c .before .before .before .before .before in
     let else1 = else2 .before in
     let after-find-tab = else1 .before in
     let start = after-find-tab .before .before in (

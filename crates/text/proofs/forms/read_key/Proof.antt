@@ -2,8 +2,7 @@
 -- Assumes nothing.
 use borrow.Author.Needs.{needs}
 use denote.Ref.{now}
-use Rattle.text.specs.Steps.{before}
-use Rattle.text.proofs.Told.{four-fields, not-key}
+use Rattle.text.proofs.Told.{not-key}
 use Rattle.text.proofs.forms.read_key.Statement.{statement}
 use Rattle.text.proofs.forms.read_key.Tie as tie
 

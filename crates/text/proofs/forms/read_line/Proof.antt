@@ -3,7 +3,6 @@
 use mathlib.Core.Path.{_∙_}
 use borrow.Author.Needs.{needs}
 use denote.Ref.{now}
-use Rattle.text.specs.Steps.{before}
 use Rattle.text.proofs.Told.{line-long, line-form}
 use Rattle.text.proofs.forms.read_line.Statement.{statement}
 use Rattle.text.proofs.forms.read_line.Tie as tie

@@ -3,7 +3,6 @@
 use mathlib.Core.Path.{sym, _∙_}
 use borrow.Author.Needs.{needs}
 use denote.Ref.{now}
-use Rattle.text.specs.Steps.{before}
 use Rattle.text.proofs.Told.{row-more, row-told, row-not}
 use Rattle.text.proofs.forms.read_row.Statement.{statement}
 use Rattle.text.proofs.forms.read_row.Tie as tie

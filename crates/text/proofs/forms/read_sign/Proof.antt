@@ -2,8 +2,7 @@
 -- Assumes nothing.
 use borrow.Author.Needs.{needs}
 use denote.Ref.{now}
-use Rattle.text.specs.Steps.{before}
-use Rattle.text.proofs.Told.{four-fields, not-sign}
+use Rattle.text.proofs.Told.{not-sign}
 use Rattle.text.proofs.forms.read_sign.Statement.{statement}
 use Rattle.text.proofs.forms.read_sign.Tie as tie
 

@@ -3,7 +3,6 @@
 use mathlib.Core.Path.{sym, _∙_}
 use native.Mathlib.Omega.{arith}
 use borrow.Author.Needs.{needs}
-use Rattle.text.specs.Steps.{before}
 use Rattle.text.proofs.Told.{range-in, range-out, sign-not-1, sign-not-2, sign-not-3, sign-not-4, sign-told}
 use borrow.Author.Tests.{not-true, not-false}
 use Rattle.text.proofs.forms.read_signed.Statement.{statement}
@@ -13,26 +12,8 @@ use Rattle.text.proofs.forms.read_signed.Tie as tie
 abbrev start-from-read-number2 : tie.After-read-number2 → tie.Start
 start-from-read-number2 c = c .before .before .before .before .before .before
 
-abbrev start-from-then2 : tie.Then2 → tie.Start
-start-from-then2 c = start-from-read-number2 (c .before)
-
-abbrev start-from-else2 : tie.Else2 → tie.Start
-start-from-else2 c = start-from-read-number2 (c .before)
-
 abbrev start-from-is-digits : tie.After-is-digits → tie.Start
-start-from-is-digits c = start-from-else2 (c .before .before)
-
-abbrev start-from-then3 : tie.Then3 → tie.Start
-start-from-then3 c = start-from-is-digits (c .before)
-
-abbrev start-from-else3 : tie.Else3 → tie.Start
-start-from-else3 c = start-from-is-digits (c .before)
-
-abbrev start-from-is-digits2 : tie.After-is-digits2 → tie.Start
-start-from-is-digits2 c = start-from-else3 (c .before .before)
-
-abbrev start-from-then4 : tie.Then4 → tie.Start
-start-from-then4 c = start-from-is-digits2 (c .before)
+start-from-is-digits c = start-from-read-number2 (c .before .before .before)
 
 sub-read-number : tie.Need-sub-read-number
 sub-read-number c = search needs
@@ -68,7 +49,7 @@ read-number-requires-2 c κs = search needs
 
 returns-2 : tie.Need-returns-2
 returns-2 c =
-    let s = start-from-then2 c in
+    let s = start-from-read-number2 (c .before) in
     (sign-not-2 (s .pre .0) (s .args .most-key) (range-out _ (c .before .read-number2 .ensures) 65535 (omega arith) (omega (arith, c .if2 .taken))), tt)
 
 add-c1 : tie.Need-add-c1
@@ -88,7 +69,7 @@ is-digits-requires c κs = search needs
 
 returns-3 : tie.Need-returns-3
 returns-3 c =
-    let s = start-from-then3 c in
+    let s = start-from-is-digits (c .before) in
     (sign-not-3 (s .pre .0) (s .args .most-key) (sym (c .before .is-digits .ensures) ∙ not-true (c .before .is-digits .result) (c .if3 .taken)), tt)
 
 add-d1 : tie.Need-add-d1
@@ -108,7 +89,7 @@ is-digits-requires-2 c κs = search needs
 
 returns-4 : tie.Need-returns-4
 returns-4 c =
-    let s = start-from-then4 c in
+    let s = start-from-is-digits (c .before .before .before .before) in
     (sign-not-4 (s .pre .0) (s .args .most-key) (sym (c .before .is-digits2 .ensures) ∙ not-true (c .before .is-digits2 .result) (c .if4 .taken)), tt)
 
 returns-5 : tie.Need-returns-5

@@ -1,7 +1,8 @@
 -- Each form's answer is that of the line it was read from (`line-kept`, `line-prints`).
 -- Assumes nothing.
-use Prim.Native.Nat.{_+_, _-_}
-use mathlib.Core.Path.{sym, ap, _∙_, subst}
+use Prim.Native.Nat.{ℕ, _+_, _-_}
+use mathlib.Core.Path.{_≡_, sym, ap, _∙_, subst}
+use mathlib.Core.List.{List}
 use native.Mathlib.Omega.{arith}
 use borrow.Author.Needs.{needs}
 use lib.ListN.{length}
@@ -10,33 +11,53 @@ use Rattle.text_line.specs.Answer.{refusalPrints, linePrints, lineKept, 
 use Rattle.text_line.proofs.Lent.{part-short}
 use Rattle.text_line.proofs.Lines.{line-kept, line-prints}
 use Rattle.trits.specs.Rows.{putWords}
-use Rattle.text.specs.Steps.{says, Placed}
+use Rattle.text.specs.Steps.{bounded, says, Placed}
 use Rattle.text.specs.declared.forms.Form.{Form}
 use Rattle.text.specs.declared.forms.Form.the-variants.{Sign, Row}
 use Rattle.text_line.proofs.handle.handle.Statement.{statement}
 use Rattle.text_line.proofs.handle.handle.Tie as tie
 
 -- The places that the answers look back to, each from a later one.
-abbrev start-from-at-match-keys3 : tie.At-match-keys3 → tie.Start
-start-from-at-match-keys3 c = c .before .before .before .before .before .before
-
-abbrev known-told2-from-handle-sign-arg5 : tie.After-handle-sign-arg5 → tie.After-known-told2
-known-told2-from-handle-sign-arg5 c = c .before .before .before .before .before
-
-abbrev start-from-at-match-keys4 : tie.At-match-keys4 → tie.Start
-start-from-at-match-keys4 c = c .before .before .before .before .before .before
-
 abbrev start-from-read-line : tie.After-read-line → tie.Start
 start-from-read-line c = c .before .before .before .before .before
-
-abbrev handle-row-from-slice-known8 : tie.After-slice-known8 → tie.After-handle-row
-handle-row-from-slice-known8 c = c .before .before .before .before .before .before
 
 abbrev enum-told2-from-handle-row : tie.After-handle-row → tie.After-enum-told2
 enum-told2-from-handle-row c = c .before .before .before .before .before
 
-abbrev form2-from-handle-sign : tie.After-handle-sign → tie.After-form2
-form2-from-handle-sign c = c .before .before .before .before .before .before .before
+abbrev known-told2-from-handle-sign-arg5 : tie.After-handle-sign-arg5 → tie.After-known-told2
+known-told2-from-handle-sign-arg5 c = c .before .before .before .before .before
+
+-- a line that was read as a form: where its digits stand
+placed : (c : tie.After-read-line) {f : Form} → c .read-line .result ≡ f → Placed (now (start-from-read-line c .args .line)) f
+placed c e = subst (Placed (now (start-from-read-line c .args .line))) e (c .read-line .ensures .1)
+
+row-place : (c : tie.After-enum-told2) → Placed (now (start-from-read-line (c .before .before) .args .line)) Row
+row-place c = placed (c .before .before) (c .enum-told2 .given .1)
+
+sign-place : (c : tie.After-known-told2) → let g = c .before .form2 .given .0 in
+    Placed (now (start-from-read-line (c .before .before .before) .args .line)) (Sign (g .0) (g .1 .0) (g .1 .1 .0) (g .1 .1 .1 .0))
+sign-place c = placed (c .before .before .before) (c .before .form2 .given .1)
+
+-- what the form says is what the line says, with its numbers bounded
+said : (c : tie.After-read-line) {f : Form} → c .read-line .result ≡ f → let l = now (start-from-read-line c .args .line) in
+    says l f ≡ bounded (readLine l)
+said c e = ap (says (now (start-from-read-line c .args .line))) (sym e) ∙ c .read-line .ensures .0
+
+-- so what is kept for the form is kept for the line
+kept : (c : tie.After-read-line) {f : Form} → c .read-line .result ≡ f → let a = start-from-read-line c .args in
+    let k = holding (a .held) (now (a .ones)) (now (a .twos)) in
+    lineKept k (says (now (a .line)) f) ≡ lineKept k (readLine (now (a .line)))
+kept c e = line-kept _ _ (said c e)
+
+-- and what is printed for the form is printed for the line
+printed : (c : tie.After-read-line) {f : Form} {count : ℕ} {out : List ℕ} → c .read-line .result ≡ f → let a = start-from-read-line c .args in
+    let k = holding (a .held) (now (a .ones)) (now (a .twos)) in
+    let form = linePrints k (says (now (a .line)) f) in
+    let line = linePrints k (readLine (now (a .line))) in
+    (count ≡ length form) × (out ≡ putWords 0 (now (a .out)) form) → (count ≡ length line) × (out ≡ putWords 0 (now (a .out)) line)
+printed c e p =
+    let z = line-prints _ _ (said c e) in
+    (p .0 ∙ ap length z, p .1 ∙ ap (putWords 0 (now (start-from-read-line c .args .out))) z)
 
 read-line-requires : tie.Need-read-line-requires
 read-line-requires c κs = search needs
@@ -56,13 +77,6 @@ handle-key-requires c κs = search needs
 enum-told-2 : tie.Need-enum-told-2
 enum-told-2 c = search needs
 
--- where the digits stand
-row-place : (c : tie.After-enum-told2) → Placed (now (c .before .before .before .before .before .before .before .args .line)) Row
-row-place c = subst (λ (f : Form). Placed (now (start-from-at-match-keys3 (c .before) .args .line)) f) (c .enum-told2 .given .1) (c .before .before .read-line .ensures .1)
-
-sign-place : (c : tie.After-known-told2) → let g = c .before .form2 .given .0 in Placed (now (c .before .before .before .before .before .before .before .before .args .line)) (Sign (g .0) (g .1 .0) (g .1 .1 .0) (g .1 .1 .1 .0))
-sign-place c = subst (λ (f : Form). Placed (now (c .before .before .before .before .before .before .before .before .args .line)) f) (c .before .form2 .given .1) (c .before .before .before .read-line .ensures .1)
-
 sub-handle-row : tie.Need-sub-handle-row
 sub-handle-row c =
     row-place c .0
@@ -77,7 +91,7 @@ part-handle-row-end c = search needs
 handle-row-requires : tie.Need-handle-row-requires
 handle-row-requires c κs =
     let after-enum-told2 = c .before .before .before .before in
-    let s = start-from-at-match-keys3 (after-enum-told2 .before) in record {
+    let s = start-from-read-line (after-enum-told2 .before .before) in record {
       are-digits = row-place after-enum-told2 .1;
       short = omega (arith, part-short (length (now (s .args .line)) - 2) 2 (now (s .args .line)), s .pre .short);
       ones-size = s .pre .ones-size;
@@ -123,7 +137,7 @@ handle-sign-requires : tie.Need-handle-sign-requires
 handle-sign-requires c κs =
     let after-known-told2 = known-told2-from-handle-sign-arg5 c in
     let after-form2 = after-known-told2 .before in
-    let s = start-from-at-match-keys4 (after-form2 .before) in
+    let s = start-from-read-line (after-form2 .before .before) in
     let p = sign-place after-known-told2 in
     let g = after-form2 .form2 .given .0 in
     let l = now (s .args .line) in record {
@@ -144,14 +158,8 @@ unfolding lineKept linePrints refusalPrints
 returns c =
     let after-enum-told = c .before .before .before .before in
     let after-read-line = after-enum-told .before .before in
-    let s = start-from-read-line after-read-line in
-    let a = s .args in
-    let l = now (a .line) in
-    let k = holding (a .held) (now (a .ones)) (now (a .twos)) in
-    let e = ap (says l) (sym (after-enum-told .enum-told .given .1)) ∙ after-read-line .read-line .ensures .0 in
-    let z = line-prints k (readLine l) e in
-    let q = c .before .before .print-refusal .ensures in
-    (line-kept k (readLine l) e, (q .0 ∙ ap length z, q .1 ∙ ap (putWords 0 (now (a .out))) z))
+    let e = after-enum-told .enum-told .given .1 in
+    (kept after-read-line e, printed after-read-line e (c .before .before .print-refusal .ensures))
 
 same-length-2 : tie.Need-same-length-2
 same-length-2 c = search needs
@@ -161,14 +169,10 @@ unfolding lineKept linePrints
 returns-2 c =
     let after-form = c .before .before .before .before .before in
     let after-read-line = after-form .before .before in
-    let s = start-from-read-line after-read-line in
-    let a = s .args in
-    let l = now (a .line) in
-    let k = holding (a .held) (now (a .ones)) (now (a .twos)) in
-    let e = ap (says l) (sym (after-form .form .given .1)) ∙ after-read-line .read-line .ensures .0 in
-    let z = line-prints k (readLine l) e in
+    let a = start-from-read-line after-read-line .args in
+    let e = after-form .form .given .1 in
     let p = c .before .before .handle-key .ensures in
-    ((λ i. holding (p .0 i) (now (a .ones)) (now (a .twos))) ∙ line-kept k (readLine l) e, (p .1 .0 ∙ ap length z, p .1 .1 ∙ ap (putWords 0 (now (a .out))) z))
+    ((λ i. holding (p .0 i) (now (a .ones)) (now (a .twos))) ∙ kept after-read-line e, printed after-read-line e (p .1))
 
 same-length-3 : tie.Need-same-length-3
 same-length-3 c = search needs
@@ -182,17 +186,12 @@ same-length-5 c = search needs
 returns-3 : tie.Need-returns-3
 unfolding lineKept linePrints
 returns-3 c =
-    let after-handle-row = handle-row-from-slice-known8 c in
+    let after-handle-row = c .before .before .before .before .before .before in
     let after-enum-told2 = enum-told2-from-handle-row after-handle-row in
     let after-read-line = after-enum-told2 .before .before in
-    let s = start-from-read-line after-read-line in
-    let a = s .args in
-    let l = now (a .line) in
-    let k = holding (a .held) (now (a .ones)) (now (a .twos)) in
-    let e = ap (says l) (sym (after-enum-told2 .enum-told2 .given .1)) ∙ after-read-line .read-line .ensures .0 in
-    let z = line-prints k (readLine l) e in
+    let e = after-enum-told2 .enum-told2 .given .1 in
     let p = after-handle-row .handle-row .ensures in
-    (p .0 ∙ line-kept k (readLine l) e, (p .1 .0 ∙ ap length z, p .1 .1 ∙ ap (putWords 0 (now (a .out))) z))
+    (p .0 ∙ kept after-read-line e, printed after-read-line e (p .1))
 
 same-length-6 : tie.Need-same-length-6
 same-length-6 c = search needs
@@ -206,16 +205,11 @@ same-length-8 c = search needs
 returns-4 : tie.Need-returns-4
 unfolding lineKept linePrints
 returns-4 c =
-    let after-form2 = form2-from-handle-sign (c .before .before) in
+    let after-handle-sign = c .before .before in
+    let after-form2 = known-told2-from-handle-sign-arg5 (after-handle-sign .before) .before in
     let after-read-line = after-form2 .before .before in
-    let s = start-from-read-line after-read-line in
-    let a = s .args in
-    let l = now (a .line) in
-    let k = holding (a .held) (now (a .ones)) (now (a .twos)) in
-    let e = ap (says l) (sym (after-form2 .form2 .given .1)) ∙ after-read-line .read-line .ensures .0 in
-    let z = line-prints k (readLine l) e in
-    let p = c .before .before .handle-sign .ensures in
-    (line-kept k (readLine l) e, (p .0 ∙ ap length z, p .1 ∙ ap (putWords 0 (now (a .out))) z))
+    let e = after-form2 .form2 .given .1 in
+    (kept after-read-line e, printed after-read-line e (after-handle-sign .handle-sign .ensures))
 
 pub handle-spec : {M : Type 1} → statement M
 handle-spec =

@@ -19,7 +19,8 @@ use Rattle.scheme.specs.Build.{buildRefusal}
 use Rattle.calls.specs.Lent.{secretOf, pairDiffers, secretDiffers, secretRefusal}
 use Rattle.calls.specs.BuildCall.{BuildCall, keyRowWords, buildWorkWords, keyDiffers, buildLengthsDiffer, buildAnswer}
 use Rattle.calls.proofs.Exits.{first-le}
-use Rattle.calls.proofs.Secrets.{or-none, pair-same, SecretLengths, secret-same, secret-le}
+use Rattle.calls.specs.Steps.{SecretLengths}
+use Rattle.calls.proofs.Secrets.{or-none, pair-same, secret-same, secret-le}
 
 -- ---- the answer
 

@@ -7,8 +7,15 @@ use Rattle.scheme.specs.Sizes.{sizesFit, places, dim}
 use Rattle.matrix.specs.Orders.{Order}
 use Rattle.calls.specs.Lent.{planes, Readable}
 use Rattle.calls.specs.BuildCall.{keyRowWords, buildWorkWords}
+use Rattle.calls.specs.Steps.{SecretLengths}
 use mathlib.Core.List.{List}
 use Rattle.scheme.specs.declared.sizes.Sizes.{Sizes}
+
+-- sizes that fit, and the lengths of the secret and of the starting order
+pub record ForTestContentsBuild (z : Sizes) (huOnes huTwos hvOnes hvTwos bOnes bTwos cOnes cTwos start : List ℕ) : Type 0 where
+  pub sizes : sizesFit z ≡ true
+  pub secret : SecretLengths z (length huOnes) (length huTwos) (length hvOnes) (length hvTwos) (length bOnes) (length bTwos) (length cOnes) (length cTwos)
+  pub start-size : length start ≡ places z
 
 -- sizes that fit, a secret that was tested, an order, and all that the key is written to
 pub record ForFinishBuild (z : Sizes) (huOnes huTwos hvOnes hvTwos bOnes bTwos cOnes cTwos start p keyOnes keyTwos workOnes workTwos : List ℕ) : Type 0 where

@@ -1,13 +1,12 @@
 // The tests of a build's lengths and contents.
 ghost use mathlib.Core.Path.{_≡_};
 ghost use mathlib.Core.Bool.{true, _||_};
-ghost use Prim.Native.Nat.{_*_};
-ghost use lib.ListN.{length};
 ghost use Rattle.trits.specs.Refusal.{codeOf, demand, first};
 ghost use Rattle.matrix.specs.Orders.{isOrder};
-ghost use Rattle.scheme.specs.Sizes.{sizesFit, places, ru, rv};
-ghost use Rattle.calls.specs.Lent.{planes, halfWords, secretDiffers, secretRefusal};
+ghost use Rattle.scheme.specs.Sizes.{sizesFit, places};
+ghost use Rattle.calls.specs.Lent.{planes, secretDiffers, secretRefusal};
 ghost use Rattle.calls.specs.BuildCall.{keyDiffers};
+ghost use Rattle.build.specs.Steps.{ForTestContentsBuild};
 use calls::order;
 use calls::tests;
 use scheme::sizes;
@@ -72,10 +71,8 @@ pub fn test_contents(
     c_twos: &[u64],
     start: &[u16],
 ) -> Outcome
-    requires { ⌜ sizesFit z ≡ true ⌝ }
-    requires { ⌜ (length (now «hu_ones») ≡ ru z * halfWords z) × (length (now «hu_twos») ≡ ru z * halfWords z) × (length (now «hv_ones») ≡ rv z * halfWords z) × (length (now «hv_twos») ≡ rv z * halfWords z)
-        × (length (now «b_ones») ≡ halfWords z) × (length (now «b_twos») ≡ halfWords z) × (length (now «c_ones») ≡ halfWords z) × (length (now «c_twos») ≡ halfWords z) ⌝ }
-    requires { ⌜ length (now start) ≡ places z ⌝ }
+    requires { ⌜ ForTestContentsBuild z (now «hu_ones») (now «hu_twos») (now «hv_ones») (now «hv_twos») (now «b_ones») (now «b_twos»)
+        (now «c_ones») (now «c_twos») (now start) ⌝ }
     ensures { λ r. ⌜ codeOf r ≡ first (secretRefusal z (planes (now («hu_ones» .entry)) (now («hu_twos» .entry)) (now («hv_ones» .entry)) (now («hv_twos» .entry))
         (now («b_ones» .entry)) (now («b_twos» .entry)) (now («c_ones» .entry)) (now («c_twos» .entry))))
         (demand (isOrder (places z) (now (start .entry))) 7 0) ⌝ }

@@ -18,6 +18,7 @@ use Rattle.matrix.proofs.Field.{not-false}
 use Rattle.scheme.specs.declared.sizes.Sizes.{Sizes}
 use Rattle.scheme.specs.Sizes.{half, ru, rv}
 use Rattle.calls.specs.Lent.{Planes, halfWords, pairDiffers, secretDiffers, secretRefusal, Readable}
+use Rattle.calls.specs.Steps.{SecretLengths}
 use Rattle.calls.proofs.Marks.{isZero}
 use Rattle.calls.proofs.Exits.{Low, planes-low}
 use Rattle.scheme.specs.Secret.{hasZero}
@@ -28,16 +29,6 @@ pub pair-same : (m o t : ℕ) → pairDiffers m o t ≡ false → (o ≡ m) × (
 pair-same m o t e =
     let a = or-false-both (not (eqb o m)) (not (eqb t m)) e in
     (eqb-true o m (not-false (eqb o m) (a .0)), eqb-true t m (not-false (eqb t m) (a .1)))
-
-pub record SecretLengths (z : Sizes) (a b c d e f g h : ℕ) : Type 0 where
-  pub hu1 : a ≡ ru z * halfWords z
-  pub hu2 : b ≡ ru z * halfWords z
-  pub hv1 : c ≡ rv z * halfWords z
-  pub hv2 : d ≡ rv z * halfWords z
-  pub b1 : e ≡ halfWords z
-  pub b2 : f ≡ halfWords z
-  pub c1 : g ≡ halfWords z
-  pub c2 : h ≡ halfWords z
 
 secret-same : (z : Sizes) (hu1 hu2 hv1 hv2 b1 b2 c1 c2 : ℕ) → secretDiffers z hu1 hu2 hv1 hv2 b1 b2 c1 c2 ≡ false → SecretLengths z hu1 hu2 hv1 hv2 b1 b2 c1 c2
 unfolding secretDiffers

@@ -1,18 +1,18 @@
 // The tests that both calls make: lengths, zeros, the secret's buffers.
 ghost use mathlib.Core.Path.{_≡_};
 ghost use mathlib.Core.Bool.{true};
-ghost use Prim.Native.Nat.{_+_, _*_};
+ghost use Prim.Native.Nat.{_+_};
 ghost use lib.ListN.{length};
 ghost use Rattle.trits.specs.Planes.{tritAt};
 ghost use Rattle.trits.specs.Refusal.{codeOf};
-ghost use Rattle.scheme.specs.Sizes.{sizesFit, ru, rv};
-ghost use Rattle.calls.specs.Lent.{planes, halfWords, pairDiffers, secretDiffers, secretRefusal};
+ghost use Rattle.scheme.specs.Sizes.{sizesFit};
+ghost use Rattle.calls.specs.Lent.{planes, pairDiffers, secretDiffers, secretRefusal};
 use scheme::sizes;
 use scheme::sizes::Sizes;
 use trits::refusal::Outcome;
 use trits::refusal::Refusal;
 ghost use Rattle.scheme.specs.Secret.{hasZero};
-ghost use Rattle.calls.specs.Steps.{ForHasZero};
+ghost use Rattle.calls.specs.Steps.{ForHasZero, SecretLengths};
 
 // Whether one of two planes has another length than m.
 pub fn pair_differs(m: usize, ones: usize, twos: usize) -> bool
@@ -80,8 +80,8 @@ pub fn test_secret(
     c_twos: &[u64],
 ) -> Outcome
     requires { ⌜ sizesFit z ≡ true ⌝ }
-    requires { ⌜ (length (now «hu_ones») ≡ ru z * halfWords z) × (length (now «hu_twos») ≡ ru z * halfWords z) × (length (now «hv_ones») ≡ rv z * halfWords z) × (length (now «hv_twos») ≡ rv z * halfWords z)
-        × (length (now «b_ones») ≡ halfWords z) × (length (now «b_twos») ≡ halfWords z) × (length (now «c_ones») ≡ halfWords z) × (length (now «c_twos») ≡ halfWords z) ⌝ }
+    requires { ⌜ SecretLengths z (length (now «hu_ones»)) (length (now «hu_twos»)) (length (now «hv_ones»)) (length (now «hv_twos»))
+        (length (now «b_ones»)) (length (now «b_twos»)) (length (now «c_ones»)) (length (now «c_twos»)) ⌝ }
     ensures { λ r. ⌜ codeOf r ≡ secretRefusal z (planes (now («hu_ones» .entry)) (now («hu_twos» .entry)) (now («hv_ones» .entry)) (now («hv_twos» .entry))
         (now («b_ones» .entry)) (now («b_twos» .entry)) (now («c_ones» .entry)) (now («c_twos» .entry))) ⌝ }
 {

@@ -27,7 +27,7 @@ use Rattle.calls.specs.Lent.{pairDiffers, secretRefusal, Readable}
 use Rattle.calls.specs.DrawCall.{DrawCall, drawWorkWords, choicesDiffer, drawLengthsDiffer, choicesRefusal, drawAnswer}
 use Rattle.calls.proofs.Exits.{Low, planes-low}
 use Rattle.calls.proofs.Secrets.{pair-same, differs, Lengths, secret-lengths, secret-low}
-use Rattle.draw_tests.specs.Steps.{given, chosen, ending, Ready}
+use Rattle.draw_tests.specs.Steps.{given, chosen, ending, Ready, ChosenLengths}
 
 -- ---- the answer
 
@@ -97,15 +97,7 @@ work-ended z s p y ch w =
 -- ---- lengths that do not differ
 
 pub record ChoicesLengths (z : Sizes) (p y1 y2 ov v1 v2 ou u1 u2 e1 e2 s1 s2 w1 w2 : ℕ) : Type 0 where
-  pub order : p ≡ places z
-  pub yOnes : y1 ≡ wordsFor (codim z)
-  pub yTwos : y2 ≡ wordsFor (codim z)
-  pub orderV : ov ≡ half z
-  pub vOnes : v1 ≡ wordsFor (z .kv)
-  pub vTwos : v2 ≡ wordsFor (z .kv)
-  pub orderU : ou ≡ half z
-  pub uOnes : u1 ≡ wordsFor (z .ku)
-  pub uTwos : u2 ≡ wordsFor (z .ku)
+  pub chosen : ChosenLengths z p y1 y2 ov v1 v2 ou u1 u2
   pub wordOnes : e1 ≡ wordsFor (places z)
   pub wordTwos : e2 ≡ wordsFor (places z)
   pub sOnes : s1 ≡ wordsFor (dim z)
@@ -132,15 +124,17 @@ choices-same z p y1 y2 ov v1 v2 ou u1 u2 e1 e2 s1 s2 w1 w2 e =
     let s = pair-same _ s1 s2 (G .0) in
     let w = pair-same _ w1 w2 (G .1) in
     record {
-      order = eqb-true p (places z) (not-false (eqb p (places z)) (A .0));
-      yOnes = y .0;
-      yTwos = y .1;
-      orderV = o .0;
-      vOnes = v .0;
-      vTwos = v .1;
-      orderU = o .1;
-      uOnes = u .0;
-      uTwos = u .1;
+      chosen = record {
+        order = eqb-true p (places z) (not-false (eqb p (places z)) (A .0));
+        yOnes = y .0;
+        yTwos = y .1;
+        orderV = o .0;
+        vOnes = v .0;
+        vTwos = v .1;
+        orderU = o .1;
+        uOnes = u .0;
+        uTwos = u .1;
+      };
       wordOnes = r .0;
       wordTwos = r .1;
       sOnes = s .0;
@@ -177,7 +171,7 @@ module _ (z : Sizes) (i : DrawCall) where
         → Ready z (given (i .secret) (i .p) (i .y .ones) (i .y .twos) (i .orderV) (i .v .ones) (i .v .twos) (i .orderU) (i .u .ones) (i .u .twos))
     unfolding choicesRefusal
     ready g k f1 f2 f3 f4 f5 f6 =
-        let l = lengths-choices in
+        let l = lengths-choices .chosen in
         let S = passed-first (secretRefusal z (i .secret)) (choicesRefusal z i) g in
         let A = passed-demand (isOrder (places z) (i .p)) 7 _ (lit< tt) (S .1) in
         let B = passed-first (planesRefusal (i .y .ones) (i .y .twos) 1 (codim z)) _ (A .1) in

@@ -1,14 +1,12 @@
 // The tests of a draw's lengths and contents.
 ghost use mathlib.Core.Path.{_≡_};
 ghost use mathlib.Core.Bool.{true, _||_};
-ghost use Prim.Native.Nat.{_*_};
 ghost use lib.ListN.{length};
-ghost use Rattle.trits.specs.Planes.{wordsFor};
 ghost use Rattle.trits.specs.Refusal.{codeOf, first};
-ghost use Rattle.scheme.specs.Sizes.{sizesFit, half, places, ru, rv, codim};
-ghost use Rattle.calls.specs.Lent.{planes, halfWords, secretDiffers, secretRefusal};
+ghost use Rattle.scheme.specs.Sizes.{sizesFit};
+ghost use Rattle.calls.specs.Lent.{planes, secretDiffers, secretRefusal};
 ghost use Rattle.calls.specs.DrawCall.{choicesDiffer, choicesRefusal};
-ghost use Rattle.draw_tests.specs.Steps.{chosen};
+ghost use Rattle.draw_tests.specs.Steps.{chosen, ChosenLengths, ForTestContentsDraw};
 use calls::order;
 use calls::tests;
 use calls::work;
@@ -116,9 +114,8 @@ pub fn test_choices(
     u_twos: &[u64],
 ) -> Outcome
     requires { ⌜ sizesFit z ≡ true ⌝ }
-    requires { ⌜ (length (now p) ≡ places z) × (length (now «y_ones») ≡ wordsFor (codim z)) × (length (now «y_twos») ≡ wordsFor (codim z)) × (length (now «v_order») ≡ half z)
-        × (length (now «v_ones») ≡ wordsFor (z .kv)) × (length (now «v_twos») ≡ wordsFor (z .kv)) × (length (now «u_order») ≡ half z)
-        × (length (now «u_ones») ≡ wordsFor (z .ku)) × (length (now «u_twos») ≡ wordsFor (z .ku)) ⌝ }
+    requires { ⌜ ChosenLengths z (length (now p)) (length (now «y_ones»)) (length (now «y_twos»)) (length (now «v_order»))
+        (length (now «v_ones»)) (length (now «v_twos»)) (length (now «u_order»)) (length (now «u_ones»)) (length (now «u_twos»)) ⌝ }
     ensures { λ r. ⌜ codeOf r ≡ choicesRefusal z (chosen (now (p .entry)) (now («y_ones» .entry)) (now («y_twos» .entry)) (now («v_order» .entry)) (now («v_ones» .entry)) (now («v_twos» .entry))
         (now («u_order» .entry)) (now («u_ones» .entry)) (now («u_twos» .entry))) ⌝ }
 {
@@ -175,12 +172,9 @@ pub fn test_contents(
     u_ones: &[u64],
     u_twos: &[u64],
 ) -> Outcome
-    requires { ⌜ sizesFit z ≡ true ⌝ }
-    requires { ⌜ (length (now «hu_ones») ≡ ru z * halfWords z) × (length (now «hu_twos») ≡ ru z * halfWords z) × (length (now «hv_ones») ≡ rv z * halfWords z) × (length (now «hv_twos») ≡ rv z * halfWords z)
-        × (length (now «b_ones») ≡ halfWords z) × (length (now «b_twos») ≡ halfWords z) × (length (now «c_ones») ≡ halfWords z) × (length (now «c_twos») ≡ halfWords z) ⌝ }
-    requires { ⌜ (length (now p) ≡ places z) × (length (now «y_ones») ≡ wordsFor (codim z)) × (length (now «y_twos») ≡ wordsFor (codim z)) × (length (now «v_order») ≡ half z)
-        × (length (now «v_ones») ≡ wordsFor (z .kv)) × (length (now «v_twos») ≡ wordsFor (z .kv)) × (length (now «u_order») ≡ half z)
-        × (length (now «u_ones») ≡ wordsFor (z .ku)) × (length (now «u_twos») ≡ wordsFor (z .ku)) ⌝ }
+    requires { ⌜ ForTestContentsDraw z (now «hu_ones») (now «hu_twos») (now «hv_ones») (now «hv_twos») (now «b_ones») (now «b_twos»)
+        (now «c_ones») (now «c_twos») (now p) (now «y_ones») (now «y_twos») (now «v_order») (now «v_ones») (now «v_twos») (now «u_order») (now «u_ones»)
+        (now «u_twos») ⌝ }
     ensures { λ r. ⌜ codeOf r ≡ first (secretRefusal z (planes (now («hu_ones» .entry)) (now («hu_twos» .entry)) (now («hv_ones» .entry)) (now («hv_twos» .entry))
         (now («b_ones» .entry)) (now («b_twos» .entry)) (now («c_ones» .entry)) (now («c_twos» .entry))))
         (choicesRefusal z (chosen (now (p .entry)) (now («y_ones» .entry)) (now («y_twos» .entry)) (now («v_order» .entry)) (now («v_ones» .entry)) (now («v_twos» .entry))

@@ -7,52 +7,45 @@ use native.Mathlib.Omega.{arith}
 use denote.Ref.{now}
 use lib.Dec.{lit<}
 use Rattle.trits.specs.Planes.{pairOf}
-use Rattle.trits.specs.Refusal.{atExit, spaceExit}
+use Rattle.trits.specs.Refusal.{codeOf, atExit, spaceExit}
 use Rattle.trits.proofs.Refusals.{exit-kept, positive}
 use Rattle.matrix.proofs.Field.{not-true, not-false}
 use Rattle.scheme.specs.declared.sizes.Sizes.{Sizes}
 use Rattle.scheme.specs.Sizes.{sizesFit}
-use Rattle.scheme.specs.Build.{keyOrder}
-use Rattle.calls.specs.Lent.{planes, secretOf}
+use Rattle.scheme.specs.Build.{buildRefusal, keyOrder}
+use Rattle.calls.specs.Lent.{planes, secretOf, Readable}
 use Rattle.calls.specs.BuildCall.{BuildCall, buildCall, buildLengthsDiffer, buildAnswer, orderExit, keyOnesOf, keyTwosOf, keyExit, buildWorkExit}
 use Rattle.calls.proofs.Exits.{work-kept}
 use Rattle.calls.proofs.Secrets.{readable}
-use Rattle.build.proofs.Answers.{same-lengths, answer-size, answer-length, answer-contents, answer-ranks, contents-le, contents-passed, work-ended}
-use Rattle.build.proofs.Answers.{lengths-secret, lengths-key}
+use Rattle.build.proofs.Answers.{contents, contents-le, contents-passed, answer-size, answer-length, answer-contents, answer-ranks}
+use Rattle.build.proofs.Answers.{same-lengths, lengths-secret, lengths-key, work-ended}
 use borrow.Author.Needs.{needs}
 use Rattle.build.proofs.build.Statement.{statement}
 use Rattle.build.proofs.build.Tie as tie
 
 -- The places that the answers look back to, each from a later one.
-abbrev else1-from-then3 : tie.Then3 → tie.Else1
-else1-from-then3 c = c .before .before .before .before .before
+abbrev start-from-shared-slice-known8 : tie.After-shared-slice-known8 → tie.Start
+start-from-shared-slice-known8 c = c .before .before .before .before .before .before .before .before
 
-abbrev else3-from-finish-arg5 : tie.After-finish-arg5 → tie.Else3
-else3-from-finish-arg5 c = c .before .before .before .before .before
+abbrev shared-slice-known8-from-else1 : tie.Else1 → tie.After-shared-slice-known8
+shared-slice-known8-from-else1 c = c .before .before .before .before .before .before .before .before
 
-abbrev shared-slice-known8-from-sizes-fit : tie.After-sizes-fit → tie.After-shared-slice-known8
-shared-slice-known8-from-sizes-fit c = c .before .before .before .before .before .before .before
+abbrev start-from-else1 : tie.Else1 → tie.Start
+start-from-else1 c = start-from-shared-slice-known8 (shared-slice-known8-from-else1 c)
 
-abbrev finish-from-slice-known10 : tie.After-slice-known10 → tie.After-finish
-finish-from-slice-known10 c = c .before .before .before .before .before .before .before .before .before .before
+abbrev start-from-else2 : tie.Else2 → tie.Start
+start-from-else2 c = start-from-else1 (c .before .before)
+
+abbrev start-from-else3 : tie.Else3 → tie.Start
+start-from-else3 c = start-from-else2 (c .before .before .before)
 
 abbrev else3-from-finish : tie.After-finish → tie.Else3
 else3-from-finish c = c .before .before .before .before .before .before
 
-returns : tie.Need-returns
-unfolding orderExit keyExit buildWorkExit
-returns c =
-    let h = sym (c .before .sizes-fit .ensures) ∙ not-true (c .before .sizes-fit .result) (c .if1 .taken) in (
-      answer-size _ _ h,
-      exit-kept _ _ (answer-size _ _ h) (lit< tt),
-      ap₂ pairOf (exit-kept _ _ (answer-size _ _ h) (lit< tt)) (exit-kept _ _ (answer-size _ _ h) (lit< tt)),
-      ap₂ pairOf (work-kept _ (answer-size _ _ h) (lit< tt) (lit< tt)) (work-kept _ (answer-size _ _ h) (lit< tt) (lit< tt)),
-    )
+abbrev finish-from-slice-known10 : tie.After-slice-known10 → tie.After-finish
+finish-from-slice-known10 c = c .before .before .before .before .before .before .before .before .before .before
 
--- the entry, and what is lent there
-abbrev entry : tie.After-sizes-fit → tie.Start
-entry c = c .before .before .before .before .before .before .before .before .before .before .before .before .before .before .before
-
+-- all that is lent at the entry
 abbrev lent : tie.Start → BuildCall
 lent s =
     let a = s .args in
@@ -60,83 +53,105 @@ lent s =
     (now (a .c-twos)))
     (now (a .start)) (now (a .p)) (now (a .key-ones)) (now (a .key-twos)) (now (a .work-ones)) (now (a .work-twos))
 
--- every buffer stays where the answer is from 1 to 8
-kept : (z : Sizes) (i : BuildCall) {r : ℕ} → r ≡ buildAnswer z i → 0 < r → r ≤ 8 → (i .p ≡ orderExit z i) × (i .key ≡ keyExit z i) ×
-    (i .work ≡ buildWorkExit z i)
+-- a number from 1 to 8 is the whole answer: every buffer stays
+refused : (z : Sizes) (i : BuildCall) {r : ℕ} → r ≡ buildAnswer z i → 0 < r → r ≤ 8
+    → (r ≡ buildAnswer z i) × (i .p ≡ orderExit z i) × (i .key ≡ keyExit z i) × (i .work ≡ buildWorkExit z i)
 unfolding orderExit keyExit buildWorkExit
-kept z i e h g = (exit-kept _ _ e h, ap₂ pairOf (exit-kept _ _ e h) (exit-kept _ _ e h), ap₂ pairOf (work-kept _ e h g) (work-kept _ e h g))
+refused z i e h g = (
+  e,
+  exit-kept _ _ e h,
+  ap₂ pairOf (exit-kept _ _ e h) (exit-kept _ _ e h),
+  ap₂ pairOf (work-kept _ e h g) (work-kept _ e h g),
+)
 
--- the sizes and the lengths are right
-fits : (c : tie.Else1) → sizesFit (entry (c .before) .args .z) ≡ true
+-- lengths that are right and contents that are not refused: the secret can be read, for its words are words
+secret-read : (c : tie.After-shared-slice-known8) →
+    let s = start-from-shared-slice-known8 c in
+    buildLengthsDiffer (s .args .z) (lent s) ≡ false → contents (s .args .z) (lent s) ≡ 0 → Readable (s .args .z) (lent s .secret)
+secret-read c d e =
+    let s = start-from-shared-slice-known8 c in
+    let known4 = c .before .before .before .before in
+    readable (s .args .z) (lent s .secret) (lengths-secret (s .args .z) (lent s) d) (contents-passed (s .args .z) (lent s) e .0)
+    (λ j. known4 .before .before .before .shared-slice-known .given j)
+    (λ j. known4 .before .before .shared-slice-known2 .given j)
+    (λ j. known4 .before .shared-slice-known3 .given j)
+    (λ j. known4 .shared-slice-known4 .given j)
+    (λ j. c .before .before .before .shared-slice-known5 .given j)
+    (λ j. c .before .before .shared-slice-known6 .given j)
+    (λ j. c .before .shared-slice-known7 .given j)
+    (λ j. c .shared-slice-known8 .given j)
+
+-- the sizes fit
+fits : (c : tie.Else1) → sizesFit (start-from-else1 c .args .z) ≡ true
 fits c = sym (c .before .sizes-fit .ensures) ∙ not-false (c .before .sizes-fit .result) (c .if1 .left)
 
-lengths : (c : tie.Else2) → buildLengthsDiffer (entry (c .before .before .before) .args .z) (lent (entry (c .before .before .before))) ≡ false
+-- the lengths are right
+lengths : (c : tie.Else2) → buildLengthsDiffer (start-from-else2 c .args .z) (lent (start-from-else2 c)) ≡ false
 lengths c = same-lengths _ _ (sym (c .before .lengths-differ .ensures) ∙ c .if2 .left)
+
+-- the contents are refused
+stopped : (c : tie.Then3) → codeOf (c .before .before .test-contents .result) ≡ 0 → ⊥
+stopped c e = c .if3 .taken (c .before .code .ensures ∙ e)
+
+-- the contents are not refused
+passed : (c : tie.Else3) → contents (start-from-else3 c .args .z) (lent (start-from-else3 c)) ≡ 0
+passed c = sym (c .before .before .test-contents .ensures) ∙ sym (c .before .code .ensures) ∙ c .if3 .left
+
+-- so the test of the ranks has the answer
+ranked : (c : tie.Else3) →
+    let z = start-from-else3 c .args .z in
+    let i = lent (start-from-else3 c) in
+    buildRefusal z (secretOf z (i .secret)) ≡ buildAnswer z i
+ranked c =
+    let else2 = c .before .before .before in
+    answer-ranks _ _ (fits (else2 .before .before)) (lengths else2) (passed c)
 
 sizes-fit-requires : tie.Need-sizes-fit-requires
 sizes-fit-requires c κs = search needs
+
+returns : tie.Need-returns
+returns c =
+    refused _ _ (answer-size _ _ (sym (c .before .sizes-fit .ensures) ∙ not-true (c .before .sizes-fit .result) (c .if1 .taken))) (lit< tt) (lit< tt)
 
 lengths-differ-requires : tie.Need-lengths-differ-requires
 lengths-differ-requires c κs = fits c
 
 returns-2 : tie.Need-returns-2
 returns-2 c =
-    let s = entry (c .before .before .before) in
-    let f = answer-length (s .args .z) (lent s) (fits (c .before .before))
-    (same-lengths (s .args .z) (lent s) (sym (c .before .lengths-differ .ensures) ∙ c .if2 .taken)) in
-    let k = kept (s .args .z) (lent s) f (lit< tt) (lit< tt) in
-    (f, k .0, k .1, k .2)
+    let else1 = c .before .before in
+    let s = start-from-else1 else1 in
+    let f = same-lengths (s .args .z) (lent s) (sym (c .before .lengths-differ .ensures) ∙ c .if2 .taken) in
+    refused (s .args .z) (lent s) (answer-length (s .args .z) (lent s) (fits else1) f) (lit< tt) (lit< tt)
 
 test-contents-requires : tie.Need-test-contents-requires
 test-contents-requires c κs =
-    let s = entry (c .before .before .before) in
-    let l = lengths-secret (s .args .z) (lent s) (lengths c) in
-    (fits (c .before .before), ((l .hu1, l .hu2, l .hv1, l .hv2, l .b1, l .b2, l .c1, l .c2), lengths-key (s .args .z) (lent s) (lengths c) .start))
+    let s = start-from-else2 c in record {
+      sizes = fits (c .before .before);
+      secret = lengths-secret (s .args .z) (lent s) (lengths c);
+      start-size = lengths-key (s .args .z) (lent s) (lengths c) .start;
+    }
 
 code-requires : tie.Need-code-requires
 code-requires c κs = search needs
 
 returns-3 : tie.Need-returns-3
 returns-3 c =
-    let else1 = else1-from-then3 c in
-    let after-sizes-fit = else1 .before in
-    let s = entry after-sizes-fit in
-    let z = s .args .z in
-    let told = c .before .code .ensures in
+    let else2 = c .before .before .before in
+    let s = start-from-else2 else2 in
     let e = c .before .before .test-contents .ensures in
-    let g = answer-contents z (lent s) (fits else1) (lengths (c .before .before .before)) e (λ y. c .if3 .taken (told ∙ y)) in
-    let k = kept z (lent s) (told ∙ g) (positive (c .if3 .taken)) (omega (arith, told, e, contents-le z (lent s))) in
-    (g, k .0, k .1, k .2)
+    let g = answer-contents (s .args .z) (lent s) (fits (else2 .before .before)) (lengths else2) e (stopped c) in
+    refused (s .args .z) (lent s) g (positive (stopped c)) (omega (arith, e, contents-le (s .args .z) (lent s)))
 
 finish-requires : tie.Need-finish-requires
 finish-requires c κs =
-    let else3 = else3-from-finish-arg5 c in
-    let after-code = else3 .before in
-    let after-test-contents = after-code .before in
-    let else2 = after-test-contents .before in
+    let else3 = c .before .before .before .before .before in
+    let else2 = else3 .before .before .before in
     let else1 = else2 .before .before in
-    let after-sizes-fit = else1 .before in
-    let after-shared-slice-known8 = shared-slice-known8-from-sizes-fit after-sizes-fit in
-    let after-shared-slice-known7 = after-shared-slice-known8 .before in
-    let after-shared-slice-known6 = after-shared-slice-known7 .before in
-    let after-shared-slice-known5 = after-shared-slice-known6 .before in
-    let after-shared-slice-known4 = after-shared-slice-known5 .before in
-    let after-shared-slice-known3 = after-shared-slice-known4 .before in
-    let after-shared-slice-known2 = after-shared-slice-known3 .before in
-    let after-shared-slice-known = after-shared-slice-known2 .before in
-    let s = entry after-sizes-fit in
-    let z = s .args .z in
-    let d = lengths else2 in
-    let q = contents-passed z (lent s) (sym (after-test-contents .test-contents .ensures) ∙ sym (after-code .code .ensures) ∙ else3 .if3 .left) in
-    let l = lengths-key z (lent s) d in record {
+    let s = start-from-else1 else1 in
+    let l = lengths-key (s .args .z) (lent s) (lengths else2) in record {
       sizes = fits else1;
-      secret = readable z (lent s .secret) (lengths-secret z (lent s) d) (q .0) (λ j. after-shared-slice-known .shared-slice-known .given j)
-          (λ j. after-shared-slice-known2 .shared-slice-known2 .given j)
-          (λ j. after-shared-slice-known3 .shared-slice-known3 .given j) (λ j. after-shared-slice-known4 .shared-slice-known4 .given j)
-          (λ j. after-shared-slice-known5 .shared-slice-known5 .given j)
-          (λ j. after-shared-slice-known6 .shared-slice-known6 .given j) (λ j. after-shared-slice-known7 .shared-slice-known7 .given j)
-          (λ j. after-shared-slice-known8 .shared-slice-known8 .given j);
-      is-order = q .1;
+      secret = secret-read (shared-slice-known8-from-else1 else1) (lengths else2) (passed else3);
+      is-order = contents-passed (s .args .z) (lent s) (passed else3) .1;
       p-size = l .p;
       key-ones-size = l .k1;
       key-twos-size = l .k2;
@@ -164,17 +179,10 @@ unfolding orderExit keyExit buildWorkExit
 returns-4 c =
     let after-finish = finish-from-slice-known10 c in
     let else3 = else3-from-finish after-finish in
-    let after-code = else3 .before in
-    let after-test-contents = after-code .before in
-    let else2 = after-test-contents .before in
-    let else1 = else2 .before .before in
-    let after-sizes-fit = else1 .before in
-    let s = entry after-sizes-fit in
-    let z = s .args .z in
-    let i = lent s in
+    let z = start-from-else3 else3 .args .z in
+    let i = lent (start-from-else3 else3) in
     let k = secretOf z (i .secret) in
-    let g = answer-ranks z i (fits else1) (lengths else2)
-    (sym (after-test-contents .test-contents .ensures) ∙ sym (after-code .code .ensures) ∙ else3 .if3 .left) in
+    let g = ranked else3 in
     let n = after-finish .finish .ensures in (
       n .0 ∙ g,
       n .1 ∙ ap (λ (r : ℕ). atExit r (keyOrder z k (i .start)) (i .p)) g,

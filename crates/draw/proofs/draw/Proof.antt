@@ -7,53 +7,55 @@ use native.Mathlib.Omega.{arith}
 use denote.Ref.{now}
 use lib.Dec.{lit<}
 use Rattle.trits.specs.Planes.{Pair, pairOf, rowPair}
-use Rattle.trits.specs.Refusal.{first, atExit, spaceExit}
+use Rattle.trits.specs.Refusal.{codeOf, first, atExit, spaceExit}
 use Rattle.trits.proofs.Refusals.{exit-kept, positive}
 use Rattle.matrix.proofs.Field.{not-true, not-false}
 use Rattle.scheme.specs.declared.sizes.Sizes.{Sizes}
 use Rattle.scheme.specs.Sizes.{places, dim, sizesFit}
 use Rattle.scheme.specs.Draw.{signature}
-use Rattle.calls.specs.Lent.{planes, secretOf, secretRefusal}
+use Rattle.calls.specs.Lent.{planes, secretOf, secretRefusal, Readable}
 use Rattle.calls.specs.DrawCall.{DrawCall, drawCall, syndromeOf, choicesOf, drawLengthsDiffer, drawAnswer, wordOf, wordExit, sExit, drawWorkExit}
 use Rattle.calls.proofs.Exits.{work-kept}
 use Rattle.calls.proofs.Secrets.{readable}
-use Rattle.draw_tests.proofs.Answers.{same-lengths, same-choices, answer-size, answer-length, answer-contents, answer-ending, contents-le, contents-secret}
-use Rattle.draw_tests.proofs.Answers.{work-ended, lengths-secret, lengths-choices, ready}
+use Rattle.draw_tests.specs.Steps.{given, ending, Ready}
+use Rattle.draw_tests.proofs.Answers.{contents, same-choices, contents-le, contents-secret, answer-size, answer-length, answer-contents, answer-ending}
+use Rattle.draw_tests.proofs.Answers.{same-lengths, lengths-secret, lengths-choices, ready, work-ended}
 use borrow.Author.Needs.{needs}
 use Rattle.draw.proofs.draw.Statement.{statement}
 use Rattle.draw.proofs.draw.Tie as tie
 
 -- The places that the answers look back to, each from a later one.
-abbrev else1-from-then3 : tie.Then3 → tie.Else1
-else1-from-then3 c = c .before .before .before .before .before
+abbrev start-from-shared-slice-known8 : tie.After-shared-slice-known8 → tie.Start
+start-from-shared-slice-known8 c = c .before .before .before .before .before .before .before .before
 
-abbrev else3-from-finish-arg6 : tie.After-finish-arg6 → tie.Else3
-else3-from-finish-arg6 c = c .before .before .before .before .before .before
+abbrev shared-slice-known8-from-shared-slice-known17 : tie.After-shared-slice-known17 → tie.After-shared-slice-known8
+shared-slice-known8-from-shared-slice-known17 c = c .before .before .before .before .before .before .before .before .before
 
-abbrev shared-slice-known17-from-sizes-fit : tie.After-sizes-fit → tie.After-shared-slice-known17
-shared-slice-known17-from-sizes-fit c = c .before .before .before .before .before .before .before
+abbrev start-from-shared-slice-known17 : tie.After-shared-slice-known17 → tie.Start
+start-from-shared-slice-known17 c = start-from-shared-slice-known8 (shared-slice-known8-from-shared-slice-known17 c)
 
-abbrev finish-from-slice-known12 : tie.After-slice-known12 → tie.After-finish
-finish-from-slice-known12 c = c .before .before .before .before .before .before .before .before .before .before .before .before
+abbrev shared-slice-known17-from-else1 : tie.Else1 → tie.After-shared-slice-known17
+shared-slice-known17-from-else1 c = c .before .before .before .before .before .before .before .before
+
+abbrev start-from-else1 : tie.Else1 → tie.Start
+start-from-else1 c = start-from-shared-slice-known17 (shared-slice-known17-from-else1 c)
+
+abbrev start-from-else2 : tie.Else2 → tie.Start
+start-from-else2 c = start-from-else1 (c .before .before)
+
+abbrev start-from-test-contents : tie.After-test-contents → tie.Start
+start-from-test-contents c = start-from-else2 (c .before)
+
+abbrev start-from-else3 : tie.Else3 → tie.Start
+start-from-else3 c = start-from-test-contents (c .before .before)
 
 abbrev else3-from-finish : tie.After-finish → tie.Else3
 else3-from-finish c = c .before .before .before .before .before .before .before
 
-returns : tie.Need-returns
-unfolding wordExit sExit drawWorkExit
-returns c =
-    let h = sym (c .before .sizes-fit .ensures) ∙ not-true (c .before .sizes-fit .result) (c .if1 .taken) in (
-      answer-size _ _ h,
-      ap₂ pairOf (exit-kept _ _ (answer-size _ _ h) (lit< tt)) (exit-kept _ _ (answer-size _ _ h) (lit< tt)),
-      ap₂ pairOf (exit-kept _ _ (answer-size _ _ h) (lit< tt)) (exit-kept _ _ (answer-size _ _ h) (lit< tt)),
-      ap₂ pairOf (work-kept _ (answer-size _ _ h) (lit< tt) (lit< tt)) (work-kept _ (answer-size _ _ h) (lit< tt) (lit< tt)),
-    )
+abbrev finish-from-slice-known12 : tie.After-slice-known12 → tie.After-finish
+finish-from-slice-known12 c = c .before .before .before .before .before .before .before .before .before .before .before .before
 
--- the entry, and what is lent there
-abbrev entry : tie.After-sizes-fit → tie.Start
-entry c =
-    c .before .before .before .before .before .before .before .before .before .before .before .before .before .before .before .before .before .before .before .before .before .before .before .before
-
+-- all that is lent at the entry, and of it what is only read
 abbrev lent : tie.Start → DrawCall
 lent s =
     let a = s .args in
@@ -63,103 +65,130 @@ lent s =
     (now (a .u-twos))
     (now (a .word-ones)) (now (a .word-twos)) (now (a .s-ones)) (now (a .s-twos)) (now (a .work-ones)) (now (a .work-twos))
 
--- every buffer stays where the answer is from 1 to 8
-kept : (z : Sizes) (i : DrawCall) {r : ℕ} → r ≡ drawAnswer z i → 0 < r → r ≤ 8 → (i .word ≡ wordExit z i) × (i .s ≡ sExit z i) × (i .work ≡ drawWorkExit z i)
+abbrev read : tie.Start → DrawCall
+read s =
+    let i = lent s in
+    given (i .secret) (i .p) (i .y .ones) (i .y .twos) (i .orderV) (i .v .ones) (i .v .twos) (i .orderU) (i .u .ones) (i .u .twos)
+
+-- a number from 1 to 8 is the whole answer: every buffer stays
+refused : (z : Sizes) (i : DrawCall) {r : ℕ} → r ≡ drawAnswer z i → 0 < r → r ≤ 8
+    → (r ≡ drawAnswer z i) × (i .word ≡ wordExit z i) × (i .s ≡ sExit z i) × (i .work ≡ drawWorkExit z i)
 unfolding wordExit sExit drawWorkExit
-kept z i e h g = (
+refused z i e h g = (
+  e,
   ap₂ pairOf (exit-kept _ _ e h) (exit-kept _ _ e h),
   ap₂ pairOf (exit-kept _ _ e h) (exit-kept _ _ e h),
   ap₂ pairOf (work-kept _ e h g) (work-kept _ e h g),
 )
 
--- the sizes and the lengths are right
-fits : (c : tie.Else1) → sizesFit (entry (c .before) .args .z) ≡ true
+-- lengths that are right and contents that are not refused: the secret can be read, for its words are words
+secret-read : (c : tie.After-shared-slice-known8) →
+    let s = start-from-shared-slice-known8 c in
+    drawLengthsDiffer (s .args .z) (lent s) ≡ false → contents (s .args .z) (lent s) ≡ 0 → Readable (s .args .z) (lent s .secret)
+secret-read c d e =
+    let s = start-from-shared-slice-known8 c in
+    let known4 = c .before .before .before .before in
+    readable (s .args .z) (lent s .secret) (lengths-secret (s .args .z) (lent s) d) (contents-secret (s .args .z) (lent s) e)
+    (λ j. known4 .before .before .before .shared-slice-known .given j)
+    (λ j. known4 .before .before .shared-slice-known2 .given j)
+    (λ j. known4 .before .shared-slice-known3 .given j)
+    (λ j. known4 .shared-slice-known4 .given j)
+    (λ j. c .before .before .before .shared-slice-known5 .given j)
+    (λ j. c .before .before .shared-slice-known6 .given j)
+    (λ j. c .before .shared-slice-known7 .given j)
+    (λ j. c .shared-slice-known8 .given j)
+
+-- and so can all that a draw reads
+all-read : (c : tie.After-shared-slice-known17) →
+    let s = start-from-shared-slice-known17 c in
+    drawLengthsDiffer (s .args .z) (lent s) ≡ false → contents (s .args .z) (lent s) ≡ 0 → Ready (s .args .z) (read s)
+all-read c d e =
+    let s = start-from-shared-slice-known17 c in
+    let known14 = c .before .before .before in
+    ready (s .args .z) (lent s) d e (secret-read (shared-slice-known8-from-shared-slice-known17 c) d e)
+    (λ j. known14 .before .before .before .before .shared-slice-known10 .given j)
+    (λ j. known14 .before .before .before .shared-slice-known11 .given j)
+    (λ j. known14 .before .shared-slice-known13 .given j)
+    (λ j. known14 .shared-slice-known14 .given j)
+    (λ j. c .before .shared-slice-known16 .given j)
+    (λ j. c .shared-slice-known17 .given j)
+
+-- the sizes fit
+fits : (c : tie.Else1) → sizesFit (start-from-else1 c .args .z) ≡ true
 fits c = sym (c .before .sizes-fit .ensures) ∙ not-false (c .before .sizes-fit .result) (c .if1 .left)
 
-lengths : (c : tie.Else2) → drawLengthsDiffer (entry (c .before .before .before) .args .z) (lent (entry (c .before .before .before))) ≡ false
+-- the lengths are right
+lengths : (c : tie.Else2) → drawLengthsDiffer (start-from-else2 c .args .z) (lent (start-from-else2 c)) ≡ false
 lengths c = same-lengths _ _ (sym (c .before .lengths-differ .ensures) ∙ c .if2 .left)
+
+-- the test of the contents tells the first refusal among them
+told : (c : tie.After-test-contents) →
+    let s = start-from-test-contents c in
+    codeOf (c .test-contents .result) ≡ contents (s .args .z) (lent s)
+told c =
+    let s = start-from-test-contents c in
+    c .test-contents .ensures ∙ ap (first (secretRefusal (s .args .z) (lent s .secret))) (same-choices (s .args .z) (lent s))
+
+-- the contents are refused
+stopped : (c : tie.Then3) → codeOf (c .before .before .test-contents .result) ≡ 0 → ⊥
+stopped c e = c .if3 .taken (c .before .code .ensures ∙ e)
+
+-- the contents are not refused
+passed : (c : tie.Else3) → contents (start-from-else3 c .args .z) (lent (start-from-else3 c)) ≡ 0
+passed c = sym (told (c .before .before)) ∙ sym (c .before .code .ensures) ∙ c .if3 .left
+
+-- so the end of the draw is the answer
+ended : (c : tie.Else3) →
+    let s = start-from-else3 c in
+    ending (s .args .z) (lent s) ≡ drawAnswer (s .args .z) (lent s)
+ended c =
+    let else2 = c .before .before .before in
+    answer-ending _ _ (fits (else2 .before .before)) (lengths else2) (passed c)
 
 sizes-fit-requires : tie.Need-sizes-fit-requires
 sizes-fit-requires c κs = search needs
+
+returns : tie.Need-returns
+returns c =
+    refused _ _ (answer-size _ _ (sym (c .before .sizes-fit .ensures) ∙ not-true (c .before .sizes-fit .result) (c .if1 .taken))) (lit< tt) (lit< tt)
 
 lengths-differ-requires : tie.Need-lengths-differ-requires
 lengths-differ-requires c κs = fits c
 
 returns-2 : tie.Need-returns-2
 returns-2 c =
-    let s = entry (c .before .before .before) in
-    let f = answer-length (s .args .z) (lent s) (fits (c .before .before))
-    (same-lengths (s .args .z) (lent s) (sym (c .before .lengths-differ .ensures) ∙ c .if2 .taken)) in
-    let k = kept (s .args .z) (lent s) f (lit< tt) (lit< tt) in
-    (f, k .0, k .1, k .2)
+    let else1 = c .before .before in
+    let s = start-from-else1 else1 in
+    let f = same-lengths (s .args .z) (lent s) (sym (c .before .lengths-differ .ensures) ∙ c .if2 .taken) in
+    refused (s .args .z) (lent s) (answer-length (s .args .z) (lent s) (fits else1) f) (lit< tt) (lit< tt)
 
 test-contents-requires : tie.Need-test-contents-requires
 test-contents-requires c κs =
-    let s = entry (c .before .before .before) in
-    let l = lengths-secret (s .args .z) (lent s) (lengths c) in
-    let k = lengths-choices (s .args .z) (lent s) (lengths c) in (
-      fits (c .before .before),
-      (
-        (l .hu1, l .hu2, l .hv1, l .hv2, l .b1, l .b2, l .c1, l .c2),
-        (k .order, k .yOnes, k .yTwos, k .orderV, k .vOnes, k .vTwos, k .orderU, k .uOnes, k .uTwos),
-      ),
-    )
+    let s = start-from-else2 c in record {
+      sizes = fits (c .before .before);
+      secret = lengths-secret (s .args .z) (lent s) (lengths c);
+      chosen-sizes = lengths-choices (s .args .z) (lent s) (lengths c) .chosen;
+    }
 
 code-requires : tie.Need-code-requires
 code-requires c κs = search needs
 
 returns-3 : tie.Need-returns-3
 returns-3 c =
-    let else1 = else1-from-then3 c in
-    let after-sizes-fit = else1 .before in
-    let s = entry after-sizes-fit in
-    let z = s .args .z in
-    let told = c .before .code .ensures in
-    let e = c .before .before .test-contents .ensures ∙ ap (first (secretRefusal z (lent s .secret))) (same-choices z (lent s)) in
-    let g = answer-contents z (lent s) (fits else1) (lengths (c .before .before .before)) (told ∙ e) (c .if3 .taken) in
-    let k = kept z (lent s) g (positive (c .if3 .taken)) (omega (arith, told, e, contents-le z (lent s))) in
-    (sym told ∙ g, k .0, k .1, k .2)
+    let else2 = c .before .before .before in
+    let s = start-from-else2 else2 in
+    let e = told (c .before .before) in
+    let g = answer-contents (s .args .z) (lent s) (fits (else2 .before .before)) (lengths else2) e (stopped c) in
+    refused (s .args .z) (lent s) g (positive (stopped c)) (omega (arith, e, contents-le (s .args .z) (lent s)))
 
 finish-requires : tie.Need-finish-requires
 finish-requires c κs =
-    let else3 = else3-from-finish-arg6 c in
-    let after-code = else3 .before in
-    let after-test-contents = after-code .before in
-    let else2 = after-test-contents .before in
+    let else3 = c .before .before .before .before .before .before in
+    let else2 = else3 .before .before .before in
     let else1 = else2 .before .before in
-    let after-sizes-fit = else1 .before in
-    let after-shared-slice-known17 = shared-slice-known17-from-sizes-fit after-sizes-fit in
-    let after-shared-slice-known16 = after-shared-slice-known17 .before in
-    let after-shared-slice-known14 = after-shared-slice-known16 .before .before in
-    let after-shared-slice-known13 = after-shared-slice-known14 .before in
-    let after-shared-slice-known11 = after-shared-slice-known13 .before .before in
-    let after-shared-slice-known10 = after-shared-slice-known11 .before in
-    let after-shared-slice-known8 = after-shared-slice-known10 .before .before in
-    let after-shared-slice-known7 = after-shared-slice-known8 .before in
-    let after-shared-slice-known6 = after-shared-slice-known7 .before in
-    let after-shared-slice-known5 = after-shared-slice-known6 .before in
-    let after-shared-slice-known4 = after-shared-slice-known5 .before in
-    let after-shared-slice-known3 = after-shared-slice-known4 .before in
-    let after-shared-slice-known2 = after-shared-slice-known3 .before in
-    let after-shared-slice-known = after-shared-slice-known2 .before in
-    let s = entry after-sizes-fit in
-    let z = s .args .z in
-    let d = lengths else2 in
-    let e = after-test-contents .test-contents .ensures ∙ ap (first (secretRefusal z (lent s .secret))) (same-choices z (lent s)) in
-    let y = sym e ∙ sym (after-code .code .ensures) ∙ else3 .if3 .left in
-    let l = lengths-choices z (lent s) d in
-    let r = readable z (lent s .secret) (lengths-secret z (lent s) d) (contents-secret z (lent s) y)
-    (λ j. after-shared-slice-known .shared-slice-known .given j)
-    (λ j. after-shared-slice-known2 .shared-slice-known2 .given j) (λ j. after-shared-slice-known3 .shared-slice-known3 .given j)
-    (λ j. after-shared-slice-known4 .shared-slice-known4 .given j)
-    (λ j. after-shared-slice-known5 .shared-slice-known5 .given j) (λ j. after-shared-slice-known6 .shared-slice-known6 .given j)
-    (λ j. after-shared-slice-known7 .shared-slice-known7 .given j)
-    (λ j. after-shared-slice-known8 .shared-slice-known8 .given j) in record {
+    let l = lengths-choices _ _ (lengths else2) in record {
       sizes = fits else1;
-      ready = ready z (lent s) d y r (λ j. after-shared-slice-known10 .shared-slice-known10 .given j) (λ j. after-shared-slice-known11 .shared-slice-known11 .given j)
-          (λ j. after-shared-slice-known13 .shared-slice-known13 .given j)
-          (λ j. after-shared-slice-known14 .shared-slice-known14 .given j) (λ j. after-shared-slice-known16 .shared-slice-known16 .given j)
-          (λ j. after-shared-slice-known17 .shared-slice-known17 .given j);
+      ready = all-read (shared-slice-known17-from-else1 else1) (lengths else2) (passed else3);
       word-ones-size = l .wordOnes;
       word-twos-size = l .wordTwos;
       s-ones-size = l .sOnes;
@@ -191,25 +220,18 @@ unfolding wordOf wordExit sExit drawWorkExit
 returns-4 c =
     let after-finish = finish-from-slice-known12 c in
     let else3 = else3-from-finish after-finish in
-    let after-code = else3 .before in
-    let after-test-contents = after-code .before in
-    let else2 = after-test-contents .before in
-    let else1 = else2 .before .before in
-    let after-sizes-fit = else1 .before in
-    let s = entry after-sizes-fit in
-    let z = s .args .z in
-    let i = lent s in
-    let e = after-test-contents .test-contents .ensures ∙ ap (first (secretRefusal z (i .secret))) (same-choices z i) in
-    let g = answer-ending z i (fits else1) (lengths else2) (sym e ∙ sym (after-code .code .ensures) ∙ else3 .if3 .left) in
+    let z = start-from-else3 else3 .args .z in
+    let i = lent (start-from-else3 else3) in
+    let g = ended else3 in
+    let n = after-finish .finish .ensures in
     let w : Pair = rowPair (places z) (wordOf z i) in
     let t : Pair = rowPair (dim z) (signature z (wordOf z i)) in
-    let n = after-finish .finish .ensures in (
+    let zero = work-ended z (secretOf z (i .secret)) (i .p) (syndromeOf i) (choicesOf i) in (
       n .0 ∙ g,
       ap₂ pairOf (n .1 ∙ ap (λ (r : ℕ). atExit r (w .ones) (i .word .ones)) g) (n .2 ∙ ap (λ (r : ℕ). atExit r (w .twos) (i .word .twos)) g),
       ap₂ pairOf (n .3 ∙ ap (λ (r : ℕ). atExit r (t .ones) (i .s .ones)) g) (n .4 ∙ ap (λ (r : ℕ). atExit r (t .twos) (i .s .twos)) g),
-      ap₂ pairOf (n .5 ∙ work-ended z (secretOf z (i .secret)) (i .p) (syndromeOf i) (choicesOf i) (i .work .ones) ∙
-          ap (λ (r : ℕ). spaceExit r (i .work .ones)) g)
-          (n .6 ∙ work-ended z (secretOf z (i .secret)) (i .p) (syndromeOf i) (choicesOf i) (i .work .twos) ∙ ap (λ (r : ℕ). spaceExit r (i .work .twos)) g),
+      ap₂ pairOf (n .5 ∙ zero (i .work .ones) ∙ ap (λ (r : ℕ). spaceExit r (i .work .ones)) g)
+          (n .6 ∙ zero (i .work .twos) ∙ ap (λ (r : ℕ). spaceExit r (i .work .twos)) g),
     )
 
 pub draw-spec : {M : Type 1} → statement M

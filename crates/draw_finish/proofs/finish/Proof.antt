@@ -17,15 +17,29 @@ use Rattle.calls.specs.Lent.{planes, halfWords, secretOf}
 use Rattle.calls.specs.DrawCall.{DrawCall, matrixRows, syndromeOf, choicesOf, wordOf}
 use Rattle.calls.proofs.Bounds.{bounds}
 use Rattle.draw_tests.specs.Steps.{given}
-use Rattle.draw_tests.proofs.Space.{space}
+use Rattle.draw_tests.proofs.Space.{Space, space}
 use borrow.Author.Needs.{needs}
 use Rattle.draw_finish.proofs.finish.Statement.{statement}
 use Rattle.draw_finish.proofs.finish.Tie as tie
 
--- the entry, and what is lent there
-abbrev entry : tie.After-more-rows → tie.Start
-entry c =
-    c .before .before .before .before .before .before .before .before .before .before .before .before .before .before .before .before .before .before .before .before .before .before .before .before .before
+-- The places that the answers look back to, each from a later one.
+abbrev start-from-shared-slice-known17 : tie.After-shared-slice-known17 → tie.Start
+start-from-shared-slice-known17 c =
+    c .before .before .before .before .before .before .before .before .before .before .before .before .before .before .before .before .before
+
+abbrev start-from-more-rows : tie.After-more-rows → tie.Start
+start-from-more-rows c = start-from-shared-slice-known17 (c .before .before .before .before .before .before .before .before)
+
+abbrev work-ones-from-joined1 : tie.Joined1 → tie.After-work-ones
+work-ones-from-joined1 c = c .before .before .before .before .before
+
+abbrev make-word-from-release-word-arg6 : tie.After-release-word-arg6 → tie.After-make-word
+make-word-from-release-word-arg6 c = c .before .before .before .before .before .before .before .before .before .before .before .before
+
+abbrev joined1-from-clear : tie.After-clear → tie.Joined1
+joined1-from-clear c = c .before .before .before
+
+-- what is lent at the entry
 
 abbrev lent : tie.Start → DrawCall
 lent s =
@@ -35,29 +49,17 @@ lent s =
     (now (a .p)) (now (a .y-ones)) (now (a .y-twos)) (now (a .v-order)) (now (a .v-ones)) (now (a .v-twos)) (now (a .u-order)) (now (a .u-ones))
     (now (a .u-twos))
 
+-- the working space has room for both matrices
+roomy : (s : tie.Start) → Space (s .args .z)
+roomy s = space (s .args .z) (bounds (s .args .z) (s .pre .sizes))
+
 -- as many rows as the larger matrix has
-rows : (c : tie.After-more-rows) → c .more-rows .result ≡ matrixRows (entry c .args .z)
+rows : (c : tie.After-more-rows) → c .more-rows .result ≡ matrixRows (start-from-more-rows c .args .z)
 rows c = rw (c .before .shape-of .ensures) at (c .more-rows .ensures)
 
 -- words made 0 at a length that is also the entry's
 cleared : {w : List ℕ} {n m : ℕ} → w ≡ zeroWords n → n ≡ m → w ≡ zeroWords m
 cleared e d = e ∙ ap zeroWords d
-
--- The places that the answers look back to, each from a later one.
-abbrev work-ones-from-joined1 : tie.Joined1 → tie.After-work-ones
-work-ones-from-joined1 c = c .before .before .before .before .before
-
-abbrev then1-from-release-word-arg6 : tie.After-release-word-arg6 → tie.Then1
-then1-from-release-word-arg6 c = c .before .before .before .before .before .before
-
-abbrev code-from-release-word-arg6 : tie.After-release-word-arg6 → tie.After-code
-code-from-release-word-arg6 c = then1-from-release-word-arg6 c .before
-
-abbrev make-word-from-code : tie.After-code → tie.After-make-word
-make-word-from-code c = c .before .before .before .before .before
-
-abbrev joined1-from-clear : tie.After-clear → tie.Joined1
-joined1-from-clear c = c .before .before .before
 
 returns : tie.Need-returns
 unfolding wordOf
@@ -66,13 +68,14 @@ returns c =
     let j = after-clear .before .before .before in
     let after-work-ones = work-ones-from-joined1 j in
     let after-make-word = after-work-ones .before in
-    let after-more-rows = after-make-word .before .before .before in
     let k = j .before in
-    let s = entry after-more-rows in
+    let s = start-from-more-rows (after-make-word .before .before .before) in
     let z = s .args .z in
     let i = lent s in
     let told = after-make-word .make-word .ensures in
     let e = k .code .ensures ∙ told .0 in
+    let ones-zero = cleared (after-clear .clear .ensures .0) (after-work-ones .work-ones .given) in
+    let twos-zero = cleared (after-clear .clear .ensures .1) (k .before .before .work-twos .given) in
     ⊎-elim
     (λ w.
     let n = sym (k .code .ensures) ∙ w .0 .taken in
@@ -85,8 +88,8 @@ returns c =
       w .17 ∙ g .1 ∙ ap (λ (v : Vector). twosOf (upTo (places z) v) (wordsFor (places z))) d ∙ exit-new _ _ f,
       w .18 ∙ g .2 ∙ ap (λ (v : Vector). onesOf (upTo (dim z) v) (wordsFor (dim z))) t ∙ exit-new _ _ f,
       w .19 ∙ g .3 ∙ ap (λ (v : Vector). twosOf (upTo (dim z) v) (wordsFor (dim z))) t ∙ exit-new _ _ f,
-      cleared (after-clear .clear .ensures .0) (after-work-ones .work-ones .given),
-      cleared (after-clear .clear .ensures .1) (k .before .before .work-twos .given),
+      ones-zero,
+      twos-zero,
     ))
     (λ w.
     let h = positive (w .0 .left) in (
@@ -95,8 +98,8 @@ returns c =
       w .2 ∙ exit-kept _ _ e h,
       w .3 ∙ exit-kept _ _ e h,
       w .4 ∙ exit-kept _ _ e h,
-      cleared (after-clear .clear .ensures .0) (after-work-ones .work-ones .given),
-      cleared (after-clear .clear .ensures .1) (k .before .before .work-twos .given),
+      ones-zero,
+      twos-zero,
     ))
     (j .if1 .came)
 
@@ -108,18 +111,15 @@ more-rows-requires c κs = search needs
 
 make-word-requires : tie.Need-make-word-requires
 make-word-requires c κs =
-    let s = entry (c .before .before) in
-    let z = s .args .z in
-    let m = s .pre in
-    let e = rows (c .before .before) in
-    let p = space z (bounds z (s .pre .sizes)) in record {
+    let s = start-from-more-rows (c .before .before) in
+    let e = rows (c .before .before) in record {
       sizes = s .pre .sizes;
       ready = s .pre .ready;
-      u-few = omega (arith, e, p .u);
-      v-few = omega (arith, e, p .v);
-      small = omega (arith, e, p .rows);
-      work-ones-size = m .work-ones-size ∙ ap (λ (n : ℕ). (n + 5) * halfWords z) (sym e);
-      work-twos-size = m .work-twos-size ∙ ap (λ (n : ℕ). (n + 5) * halfWords z) (sym e);
+      u-few = omega (arith, e, roomy s .u);
+      v-few = omega (arith, e, roomy s .v);
+      small = omega (arith, e, roomy s .rows);
+      work-ones-size = s .pre .work-ones-size ∙ ap (λ (n : ℕ). (n + 5) * halfWords (s .args .z)) (sym e);
+      work-twos-size = s .pre .work-twos-size ∙ ap (λ (n : ℕ). (n + 5) * halfWords (s .args .z)) (sym e);
     }
 
 code-requires : tie.Need-code-requires
@@ -127,16 +127,13 @@ code-requires c κs = search needs
 
 release-word-requires : tie.Need-release-word-requires
 release-word-requires c κs =
-    let k = code-from-release-word-arg6 c in
-    let after-make-word = make-word-from-code k in
+    let after-make-word = make-word-from-release-word-arg6 c in
     let after-more-rows = after-make-word .before .before .before in
-    let s = entry after-more-rows in
-    let z = s .args .z in
-    let m = s .pre in
-    let p = space z (bounds z (s .pre .sizes)) in record {
-      sizes = s .pre .sizes;
-      is-order = s .pre .ready .p;
-      small = omega (arith, rows after-more-rows, p .rows);
+    let s = start-from-more-rows after-more-rows in
+    let m = s .pre in record {
+      sizes = m .sizes;
+      is-order = m .ready .p;
+      small = omega (arith, rows after-more-rows, roomy s .rows);
       grid = after-make-word .make-word .ensures .1;
       word-ones-size = m .word-ones-size;
       word-twos-size = m .word-twos-size;

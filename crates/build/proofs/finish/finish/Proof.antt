@@ -32,10 +32,13 @@ then1-from-release-arg5 c = c .before .before .before .before .before
 abbrev joined1-from-clear : tie.After-clear → tie.Joined1
 joined1-from-clear c = c .before .before .before
 
+abbrev start-from-test-ranks : tie.After-test-ranks → tie.Start
+start-from-test-ranks c =
+    c .before .before .before .before .before .before .before .before .before .before .before .before .before .before .before .before .before
+
 -- the entry, and the secret lent there
 abbrev entry : tie.After-code → tie.Start
-entry c =
-    c .before .before .before .before .before .before .before .before .before .before .before .before .before .before .before .before .before .before .before .before .before .before
+entry c = start-from-test-ranks (test-ranks-from-code c)
 
 abbrev secret : tie.Start → Secret
 secret s =
@@ -44,7 +47,7 @@ secret s =
     (now (a .c-twos)))
 
 -- the test of the ranks tells the refusal that the definition says
-told : (c : tie.After-code) → codeOf (c .before .before .before .before .before .test-ranks .result) ≡ buildRefusal (entry c .args .z) (secret (entry c))
+told : (c : tie.After-code) → codeOf (test-ranks-from-code c .test-ranks .result) ≡ buildRefusal (entry c .args .z) (secret (entry c))
 told c =
     let a = entry c .args in
     test-ranks-from-code c .test-ranks .ensures
@@ -103,9 +106,9 @@ release-requires c κs =
     let s = entry k in
     let l = s .pre in
     let f = sym (told k) ∙ sym (k .code .ensures) ∙ then1 .if1 .taken in record {
-      sizes = s .pre .sizes;
-      secret = s .pre .secret;
-      is-order = s .pre .is-order;
+      sizes = l .sizes;
+      secret = l .secret;
+      is-order = l .is-order;
       rank-full = full-rank (s .args .z) (secret s) f;
       p-size = l .p-size;
       key-ones-size = l .key-ones-size;

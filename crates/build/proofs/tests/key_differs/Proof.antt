@@ -1,36 +1,53 @@
 -- Each return is decided by its own test, the tests before it having passed.
 -- Assumes nothing.
-use mathlib.Core.Path.{sym, _∙_}
+use Prim.Native.Nat.{_*_}
+use mathlib.Core.Path.{_≡_, sym, _∙_}
+use mathlib.Core.Bool.{false}
 use native.Mathlib.Omega.{arith}
-use Rattle.calls.specs.BuildCall.{keyDiffers}
-use Rattle.calls.proofs.Bounds.{bounds}
+use Rattle.scheme.specs.Sizes.{places, dim}
+use Rattle.calls.specs.Lent.{pairDiffers}
+use Rattle.calls.specs.BuildCall.{keyRowWords, keyDiffers}
+use Rattle.calls.proofs.Bounds.{Bounds, bounds}
 use Rattle.build_ranks.proofs.Lengths.{products}
 use borrow.Author.Needs.{needs}
 use Rattle.build.proofs.tests.key_differs.Statement.{statement}
 use Rattle.build.proofs.tests.key_differs.Tie as tie
 
 -- The places that the answers look back to, each from a later one.
-abbrev shape-of-from-then2 : tie.Then2 → tie.After-shape-of
-shape-of-from-then2 c = c .before .before .before .before .before .before
+abbrev shape-of-from-else1 : tie.Else1 → tie.After-shape-of
+shape-of-from-else1 c = c .before .before .before .before
 
 abbrev shape-of-from-else2 : tie.Else2 → tie.After-shape-of
-shape-of-from-else2 c = c .before .before .before .before .before .before
+shape-of-from-else2 c = shape-of-from-else1 (c .before .before)
+
+-- the sizes are in their ranges
+within : (s : tie.Start) → Bounds (s .args .z)
+within s = bounds (s .args .z) (s .pre)
+
+-- the lengths of the orders, and those of the key, are right
+orders-same : (c : tie.Else1) → let a = shape-of-from-else1 c .before .args in pairDiffers (places (a .z)) (a .s) (a .p) ≡ false
+orders-same c =
+    let e = c .before .before .before .before .shape-of .ensures in
+    rw e at (sym (c .before .pair-differs .ensures) ∙ c .if1 .left)
+
+key-same : (c : tie.Else2) → let a = shape-of-from-else2 c .before .args in pairDiffers (dim (a .z) * keyRowWords (a .z)) (a .k1) (a .k2) ≡ false
+key-same c =
+    let e = c .before .before .before .before .before .before .shape-of .ensures in
+    rw e at (sym (c .before .pair-differs2 .ensures) ∙ c .if2 .left)
 
 shape-of-requires : tie.Need-shape-of-requires
 shape-of-requires c κs = search needs
 
 add-k : tie.Need-add-k
 add-k c =
-    let s = c .before in
-    let b = bounds (s .args .z) (s .pre) in omega (arith, b .high, b .ku, b .kv)
+    let b = within (c .before) in
+    omega (arith, b .high, b .ku, b .kv)
 
 add-rows : tie.Need-add-rows
-add-rows c =
-    let s = c .before .before in rw (c .before .shape-of .ensures) (omega (arith, bounds (s .args .z) (s .pre) .high))
+add-rows c = rw (c .before .shape-of .ensures) (omega (arith, within (c .before .before) .high))
 
 add-pair-differs : tie.Need-add-pair-differs
-add-pair-differs c =
-    let s = c .before .before .before in rw (c .before .before .shape-of .ensures) (omega (arith, bounds (s .args .z) (s .pre) .high))
+add-pair-differs c = rw (c .before .before .shape-of .ensures) (omega (arith, within (c .before .before .before) .high))
 
 pair-differs-requires : tie.Need-pair-differs-requires
 pair-differs-requires c κs = search needs
@@ -44,14 +61,12 @@ returns c =
 add-pair-differs-2 : tie.Need-add-pair-differs-2
 add-pair-differs-2 c =
     let after-shape-of = c .before .before .before .before in
-    let s = after-shape-of .before in
-    rw (after-shape-of .shape-of .ensures) (omega (arith, bounds (s .args .z) (s .pre) .high))
+    rw (after-shape-of .shape-of .ensures) (omega (arith, within (after-shape-of .before) .high))
 
 mul-pair-differs : tie.Need-mul-pair-differs
 mul-pair-differs c =
     let after-shape-of = c .before .before .before .before in
-    let s = after-shape-of .before in
-    rw (after-shape-of .shape-of .ensures) (omega (arith, products (s .args .z) (bounds (s .args .z) (s .pre)) .key))
+    rw (after-shape-of .shape-of .ensures) (omega (arith, products (after-shape-of .before .args .z) (within (after-shape-of .before)) .key))
 
 pair-differs-requires-2 : tie.Need-pair-differs-requires-2
 pair-differs-requires-2 c κs = search needs
@@ -59,23 +74,19 @@ pair-differs-requires-2 c κs = search needs
 returns-2 : tie.Need-returns-2
 unfolding keyDiffers
 returns-2 c =
-    let e = shape-of-from-then2 c .shape-of .ensures in
-    rw (
-      rw e at (sym (c .before .before .before .pair-differs .ensures) ∙ c .before .before .if1 .left),
-      rw e at (sym (c .before .pair-differs2 .ensures) ∙ c .if2 .taken),
-    )
+    let else1 = c .before .before in
+    let e = else1 .before .before .before .before .shape-of .ensures in
+    rw (orders-same else1, rw e at (sym (c .before .pair-differs2 .ensures) ∙ c .if2 .taken))
 
 add-pair-differs-3 : tie.Need-add-pair-differs-3
 add-pair-differs-3 c =
     let after-shape-of = shape-of-from-else2 (c .before) in
-    let s = after-shape-of .before in
-    rw (after-shape-of .shape-of .ensures) (omega (arith, bounds (s .args .z) (s .pre) .high))
+    rw (after-shape-of .shape-of .ensures) (omega (arith, within (after-shape-of .before) .high))
 
 mul-pair-differs-2 : tie.Need-mul-pair-differs-2
 mul-pair-differs-2 c =
     let after-shape-of = shape-of-from-else2 (c .before) in
-    let s = after-shape-of .before in
-    rw (after-shape-of .shape-of .ensures) (omega (arith, products (s .args .z) (bounds (s .args .z) (s .pre)) .work))
+    rw (after-shape-of .shape-of .ensures) (omega (arith, products (after-shape-of .before .args .z) (within (after-shape-of .before)) .work))
 
 pair-differs-requires-3 : tie.Need-pair-differs-requires-3
 pair-differs-requires-3 c κs = search needs
@@ -83,14 +94,10 @@ pair-differs-requires-3 c κs = search needs
 returns-3 : tie.Need-returns-3
 unfolding keyDiffers
 returns-3 c =
-    let else1 = c .before .before .before .before in
-    let after-pair-differs = else1 .before in
-    let after-shape-of = after-pair-differs .before .before .before in
-    let e = after-shape-of .shape-of .ensures in
-    rw (
-      rw e at (sym (after-pair-differs .pair-differs .ensures) ∙ else1 .if1 .left),
-      rw e at (sym (c .before .before .before .pair-differs2 .ensures) ∙ c .before .before .if2 .left),
-    ) (rw e at (c .pair-differs3 .ensures))
+    let else2 = c .before .before in
+    let else1 = else2 .before .before in
+    let e = else1 .before .before .before .before .shape-of .ensures in
+    rw (orders-same else1, key-same else2) (rw e at (c .pair-differs3 .ensures))
 
 pub key-differs-spec : {M : Type 1} → statement M
 key-differs-spec =

@@ -10,6 +10,7 @@ use denote.Ref.{now}
 use Rattle.trits.specs.Rows.{matrixAt, rowsOf}
 use Rattle.trits.proofs.Matrix.{row-le}
 use Rattle.trits.proofs.Parts.{length-mid}
+use Rattle.matrix.specs.Linear.{Matrix}
 use Rattle.matrix.proofs.Places.{elem-at}
 use Rattle.matrix.proofs.Orders.{order-good}
 use Rattle.build_key.proofs.Arranging.{col-below}
@@ -30,33 +31,43 @@ abbrev μ-loop : tie.MeasureT-loop
 abbrev start-from-slice-known2 : tie.After-slice-known2 Inv-loop μ-loop → tie.Start Inv-loop μ-loop
 start-from-slice-known2 c = c .before .before .before .before .before
 
-abbrev start-from-at-loop : tie.At-loop Inv-loop μ-loop → tie.Start Inv-loop μ-loop
-start-from-at-loop c = c .before .before .before .before .before .before
-
 abbrev start-from-in-loop : tie.In-loop Inv-loop μ-loop → tie.Start Inv-loop μ-loop
-start-from-in-loop c = start-from-at-loop (c .before)
-
-abbrev start-from-column : tie.After-column Inv-loop μ-loop → tie.Start Inv-loop μ-loop
-start-from-column c = start-from-in-loop (c .before .before)
+start-from-in-loop c = start-from-slice-known2 (c .before .before)
 
 abbrev start-from-after-loop : tie.After-loop Inv-loop μ-loop → tie.Start Inv-loop μ-loop
-start-from-after-loop c = start-from-at-loop (c .before)
+start-from-after-loop c = start-from-slice-known2 (c .before .before)
 
-abbrev column-from-write-row : tie.After-write-row Inv-loop μ-loop → tie.After-column Inv-loop μ-loop
-column-from-write-row c = c .before .before .before
+-- the grid that is read
+abbrev grid : tie.Start Inv-loop μ-loop → Matrix
+grid s = matrixAt (s .args .w) (now (s .args .ones)) (now (s .args .twos))
 
-abbrev loop-from-write-row : tie.After-write-row Inv-loop μ-loop → tie.At-loop Inv-loop μ-loop
-loop-from-write-row c = column-from-write-row c .before .before .before
+-- the key has room for the row of the turn
+row-fits : (c : tie.In-loop Inv-loop μ-loop) →
+    let a = start-from-in-loop c .args in
+    c .before .loop .i * a .kw + a .kw ≤ a .k * a .kw
+row-fits c = row-le (start-from-in-loop c .args .kw) (c .loop-test .taken)
+
+-- the place of the turn's column is a place
+place-in : (c : tie.In-loop Inv-loop μ-loop) →
+    let a = start-from-in-loop c .args in
+    getD (now (a .order)) (a .rows + c .before .loop .i) 0 < a .half + a .half
+place-in c =
+    let s = start-from-in-loop c in
+    let order = now (s .args .order) in
+    let n = s .args .rows + c .before .loop .i in
+    let q = order-good (length order) order (s .pre .is-order) .1 (getD order n 0) (elem-at order n (omega (arith, c .loop-test .taken, s .pre .columns))) in
+    omega (arith, q, s .pre .places-fit)
 
 loop-holds : tie.Need-loop-holds Inv-loop μ-loop
 loop-holds c =
     let s = start-from-slice-known2 c in
-    let a = s .args in (
+    let a = s .args in
+    let order = now (a .order) in (
       (omega arith, s .pre .ones-size, s .pre .twos-size),
-      rows-none (onesRow (a .rows) (a .half) (a .hw) (matrixAt (a .w) (now (a .ones)) (now (a .twos))) (now (a .order)) (a .kw)) (a .kw)
-          (ones-size (a .rows) (a .half) (a .hw) (matrixAt (a .w) (now (a .ones)) (now (a .twos))) (now (a .order)) (a .kw)) (now (a .ko)),
-      rows-none (twosRow (a .rows) (a .half) (a .hw) (matrixAt (a .w) (now (a .ones)) (now (a .twos))) (now (a .order)) (a .kw)) (a .kw)
-          (twos-size (a .rows) (a .half) (a .hw) (matrixAt (a .w) (now (a .ones)) (now (a .twos))) (now (a .order)) (a .kw)) (now (a .kt)),
+      rows-none (onesRow (a .rows) (a .half) (a .hw) (grid s) order (a .kw)) (a .kw) (ones-size (a .rows) (a .half) (a .hw) (grid s) order (a .kw))
+          (now (a .ko)),
+      rows-none (twosRow (a .rows) (a .half) (a .hw) (grid s) order (a .kw)) (a .kw) (twos-size (a .rows) (a .half) (a .hw) (grid s) order (a .kw))
+          (now (a .kt)),
     )
 
 add-q : tie.Need-add-q Inv-loop μ-loop
@@ -75,38 +86,22 @@ cast-q c =
 column-requires : tie.Need-column-requires Inv-loop μ-loop
 column-requires c κs =
     let s = start-from-in-loop (c .before) in
-    let a = s .args in
-    let l = c .before .before .loop in
-    let q = order-good (length (now (a .order))) (now (a .order)) (s .pre .is-order) .1 (getD (now (a .order)) (a .rows + l .i) 0)
-    (elem-at (now (a .order)) (a .rows + l .i) (omega arith)) in record {
-      half-fits = s .pre .half-fits;
-      place = omega (arith, q, s .pre .places-fit);
-      small = s .pre .half-small;
-    }
+    record { half-fits = s .pre .half-fits; place = place-in (c .before); small = s .pre .half-small }
 
 mul-a : tie.Need-mul-a Inv-loop μ-loop
 mul-a c =
-    let s = start-from-column c in
-    let a = s .args in
     let l = c .before .before .before .loop in
-    let h = row-le (a .kw) {i = l .i} {m = a .k} (omega arith) in
-    omega (arith, h, l .inv .0 .1, l .inv .0 .2)
+    omega (arith, row-fits (c .before .before), l .inv .0 .1, l .inv .0 .2)
 
 add-e : tie.Need-add-e Inv-loop μ-loop
 add-e c =
-    let s = start-from-column c in
-    let a = s .args in
     let l = c .before .before .before .loop in
-    let h = row-le (a .kw) {i = l .i} {m = a .k} (omega arith) in
-    omega (arith, h, l .inv .0 .1, l .inv .0 .2)
+    omega (arith, row-fits (c .before .before), l .inv .0 .1, l .inv .0 .2)
 
 mul-write-row : tie.Need-mul-write-row Inv-loop μ-loop
 mul-write-row c =
-    let s = start-from-column c in
-    let a = s .args in
     let l = c .before .before .before .loop in
-    let h = row-le (a .kw) {i = l .i} {m = a .k} (omega arith) in
-    omega (arith, h, l .inv .0 .1, l .inv .0 .2)
+    omega (arith, row-fits (c .before .before), l .inv .0 .1, l .inv .0 .2)
 
 sub-write-row : tie.Need-sub-write-row Inv-loop μ-loop
 sub-write-row c =
@@ -118,19 +113,13 @@ part-write-row-start c =
 
 part-write-row-end : tie.Need-part-write-row-end Inv-loop μ-loop
 part-write-row-end c =
-    let s = start-from-column c in
-    let a = s .args in
     let l = c .before .before .before .loop in
-    let h = row-le (a .kw) {i = l .i} {m = a .k} (omega arith) in
-    omega (arith, h, l .inv .0 .1, l .inv .0 .2)
+    omega (arith, row-fits (c .before .before), l .inv .0 .1, l .inv .0 .2)
 
 mul-write-row-2 : tie.Need-mul-write-row-2 Inv-loop μ-loop
 mul-write-row-2 c =
-    let s = start-from-at-loop (c .before .before .before .before) in
-    let a = s .args in
     let l = c .before .before .before .before .loop in
-    let h = row-le (a .kw) {i = l .i} {m = a .k} (omega arith) in
-    omega (arith, h, l .inv .0 .1, l .inv .0 .2)
+    omega (arith, row-fits (c .before .before .before), l .inv .0 .1, l .inv .0 .2)
 
 sub-write-row-2 : tie.Need-sub-write-row-2 Inv-loop μ-loop
 sub-write-row-2 c =
@@ -142,31 +131,24 @@ part-write-row-start-2 c =
 
 part-write-row-end-2 : tie.Need-part-write-row-end-2 Inv-loop μ-loop
 part-write-row-end-2 c =
-    let at-loop = c .before .before .before .before in
-    let s = start-from-at-loop at-loop in
-    let a = s .args in
-    let l = at-loop .loop in
-    let h = row-le (a .kw) {i = l .i} {m = a .k} (omega arith) in
-    omega (arith, h, l .inv .0 .1, l .inv .0 .2)
+    let l = c .before .before .before .before .loop in
+    omega (arith, row-fits (c .before .before .before), l .inv .0 .1, l .inv .0 .2)
 
 write-row-requires : tie.Need-write-row-requires Inv-loop μ-loop
 write-row-requires c κs =
-    let at-loop = c .before .before .before .before .before in
-    let s = start-from-at-loop at-loop in
+    let after-column = c .before .before in
+    let in-loop = after-column .before .before in
+    let s = start-from-in-loop in-loop in
     let a = s .args in
-    let l = at-loop .loop in
-    let h = row-le (a .kw) {i = l .i} {m = a .k} (omega arith) in
+    let l = in-loop .before .loop in
+    let h = row-fits in-loop in
     let k = l .i * a .kw + a .kw - l .i * a .kw in
     let lo = length-mid (l .i * a .kw) k (l .ko) (omega (arith, h, l .inv .0 .1)) in
     let lt = length-mid (l .i * a .kw) k (l .kt) (omega (arith, h, l .inv .0 .2)) in
-    let q = order-good (length (now (a .order))) (now (a .order)) (s .pre .is-order) .1 (getD (now (a .order)) (a .rows + l .i) 0)
-    (elem-at (now (a .order)) (a .rows + l .i) (omega arith)) in
-    let z : c .before .before .column .result < 64 * a .w =
-    subst (λ (z : ℕ). z < 64 * a .w) (sym (c .before .before .column .ensures))
-    (col-below (a .half) (a .hw) (a .w) (getD (now (a .order)) (a .rows + l .i) 0) (s .pre .half-fits) (s .pre .words) (omega (arith, q, s .pre .places-fit))) in record {
+    let z = col-below (a .half) (a .hw) (a .w) (getD (now (a .order)) (a .rows + l .i) 0) (s .pre .half-fits) (s .pre .words) (place-in in-loop) in record {
       grid = s .pre .grid;
       small = s .pre .small;
-      column = z;
+      column = subst (λ (z : ℕ). z < 64 * a .w) (sym (after-column .column .ensures)) z;
       room = omega (arith, lo, s .pre .room);
       twos-size = omega (arith, lo, lt);
     }
@@ -179,23 +161,25 @@ loop-less c = omega arith
 
 loop-again : tie.Need-loop-again Inv-loop μ-loop
 loop-again c =
-    let s = start-from-at-loop (loop-from-write-row (c .before .before .before .before)) in
+    let after-write-row = c .before .before .before .before in
+    let after-column = after-write-row .before .before .before in
+    let in-loop = after-column .before .before in
+    let s = start-from-in-loop in-loop in
     let a = s .args in
-    let l = loop-from-write-row (c .before .before .before .before) .loop in
-    let h = row-le (a .kw) {i = l .i} {m = a .k} (omega arith) in
+    let order = now (a .order) in
+    let l = in-loop .before .loop in
+    let h = row-fits in-loop in
     let k = l .i * a .kw + a .kw - l .i * a .kw in
     let d : k ≡ a .kw = omega arith in
     let lo = length-mid (l .i * a .kw) k (l .ko) (omega (arith, h, l .inv .0 .1)) in
-    let lt = length-mid (l .i * a .kw) k (l .kt) (omega (arith, h, l .inv .0 .2)) in
-    let e = c .before .before .before .before .write-row .ensures in
-    let f = column-from-write-row (c .before .before .before .before) .column .ensures in
-    let x = rows-more (onesRow (a .rows) (a .half) (a .hw) (matrixAt (a .w) (now (a .ones)) (now (a .twos))) (now (a .order)) (a .kw)) (a .kw)
-    (ones-size (a .rows) (a .half) (a .hw) (matrixAt (a .w) (now (a .ones)) (now (a .twos))) (now (a .order)) (a .kw)) (l .i) (now (a .ko)) (l .inv .1) d
-    (e .0 ∙ ones-down (a .rows) (a .half) (a .hw) (matrixAt (a .w) (now (a .ones)) (now (a .twos))) (now (a .order)) (a .kw) (l .i) f (lo ∙ d)) in
-    let y = rows-more (twosRow (a .rows) (a .half) (a .hw) (matrixAt (a .w) (now (a .ones)) (now (a .twos))) (now (a .order)) (a .kw)) (a .kw)
-    (twos-size (a .rows) (a .half) (a .hw) (matrixAt (a .w) (now (a .ones)) (now (a .twos))) (now (a .order)) (a .kw)) (l .i) (now (a .kt)) (l .inv .2) d
-    (e .1 ∙ twos-down (a .rows) (a .half) (a .hw) (matrixAt (a .w) (now (a .ones)) (now (a .twos))) (now (a .order)) (a .kw) (l .i) f (lo ∙ d)) in
-    ((omega arith, search needs, search needs), x, y)
+    let e = after-write-row .write-row .ensures in
+    let f = after-column .column .ensures in (
+      (omega (arith, in-loop .loop-test .taken), search needs, search needs),
+      rows-more (onesRow (a .rows) (a .half) (a .hw) (grid s) order (a .kw)) (a .kw) (ones-size (a .rows) (a .half) (a .hw) (grid s) order (a .kw)) (l .i)
+          (now (a .ko)) (l .inv .1) d (e .0 ∙ ones-down (a .rows) (a .half) (a .hw) (grid s) order (a .kw) (l .i) f (lo ∙ d)),
+      rows-more (twosRow (a .rows) (a .half) (a .hw) (grid s) order (a .kw)) (a .kw) (twos-size (a .rows) (a .half) (a .hw) (grid s) order (a .kw)) (l .i)
+          (now (a .kt)) (l .inv .2) d (e .1 ∙ twos-down (a .rows) (a .half) (a .hw) (grid s) order (a .kw) (l .i) f (lo ∙ d)),
+    )
 
 same-length : tie.Need-same-length Inv-loop μ-loop
 same-length c =
@@ -209,11 +193,10 @@ returns : tie.Need-returns Inv-loop μ-loop
 returns c =
     let s = start-from-after-loop c in
     let a = s .args in
+    let order = now (a .order) in
     let l = c .before .loop in (
-      key-ones (a .rows) (a .half) (a .hw) (matrixAt (a .w) (now (a .ones)) (now (a .twos))) (now (a .order)) (a .kw) (l .i) (a .k) (now (a .ko)) (l .inv .1)
-          (omega arith) (s .pre .ones-size),
-      key-twos (a .rows) (a .half) (a .hw) (matrixAt (a .w) (now (a .ones)) (now (a .twos))) (now (a .order)) (a .kw) (l .i) (a .k) (now (a .kt)) (l .inv .2)
-          (omega arith) (s .pre .twos-size),
+      key-ones (a .rows) (a .half) (a .hw) (grid s) order (a .kw) (l .i) (a .k) (now (a .ko)) (l .inv .1) (omega arith) (s .pre .ones-size),
+      key-twos (a .rows) (a .half) (a .hw) (grid s) order (a .kw) (l .i) (a .k) (now (a .kt)) (l .inv .2) (omega arith) (s .pre .twos-size),
     )
 
 pub write-key-spec : {M : Type 1} → statement M

@@ -1,12 +1,13 @@
 -- Each turn makes both halves of one row more (`halves-turn`).
 -- Assumes nothing.
-use Prim.Native.Nat.{_-_, _≤_}
-use mathlib.Core.Path.{ap}
+use Prim.Native.Nat.{_+_, _-_, _≤_, _<_}
+use mathlib.Core.Path.{_≡_, ap}
 use native.Mathlib.Omega.{arith}
+use lib.ListN.{length}
 use denote.Ref.{now}
-use Rattle.trits.specs.Planes.{tritAt}
+use Rattle.trits.specs.Planes.{Row, tritAt}
 use Rattle.trits.specs.Rows.{matrixAt}
-use Rattle.matrix.specs.Linear.{Vector}
+use Rattle.matrix.specs.Linear.{Vector, Matrix}
 use Rattle.grid.specs.Steps.{Grid}
 use Rattle.grid.proofs.Cells.{grid-of}
 use Rattle.build_matrix.specs.Steps.{scaledBy, negativeBy, halvesIn, leftU, rightU}
@@ -28,168 +29,158 @@ abbrev μ-loop : tie.MeasureT-loop
 abbrev start-from-shared-slice-known6 : tie.After-shared-slice-known6 Inv-loop μ-loop → tie.Start Inv-loop μ-loop
 start-from-shared-slice-known6 c = c .before .before .before .before .before .before .before .before
 
-abbrev start-from-at-loop : tie.At-loop Inv-loop μ-loop → tie.Start Inv-loop μ-loop
-start-from-at-loop c = c .before .before .before .before .before .before .before .before .before
-
 abbrev start-from-in-loop : tie.In-loop Inv-loop μ-loop → tie.Start Inv-loop μ-loop
-start-from-in-loop c = start-from-at-loop (c .before)
+start-from-in-loop c = start-from-shared-slice-known6 (c .before .before)
 
-abbrev start-from-row-part : tie.After-row-part Inv-loop μ-loop → tie.Start Inv-loop μ-loop
-start-from-row-part c = start-from-in-loop (c .before)
+abbrev start-from-after-loop : tie.After-loop Inv-loop μ-loop → tie.Start Inv-loop μ-loop
+start-from-after-loop c = start-from-shared-slice-known6 (c .before .before)
 
 abbrev put-scaled-from-put-negative-arg2 : tie.After-put-negative-arg2 Inv-loop μ-loop → tie.After-put-scaled Inv-loop μ-loop
 put-scaled-from-put-negative-arg2 c = c .before .before .before .before .before .before
 
-abbrev in-loop-from-put-scaled : tie.After-put-scaled Inv-loop μ-loop → tie.In-loop Inv-loop μ-loop
-in-loop-from-put-scaled c = c .before .before .before .before .before
-
 abbrev in-loop-from-put-negative-arg2 : tie.After-put-negative-arg2 Inv-loop μ-loop → tie.In-loop Inv-loop μ-loop
-in-loop-from-put-negative-arg2 c = in-loop-from-put-scaled (put-scaled-from-put-negative-arg2 c)
+in-loop-from-put-negative-arg2 c = put-scaled-from-put-negative-arg2 c .before .before .before .before .before
 
-abbrev put-scaled-from-put-negative : tie.After-put-negative Inv-loop μ-loop → tie.After-put-scaled Inv-loop μ-loop
-put-scaled-from-put-negative c = c .before .before .before .before .before .before .before
+abbrev in-loop-from-slice-known6 : tie.After-slice-known6 Inv-loop μ-loop → tie.In-loop Inv-loop μ-loop
+in-loop-from-slice-known6 c = in-loop-from-put-negative-arg2 (c .before .before .before .before .before)
 
-abbrev in-loop-from-put-negative : tie.After-put-negative Inv-loop μ-loop → tie.In-loop Inv-loop μ-loop
-in-loop-from-put-negative c = in-loop-from-put-scaled (put-scaled-from-put-negative c)
+-- H_U, b and c, the half-rows that they make, and the rows at the entry
+abbrev given : tie.Start Inv-loop μ-loop → Matrix
+given s = matrixAt (s .args .w) (now (s .args .ho)) (now (s .args .ht))
 
-abbrev start-from-after-loop : tie.After-loop Inv-loop μ-loop → tie.Start Inv-loop μ-loop
-start-from-after-loop c = start-from-at-loop (c .before)
+abbrev trits-b : tie.Start Inv-loop μ-loop → Vector
+trits-b s = tritAt (now (s .args .bo)) (now (s .args .bt))
+
+abbrev trits-c : tie.Start Inv-loop μ-loop → Vector
+trits-c s = tritAt (now (s .args .co)) (now (s .args .ct))
+
+abbrev lefts : tie.Start Inv-loop μ-loop → Matrix
+lefts s = leftU (given s) (trits-b s) (trits-c s)
+
+abbrev rights : tie.Start Inv-loop μ-loop → Matrix
+rights s = rightU (given s) (trits-b s)
+
+abbrev held : tie.Start Inv-loop μ-loop → Matrix
+held s = matrixAt (s .args .w) (now (s .args .ones)) (now (s .args .twos))
+
+-- there is room for both half-rows of the turn, and their numbers are small
+in-rows : (c : tie.In-loop Inv-loop μ-loop) → c .before .loop .i + c .before .loop .i + 1 < start-from-in-loop c .args .rows
+in-rows c = omega (arith, c .loop-test .taken, start-from-in-loop c .pre .room)
+
+small : (c : tie.In-loop Inv-loop μ-loop) → c .before .loop .i + c .before .loop .i + 1 < 4294967296
+small c = omega (arith, in-rows c, start-from-in-loop c .pre .few)
+
+-- the row of the matrix that the turn reads
+h-row : (c : tie.After-row-part2 Inv-loop μ-loop) → Row (now (c .before .row-part .result)) (now (c .row-part2 .result))
+h-row c =
+    let in-loop = c .before .before in
+    let s = start-from-in-loop in-loop in
+    handed-row (s .args .ru) (s .args .w) (in-loop .before .loop .i) (s .pre .h-grid) (in-loop .loop-test .taken) (c .before .row-part .ensures)
+    (c .row-part2 .ensures)
+
+h-size : (c : tie.After-row-part2 Inv-loop μ-loop) → length (now (c .before .row-part .result)) ≡ start-from-in-loop (c .before .before) .args .w
+h-size c =
+    let in-loop = c .before .before in
+    let s = start-from-in-loop in-loop in
+    handed-size (s .args .ru) (s .args .w) (in-loop .before .loop .i) (s .pre .h-grid) (in-loop .loop-test .taken) (c .before .row-part .ensures)
+    (c .row-part2 .ensures)
+
+h-trits : (c : tie.After-row-part2 Inv-loop μ-loop) →
+    let in-loop = c .before .before in
+    tritAt (now (c .before .row-part .result)) (now (c .row-part2 .result)) ≡ given (start-from-in-loop in-loop) (in-loop .before .loop .i)
+h-trits c =
+    let in-loop = c .before .before in
+    let s = start-from-in-loop in-loop in
+    handed-trits (s .args .ru) (s .args .w) (in-loop .before .loop .i) (s .pre .h-grid) (in-loop .loop-test .taken) (c .before .row-part .ensures)
+    (c .row-part2 .ensures)
 
 loop-holds : tie.Need-loop-holds Inv-loop μ-loop
 loop-holds c =
     let s = start-from-shared-slice-known6 c in
-    let a = s .args in (
-      omega arith,
-      grid-of (s .pre .grid) (halves-none 0 (leftU (matrixAt (a .w) (now (a .ho)) (now (a .ht))) (tritAt (now (a .bo)) (now (a .bt)))
-          (tritAt (now (a .co)) (now (a .ct)))) (rightU (matrixAt (a .w) (now (a .ho)) (now (a .ht))) (tritAt (now (a .bo)) (now (a .bt))))
-          (matrixAt (a .w) (now (a .ones)) (now (a .twos)))),
-    )
+    (omega arith, grid-of (s .pre .grid) (halves-none 0 (lefts s) (rights s) (held s)))
 
 row-part-requires : tie.Need-row-part-requires Inv-loop μ-loop
 row-part-requires c κs =
-    let p = start-from-in-loop c .pre in
-    (p .h-few, p .narrow)
+    let s = start-from-in-loop c in
+    (s .pre .h-few, s .pre .narrow)
 
 row-part-requires-2 : tie.Need-row-part-requires-2 Inv-loop μ-loop
 row-part-requires-2 c κs =
-    let p = start-from-row-part c .pre in
-    (p .h-few, p .narrow)
+    let s = start-from-in-loop (c .before) in
+    (s .pre .h-few, s .pre .narrow)
 
 add-put-scaled : tie.Need-add-put-scaled Inv-loop μ-loop
-add-put-scaled c =
-    let in-loop = c .before .before .before .before in
-    let start = start-from-in-loop in-loop in
-    omega (arith, in-loop .loop-test .taken, start .pre .room, start .pre .few)
+add-put-scaled c = omega (arith, small (c .before .before .before .before))
 
 put-scaled-requires : tie.Need-put-scaled-requires Inv-loop μ-loop
 put-scaled-requires c κs =
-    let in-loop = c .before .before .before .before in
-    let at-loop = in-loop .before in
-    let s = start-from-at-loop at-loop in
-    let a = s .args in
-    let l = at-loop .loop in
-    let h = in-loop .loop-test .taken in
-    let m = s .pre .room in
-    let e = c .before .before .before .row-part .ensures in
-    let f = c .before .before .row-part2 .ensures in
-    let g = s .pre .h-grid in record {
-      grid = l .inv .1 .rows;
-      h-row = handed-row (a .ru) (a .w) (l .i) g h e f;
+    let after-row-part2 = c .before .before in
+    let in-loop = after-row-part2 .before .before in
+    let s = start-from-in-loop in-loop in record {
+      grid = in-loop .before .loop .inv .1 .rows;
+      h-row = h-row after-row-part2;
       b-row = s .pre .b-row;
       c-row = s .pre .c-row;
-      j-in = omega arith;
-      h-size = handed-size (a .ru) (a .w) (l .i) g h e f;
+      j-in = omega (arith, in-rows in-loop);
+      h-size = h-size after-row-part2;
       b-size = s .pre .b-size;
       c-size = s .pre .c-size;
     }
 
 add-put-negative : tie.Need-add-put-negative Inv-loop μ-loop
-add-put-negative c =
-    let in-loop = in-loop-from-put-negative-arg2 c in
-    let start = start-from-in-loop in-loop in
-    omega (arith, in-loop .loop-test .taken, start .pre .room, start .pre .few)
+add-put-negative c = omega (arith, small (in-loop-from-put-negative-arg2 c))
 
 add-put-negative-2 : tie.Need-add-put-negative-2 Inv-loop μ-loop
-add-put-negative-2 c =
-    let in-loop = in-loop-from-put-negative-arg2 c in
-    let start = start-from-in-loop in-loop in
-    omega (arith, in-loop .loop-test .taken, start .pre .room, start .pre .few)
+add-put-negative-2 c = omega (arith, small (in-loop-from-put-negative-arg2 c))
 
 put-negative-requires : tie.Need-put-negative-requires Inv-loop μ-loop
 put-negative-requires c κs =
     let after-put-scaled = put-scaled-from-put-negative-arg2 c in
     let after-row-part2 = after-put-scaled .before .before .before in
-    let after-row-part = after-row-part2 .before in
-    let in-loop = after-row-part .before in
-    let at-loop = in-loop .before in
-    let s = start-from-at-loop at-loop in
-    let a = s .args in
-    let l = at-loop .loop in
-    let h = in-loop .loop-test .taken in
-    let m = s .pre .room in
-    let e = after-row-part .row-part .ensures in
-    let f = after-row-part2 .row-part2 .ensures in
-    let g = s .pre .h-grid in record {
+    let in-loop = after-row-part2 .before .before in
+    let s = start-from-in-loop in-loop in record {
       grid = after-put-scaled .put-scaled .ensures .rows;
-      h-row = handed-row (a .ru) (a .w) (l .i) g h e f;
+      h-row = h-row after-row-part2;
       v-row = s .pre .b-row;
-      j-in = omega arith;
-      h-size = handed-size (a .ru) (a .w) (l .i) g h e f;
+      j-in = omega (arith, in-rows in-loop);
+      h-size = h-size after-row-part2;
       v-size = s .pre .b-size;
     }
 
 add-i : tie.Need-add-i Inv-loop μ-loop
-add-i c =
-    let in-loop = in-loop-from-put-negative (c .before .before .before .before) in
-    let start = start-from-in-loop in-loop in
-    omega (arith, in-loop .loop-test .taken, start .pre .room, start .pre .few)
+add-i c = omega (arith, small (in-loop-from-slice-known6 c))
 
 loop-less : tie.Need-loop-less Inv-loop μ-loop
-loop-less c =
-    let in-loop = in-loop-from-put-negative (c .before .before .before .before) in
-    let start = start-from-in-loop in-loop in
-    omega (arith, in-loop .loop-test .taken, start .pre .room, start .pre .few)
+loop-less c = omega (arith, in-loop-from-slice-known6 c .loop-test .taken)
 
 loop-again : tie.Need-loop-again Inv-loop μ-loop
 loop-again c =
     let after-put-negative = c .before .before .before .before in
-    let after-put-scaled = put-scaled-from-put-negative after-put-negative in
+    let after-put-scaled = put-scaled-from-put-negative-arg2 (after-put-negative .before) in
     let after-row-part2 = after-put-scaled .before .before .before in
-    let after-row-part = after-row-part2 .before in
-    let in-loop = after-row-part .before in
-    let at-loop = in-loop .before in
-    let s = start-from-at-loop at-loop in
-    let a = s .args in
-    let l = at-loop .loop in
+    let in-loop = after-row-part2 .before .before in
+    let s = start-from-in-loop in-loop in
     let h = in-loop .loop-test .taken in
-    let m = s .pre .room in
-    let e = after-row-part .row-part .ensures in
-    let f = after-row-part2 .row-part2 .ensures in
-    let g = s .pre .h-grid in
-    let t = handed-trits (a .ru) (a .w) (l .i) g h e f in (
-      omega arith,
-      halves-turn 0 (leftU (matrixAt (a .w) (now (a .ho)) (now (a .ht))) (tritAt (now (a .bo)) (now (a .bt))) (tritAt (now (a .co)) (now (a .ct))))
-          (rightU (matrixAt (a .w) (now (a .ho)) (now (a .ht))) (tritAt (now (a .bo)) (now (a .bt)))) (matrixAt (a .w) (now (a .ones)) (now (a .twos))) _ _
-          (l .inv .1) (omega arith) (omega arith) (ap (λ (v : Vector). scaledBy (tritAt (now (a .bo)) (now (a .bt))) (tritAt (now (a .co)) (now (a .ct))) v) t)
-          (ap (λ (v : Vector). negativeBy (tritAt (now (a .bo)) (now (a .bt))) v) t) (after-put-scaled .put-scaled .ensures)
-          (after-put-negative .put-negative .ensures),
+    let t = h-trits after-row-part2 in (
+      omega (arith, h),
+      halves-turn 0 (lefts s) (rights s) (held s) _ _ (in-loop .before .loop .inv .1) (omega arith) (omega arith)
+          (ap (λ (v : Vector). scaledBy (trits-b s) (trits-c s) v) t) (ap (λ (v : Vector). negativeBy (trits-b s) v) t)
+          (after-put-scaled .put-scaled .ensures) (after-put-negative .put-negative .ensures),
     )
 
 same-length : tie.Need-same-length Inv-loop μ-loop
-same-length c =
-    omega (arith, c .before .loop .inv .1 .rows .size, start-from-after-loop c .pre .grid .size)
+same-length c = omega (arith, c .before .loop .inv .1 .rows .size, start-from-after-loop c .pre .grid .size)
 
 same-length-2 : tie.Need-same-length-2 Inv-loop μ-loop
 same-length-2 c =
-    let start = start-from-after-loop c in
-    omega (arith, c .before .loop .inv .1 .rows .size, start .pre .grid .size, c .before .loop .inv .1 .rows .row .same, start .pre .grid .row .same)
+    let g = c .before .loop .inv .1 .rows in
+    let s = start-from-after-loop c in
+    omega (arith, g .size, g .row .same, s .pre .grid .size, s .pre .grid .row .same)
 
 returns : tie.Need-returns Inv-loop μ-loop
 returns c =
-    let a = start-from-after-loop c .args in
-    halves-done 0 (leftU (matrixAt (a .w) (now (a .ho)) (now (a .ht))) (tritAt (now (a .bo)) (now (a .bt))) (tritAt (now (a .co)) (now (a .ct))))
-    (rightU (matrixAt (a .w) (now (a .ho)) (now (a .ht))) (tritAt (now (a .bo)) (now (a .bt)))) (matrixAt (a .w) (now (a .ones)) (now (a .twos))) (a .ru)
-    (omega arith) (c .before .loop .inv .1)
+    let s = start-from-after-loop c in
+    halves-done 0 (lefts s) (rights s) (held s) (s .args .ru) (omega arith) (c .before .loop .inv .1)
 
 pub fill-u-spec : {M : Type 1} → statement M
 fill-u-spec =

@@ -3,7 +3,7 @@
 use native.Mathlib.Omega.{arith}
 use denote.Ref.{now}
 use Rattle.calls.specs.Lent.{planes}
-use Rattle.calls.proofs.Bounds.{bounds}
+use Rattle.calls.proofs.Bounds.{Bounds, bounds}
 use Rattle.build_release.proofs.Released.{zero-rows, filled-done}
 use borrow.Author.Needs.{needs}
 use Rattle.build_release.proofs.release.fill_matrix.Statement.{statement}
@@ -13,26 +13,21 @@ use Rattle.build_release.proofs.release.fill_matrix.Tie as tie
 abbrev start-from-shape-of : tie.After-shape-of → tie.Start
 start-from-shape-of c = c .before .before .before .before .before .before .before .before .before .before .before
 
-abbrev fill-u-from-fill-v-arg2 : tie.After-fill-v-arg2 → tie.After-fill-u
-fill-u-from-fill-v-arg2 c = c .before .before .before .before .before .before
+-- the sizes are in their ranges
+within : (s : tie.Start) → Bounds (s .args .z)
+within s = bounds (s .args .z) (s .pre .sizes)
 
 shape-of-requires : tie.Need-shape-of-requires
 shape-of-requires c κs = search needs
 
 add-rows : tie.Need-add-rows
-add-rows c =
-    let s = start-from-shape-of (c .before) in
-    rw (c .before .shape-of .ensures) (omega (arith, bounds (s .args .z) (s .pre .sizes) .high))
+add-rows c = rw (c .before .shape-of .ensures) (omega (arith, within (start-from-shape-of (c .before)) .high))
 
 add-rows-2 : tie.Need-add-rows-2
-add-rows-2 c =
-    let s = start-from-shape-of (c .before .before) in
-    rw (c .before .before .shape-of .ensures) (omega (arith, bounds (s .args .z) (s .pre .sizes) .high))
+add-rows-2 c = rw (c .before .before .shape-of .ensures) (omega (arith, within (start-from-shape-of (c .before .before)) .high))
 
 add-rows-3 : tie.Need-add-rows-3
-add-rows-3 c =
-    let s = start-from-shape-of (c .before .before) in
-    rw (c .before .before .shape-of .ensures) (omega (arith, bounds (s .args .z) (s .pre .sizes) .high))
+add-rows-3 c = rw (c .before .before .shape-of .ensures) (omega (arith, within (start-from-shape-of (c .before .before)) .high))
 
 zero-words-requires : tie.Need-zero-words-requires
 zero-words-requires c κs = search needs
@@ -46,11 +41,11 @@ fill-u-requires c κs =
     let after-zero-words = after-zero-words2 .before .before .before .before in
     let after-shape-of = after-zero-words .before .before .before .before in
     let s = start-from-shape-of after-shape-of in
-    let b = bounds (s .args .z) (s .pre .sizes) in
+    let b = within s in
     let r = s .pre .secret in
-    let y = s .pre in
     rw (after-shape-of .shape-of .ensures) (record {
-      grid = zero-rows (s .args .z) _ _ (after-zero-words .zero-words .ensures) (after-zero-words2 .zero-words2 .ensures) (y .work-ones) (y .work-twos);
+      grid = zero-rows (s .args .z) _ _ (after-zero-words .zero-words .ensures) (after-zero-words2 .zero-words2 .ensures) (s .pre .work-ones)
+          (s .pre .work-twos);
       h-grid = r .hu;
       b-row = r .b;
       c-row = r .c;
@@ -69,7 +64,7 @@ fill-v-requires c κs =
     let after-struct-known = after-zero-words-arg2 .before .before .before .before .before .before in
     let after-shape-of = after-struct-known .before in
     let s = start-from-shape-of after-shape-of in
-    let b = bounds (s .args .z) (s .pre .sizes) in
+    let b = within s in
     let r = s .pre .secret in
     let e = after-shape-of .shape-of .ensures in
     rw e (record {

@@ -5,8 +5,8 @@ use native.Mathlib.Omega.{arith}
 use denote.Ref.{now}
 use Rattle.scheme.specs.Secret.{Secret}
 use Rattle.calls.specs.Lent.{planes, secretOf}
-use Rattle.calls.proofs.Bounds.{bounds}
-use Rattle.build_ranks.proofs.Lengths.{products}
+use Rattle.calls.proofs.Bounds.{Bounds, bounds}
+use Rattle.build_ranks.proofs.Lengths.{Products, products}
 use Rattle.build_release.proofs.Released.{ready-order, ready-size, ready-rank, final-order, final-good, final-ready, final-ones, final-twos}
 use borrow.Author.Needs.{needs}
 use Rattle.build_release.proofs.release.release.Statement.{statement}
@@ -59,9 +59,6 @@ shape-of-from-arrange c = shape-of-from-copy-order (copy-order-from-arrange c)
 abbrev shape-of-from-struct-known3 : tie.After-struct-known3 → tie.After-shape-of
 shape-of-from-struct-known3 c = shape-of-from-arrange (arrange-from-struct-known3 c)
 
-abbrev arrange-from-write-key-arg5 : tie.After-write-key-arg5 → tie.After-arrange
-arrange-from-write-key-arg5 c = c .before .before .before .before .before .before .before .before .before .before .before .before
-
 abbrev work-ones2-from-write-key : tie.After-write-key → tie.After-work-ones2
 work-ones2-from-write-key c = c .before .before .before .before .before .before .before .before .before .before .before .before
 
@@ -77,36 +74,32 @@ work-twos2-from-write-key c = c .before .before .before .before .before .before 
 abbrev work-twos-from-arrange : tie.After-arrange → tie.After-work-twos
 work-twos-from-arrange c = copy-order-from-arrange c .before .before .before
 
-abbrev arrange-from-write-key : tie.After-write-key → tie.After-arrange
-arrange-from-write-key c = c .before .before .before .before .before .before .before .before .before .before .before .before .before
+-- the sizes are in their ranges
+within : (s : tie.Start) → Bounds (s .args .z)
+within s = bounds (s .args .z) (s .pre .sizes)
+
+-- no product of them is large
+few : (s : tie.Start) → Products (s .args .z)
+few s = products (s .args .z) (within s)
 
 shape-of-requires : tie.Need-shape-of-requires
 shape-of-requires c κs = search needs
 
 add-k : tie.Need-add-k
 add-k c =
-    let s = start-from-shape-of c in
-    let b = bounds (s .args .z) (s .pre .sizes) in omega (arith, b .high, b .ku, b .kv)
+    let b = within (start-from-shape-of c) in
+    omega (arith, b .high, b .ku, b .kv)
 
 add-rows : tie.Need-add-rows
-add-rows c =
-    let s = start-from-shape-of (c .before) in
-    rw (c .before .shape-of .ensures) (omega (arith, bounds (s .args .z) (s .pre .sizes) .high))
+add-rows c = rw (c .before .shape-of .ensures) (omega (arith, within (start-from-shape-of (c .before)) .high))
 
 add-kw : tie.Need-add-kw
-add-kw c =
-    let s = start-from-shape-of (c .before) in
-    rw (c .before .shape-of .ensures) (omega (arith, bounds (s .args .z) (s .pre .sizes) .high))
+add-kw c = rw (c .before .shape-of .ensures) (omega (arith, within (start-from-shape-of (c .before)) .high))
 
 fill-matrix-requires : tie.Need-fill-matrix-requires
 fill-matrix-requires c κs =
     let s = start-from-shape-of (c .before .before .before) in
-    let l = s .pre in record {
-      sizes = s .pre .sizes;
-      secret = s .pre .secret;
-      work-ones = l .work-ones-size;
-      work-twos = l .work-twos-size;
-    }
+    record { sizes = s .pre .sizes; secret = s .pre .secret; work-ones = s .pre .work-ones-size; work-twos = s .pre .work-twos-size }
 
 copy-order-requires : tie.Need-copy-order-requires
 copy-order-requires c κs =
@@ -116,8 +109,7 @@ copy-order-requires c κs =
 add-arrange : tie.Need-add-arrange
 add-arrange c =
     let after-shape-of = shape-of-from-struct-known2 c in
-    let s = start-from-shape-of after-shape-of in
-    rw (after-shape-of .shape-of .ensures) (omega (arith, bounds (s .args .z) (s .pre .sizes) .high))
+    rw (after-shape-of .shape-of .ensures) (omega (arith, within (start-from-shape-of after-shape-of) .high))
 
 arrange-requires : tie.Need-arrange-requires
 arrange-requires c κs =
@@ -129,14 +121,13 @@ arrange-requires c κs =
     let o = now (s .args .start) in
     let r = s .pre .is-order in
     let m = s .pre .rank-full in
-    let b = bounds z (s .pre .sizes) in
-    let p = products z b in
+    let b = within s in
     let f = after-fill-matrix .fill-matrix .ensures in
     let e = after-copy-order .copy-order .ensures in
     let n = ready-size z (secret s) o f e (r .size) r m in
     rw (after-shape-of .shape-of .ensures) (record {
       grid = f .rows;
-      small = omega (arith, f .rows .size, p .work);
+      small = omega (arith, f .rows .size, few s .work);
       half-fits = omega arith;
       words = omega arith;
       places-fit = omega (arith, n);
@@ -148,8 +139,7 @@ arrange-requires c κs =
 add-write-key : tie.Need-add-write-key
 add-write-key c =
     let after-shape-of = shape-of-from-struct-known3 c in
-    let s = start-from-shape-of after-shape-of in
-    rw (after-shape-of .shape-of .ensures) (omega (arith, bounds (s .args .z) (s .pre .sizes) .high))
+    rw (after-shape-of .shape-of .ensures) (omega (arith, within (start-from-shape-of after-shape-of) .high))
 
 write-key-requires : tie.Need-write-key-requires
 write-key-requires c κs =
@@ -164,16 +154,14 @@ write-key-requires c κs =
     let o = now (s .args .start) in
     let r = s .pre .is-order in
     let m = s .pre .rank-full in
-    let l = s .pre in
-    let b = bounds z (s .pre .sizes) in
-    let p = products z b in
+    let b = within s in
     let f = after-fill-matrix .fill-matrix .ensures in
     let e = after-copy-order .copy-order .ensures in
     let g = rw (after-shape-of .shape-of .ensures) at (after-arrange .arrange .ensures) in
     let n = final-good z (secret s) o f e (r .size) r m (g .0) .size in
     rw (after-shape-of .shape-of .ensures) (record {
       grid = g .1 .1;
-      small = omega (arith, g .1 .1 .size, p .work);
+      small = omega (arith, g .1 .1 .size, few s .work);
       half-fits = omega arith;
       words = omega arith;
       places-fit = omega (arith, n);
@@ -181,8 +169,8 @@ write-key-requires c κs =
       is-order = final-ready z (secret s) o f e (r .size) r m (g .0);
       columns = omega (arith, n, b .ku, b .kv);
       room = omega arith;
-      ones-size = l .key-ones-size;
-      twos-size = l .key-twos-size;
+      ones-size = s .pre .key-ones-size;
+      twos-size = s .pre .key-twos-size;
     })
 
 same-length : tie.Need-same-length
@@ -221,14 +209,13 @@ returns c =
     let o = now (s .args .start) in
     let r = s .pre .is-order in
     let m = s .pre .rank-full in
-    let b = bounds z (s .pre .sizes) in
     let f = after-fill-matrix .fill-matrix .ensures in
     let e = after-copy-order .copy-order .ensures in
     let g = rw (after-shape-of .shape-of .ensures) at (after-arrange .arrange .ensures) in
     let w = rw (after-shape-of .shape-of .ensures) at (after-write-key .write-key .ensures) in (
       final-order z (secret s) o f e (r .size) r m (g .0),
-      w .0 ∙ final-ones z (secret s) o f e (r .size) r m (g .0) _ _ (g .1 .0) b,
-      w .1 ∙ final-twos z (secret s) o f e (r .size) r m (g .0) _ _ (g .1 .0) b,
+      w .0 ∙ final-ones z (secret s) o f e (r .size) r m (g .0) _ _ (g .1 .0) (within s),
+      w .1 ∙ final-twos z (secret s) o f e (r .size) r m (g .0) _ _ (g .1 .0) (within s),
     )
 
 pub release-spec : {M : Type 1} → statement M

@@ -5,10 +5,11 @@ use Rattle.draw_half.proofs.HalfWords.{lacks-rank, has-rank, not-solved
 use Rattle.trits.specs.Rows.{matrixAt}
 use Rattle.trits.specs.Planes.{tritAt}
 use denote.Ref.{now}
-use lib.ListN.{length}
+use lib.ListN.{length, take}
 use native.Mathlib.Omega.{arith}
-use mathlib.Core.Path.{sym, _∙_}
-use Prim.Native.Nat.{_*_}
+use mathlib.Core.Path.{_≡_, sym, _∙_}
+use Prim.Native.Nat.{_+_, _*_}
+use Rattle.matrix.specs.Linear.{Matrix, rank}
 use Rattle.draw_half.proofs.halves.draw_u.Statement.{statement}
 use Rattle.draw_half.proofs.halves.draw_u.Tie as tie
 
@@ -23,7 +24,7 @@ abbrev reduce-from-else1 : tie.Else1 → tie.After-reduce
 reduce-from-else1 c = c .before .before .before .before .before
 
 abbrev start-from-reduce : tie.After-reduce → tie.Start
-start-from-reduce c = c .before .before .before .before .before .before .before .before .before .before .before .before .before .before
+start-from-reduce c = start-from-reduce-arg2 (c .before)
 
 abbrev supply-from-supply-forced-arg2 : tie.After-supply-forced-arg2 → tie.After-supply
 supply-from-supply-forced-arg2 c = c .before .before .before .before .before .before
@@ -58,6 +59,20 @@ sub-rows-from-solve-pivots c = c .before .before .before .before .before .before
 abbrev start-from-solve-pivots : tie.After-solve-pivots → tie.Start
 start-from-solve-pivots c = start-from-sub-rows (sub-rows-from-solve-pivots c)
 
+-- the matrix of the half, and the working rows at the entry
+abbrev H : tie.Start → Matrix
+H s = matrixAt (s .args .w) (now (s .args .ho)) (now (s .args .ht))
+
+abbrev A : tie.Start → Matrix
+A s = matrixAt (s .args .w) (now (s .args .ones)) (now (s .args .twos))
+
+-- the first part of the order has full rank
+full : (c : tie.Else1) →
+    let s = start-from-else1 c in
+    let order = now (s .args .order) in
+    rank (s .args .r) (length order) (H s) (take (s .args .r + s .args .g) order) ≡ s .args .r
+full c = sym (reduce-from-else1 c .reduce .ensures .0) ∙ c .if1 .left
+
 add-first : tie.Need-add-first
 add-first c = search needs
 
@@ -86,10 +101,10 @@ returns c =
 
 supply-requires : tie.Need-supply-requires
 supply-requires c κs =
-    let after-reduce = reduce-from-else1 (c .before .before) in
-    let s = start-from-reduce after-reduce in
+    let else1 = c .before .before in
+    let s = start-from-else1 else1 in
     let a = s .args in
-    let q = after-reduce .reduce .ensures in record {
+    let q = reduce-from-else1 else1 .reduce .ensures in record {
       grid = q .1 .rows;
       source = s .pre .u-row;
       is-order = s .pre .is-order;
@@ -98,9 +113,8 @@ supply-requires c κs =
       front = s .pre .front;
       e-past = s .pre .e-past;
       e-in = s .pre .e-in;
-      enough = roomU (a .r) (a .g) (matrixAt (a .w) (now (a .ho)) (now (a .ht))) (matrixAt (a .w) (now (a .ones)) (now (a .twos))) (now (a .order))
-          (s .pre .is-order) (a .x) (a .e) (64 * a .w) (s .pre .x-past) (s .pre .e-past) (s .pre .apart)
-          (sym (q .0) ∙ c .before .before .if1 .left) (64 * length (now (a .uo))) (q .1 .cells) (s .pre .front) (s .pre .u-room);
+      enough = roomU (a .r) (a .g) (H s) (A s) (now (a .order)) (s .pre .is-order) (a .x) (a .e) (64 * a .w) (s .pre .x-past) (s .pre .e-past) (s .pre .apart)
+          (full else1) (64 * length (now (a .uo))) (q .1 .cells) (s .pre .front) (s .pre .u-room);
     }
 
 supply-forced-requires : tie.Need-supply-forced-requires
@@ -177,15 +191,14 @@ returns-2 c =
     let s = start-from-reduce after-reduce in
     let a = s .args in
     let q = after-reduce .reduce .ensures in
-    let l = after-solve-pivots .solve-pivots .ensures in
-    let z = s .pre in (
+    let p = s .pre in
+    let l = after-solve-pivots .solve-pivots .ensures in (
       has-rank (q .0) (else1 .if1 .left),
       (
         l .rows,
-        is-solved (halfU-done (a .r) (a .g) (matrixAt (a .w) (now (a .ho)) (now (a .ht))) (matrixAt (a .w) (now (a .ones)) (now (a .twos))) (now (a .order))
-            (s .pre .is-order) (a .x) (a .e) (64 * a .w) (s .pre .x-past) (s .pre .e-past) (s .pre .apart)
-            (sym (q .0) ∙ else1 .if1 .left) (tritAt (now (a .bo)) (now (a .bt))) (tritAt (now (a .co)) (now (a .ct))) (tritAt (now (a .uo)) (now (a .ut)))
-            (a .ev) (z .e-zero) (s .pre .ev-past) (s .pre .ev-apart) (z .x-ends) (s .pre .places-fit) (q .1 .cells)
+        is-solved (halfU-done (a .r) (a .g) (H s) (A s) (now (a .order)) (p .is-order) (a .x) (a .e) (64 * a .w) (p .x-past) (p .e-past) (p .apart) (full else1)
+            (tritAt (now (a .bo)) (now (a .bt))) (tritAt (now (a .co)) (now (a .ct))) (tritAt (now (a .uo)) (now (a .ut)))
+            (a .ev) (p .e-zero) (p .ev-past) (p .ev-apart) (p .x-ends) (p .places-fit) (q .1 .cells)
             (after-supply .supply .ensures .cells) (after-supply-forced .supply-forced .ensures .cells) (after-sub-rows .sub-rows .ensures .cells) (l .cells)),
       ),
     )

@@ -24,7 +24,7 @@ start-from-else1 c = start-from-code (c .before)
 test-secret-requires : tie.Need-test-secret-requires
 test-secret-requires c κs =
     let s = start-from-shared-slice-known17 c in
-    (s .pre .0, s .pre .1 .0)
+    (s .pre .sizes, s .pre .secret)
 
 code-requires : tie.Need-code-requires
 code-requires c κs = search needs
@@ -36,7 +36,7 @@ returns c =
 test-choices-requires : tie.Need-test-choices-requires
 test-choices-requires c κs =
     let s = start-from-else1 c in
-    (s .pre .0, s .pre .1 .1)
+    (s .pre .sizes, s .pre .chosen-sizes)
 
 returns-2 : tie.Need-returns-2
 returns-2 c =

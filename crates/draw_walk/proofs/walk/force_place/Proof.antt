@@ -7,10 +7,12 @@ use Rattle.trits.proofs.Matrix.{row-le}
 use Rattle.trits.specs.Rows.{matrixAt}
 use Rattle.trits.specs.Planes.{tritAt}
 use Rattle.trits.specs.Trit.{Trit, tritOf, putV, mulT, subT}
+use Rattle.matrix.specs.Linear.{Vector, Matrix}
 use denote.Ref.{now}
+use lib.ListN.{length}
 use native.Mathlib.Omega.{arith}
 use mathlib.Core.Path.{ap}
-use Prim.Native.Nat.{_+_, _*_}
+use Prim.Native.Nat.{_+_, _*_, _≤_}
 use Rattle.draw_walk.proofs.walk.force_place.Statement.{statement}
 use Rattle.draw_walk.proofs.walk.force_place.Tie as tie
 
@@ -19,7 +21,7 @@ abbrev start-from-trit-at-arg2 : tie.After-trit-at-arg2 → tie.Start
 start-from-trit-at-arg2 c = c .before .before .before .before .before .before .before .before .before .before
 
 abbrev start-from-trit-at : tie.After-trit-at → tie.Start
-start-from-trit-at c = c .before .before .before .before .before .before .before .before .before .before .before
+start-from-trit-at c = start-from-trit-at-arg2 (c .before)
 
 abbrev start-from-then1 : tie.Then1 → tie.Start
 start-from-then1 c = start-from-trit-at (c .before)
@@ -33,33 +35,36 @@ start-from-trit-at2 c = start-from-else1 (c .before)
 abbrev start-from-trit-at3 : tie.After-trit-at3 → tie.Start
 start-from-trit-at3 c = start-from-trit-at2 (c .before)
 
+-- the rows at the entry, and b, c and the value of the place
+abbrev held : tie.Start → Matrix
+held s = matrixAt (s .args .w) (now (s .args .ones)) (now (s .args .twos))
+
+abbrev trits-b : tie.Start → Vector
+trits-b s = tritAt (now (s .args .bo)) (now (s .args .bt))
+
+abbrev trits-c : tie.Start → Vector
+trits-c s = tritAt (now (s .args .co)) (now (s .args .ct))
+
+abbrev value : tie.Start → Trit
+value s = tritAt (now (s .args .uo)) (now (s .args .ut)) (s .args .j)
+
+-- row ev is one of the rows
+ev-fits : (s : tie.Start) → s .args .ev * s .args .w + s .args .w ≤ length (now (s .args .ones))
+ev-fits s = omega (arith, row-le (s .args .w) (s .pre .ev-in), s .pre .grid .size)
+
 mul-trit-at : tie.Need-mul-trit-at
-mul-trit-at c =
-    let s = start-from-trit-at-arg2 c in
-    let a = s .args in
-    let h = row-le (a .w) {i = a .ev} {m = a .rows} (omega arith) in
-    omega (arith, h, s .pre .grid .size)
+mul-trit-at c = omega (arith, ev-fits (start-from-trit-at-arg2 c))
 
 mul-trit-at-2 : tie.Need-mul-trit-at-2
-mul-trit-at-2 c =
-    let s = start-from-trit-at-arg2 c in
-    let a = s .args in
-    let h = row-le (a .w) {i = a .ev} {m = a .rows} (omega arith) in
-    omega (arith, h, s .pre .grid .size)
+mul-trit-at-2 c = omega (arith, ev-fits (start-from-trit-at-arg2 c))
 
 add-trit-at : tie.Need-add-trit-at
-add-trit-at c =
-    let s = start-from-trit-at-arg2 c in
-    let a = s .args in
-    let h = row-le (a .w) {i = a .ev} {m = a .rows} (omega arith) in
-    omega (arith, h, s .pre .grid .size)
+add-trit-at c = omega (arith, ev-fits (start-from-trit-at-arg2 c))
 
 trit-at-requires : tie.Need-trit-at-requires
 trit-at-requires c κs =
     let s = start-from-trit-at-arg2 c in
-    let a = s .args in
-    let h = row-le (a .w) {i = a .ev} {m = a .rows} (omega arith) in
-    (s .pre .grid .row .same, omega (arith, h, s .pre .grid .size))
+    (s .pre .grid .row .same, omega (arith, ev-fits s))
 
 put-from-requires : tie.Need-put-from-requires
 put-from-requires c κs =
@@ -85,10 +90,9 @@ returns c =
     let after-trit-at = then1 .before in
     let s = start-from-trit-at after-trit-at in
     let a = s .args in
-    grid-row (matrixAt (a .w) (now (a .ones)) (now (a .twos))) (a .e) (after-put-from .put-from .ensures)
-    (ap (λ (x : Trit). putV ((matrixAt (a .w) (now (a .ones)) (now (a .twos))) (a .e)) (a .q) x)
-    (forced-none (a .w) (now (a .ones)) (now (a .twos)) (a .ev) (a .q) _ (s .pre .place) (after-trit-at .trit-at .ensures)
-    (tritAt (now (a .bo)) (now (a .bt))) (tritAt (now (a .co)) (now (a .ct))) (tritAt (now (a .uo)) (now (a .ut)) (a .j)) (then1 .if1 .taken)))
+    grid-row (held s) (a .e) (after-put-from .put-from .ensures) (ap (λ (x : Trit). putV (held s (a .e)) (a .q) x)
+    (forced-none (a .w) (now (a .ones)) (now (a .twos)) (a .ev) (a .q) _ (s .pre .place) (after-trit-at .trit-at .ensures) (trits-b s) (trits-c s) (value s)
+    (then1 .if1 .taken)))
 
 trit-at-requires-2 : tie.Need-trit-at-requires-2
 trit-at-requires-2 c κs =
@@ -102,9 +106,10 @@ trit-at-requires-3 c κs =
 
 forced-trit-requires : tie.Need-forced-trit-requires
 forced-trit-requires c κs =
-    let a = start-from-trit-at3 c .args in record {
-      b-trit = trit-lt (tritAt (now (a .bo)) (now (a .bt)) (a .q)) _ (c .before .trit-at2 .ensures);
-      c-trit = trit-lt (tritAt (now (a .co)) (now (a .ct)) (a .q)) _ (c .trit-at3 .ensures);
+    let s = start-from-trit-at3 c in
+    let a = s .args in record {
+      b-trit = trit-lt (trits-b s (a .q)) _ (c .before .trit-at2 .ensures);
+      c-trit = trit-lt (trits-c s (a .q)) _ (c .trit-at3 .ensures);
       v-trit = trit-lt (tritAt (now (a .ones)) (now (a .twos)) (64 * (a .ev * a .w) + a .q)) _ (c .before .before .before .trit-at .ensures);
     }
 
@@ -137,10 +142,10 @@ returns-2 c =
     let after-trit-at = else1 .before in
     let s = start-from-trit-at after-trit-at in
     let a = s .args in
-    put-number (matrixAt (a .w) (now (a .ones)) (now (a .twos))) (a .e) (a .q) _ _
-    (forced-some (a .w) (now (a .ones)) (now (a .twos)) (a .ev) (a .q) _ (s .pre .place) (after-trit-at .trit-at .ensures)
-    (tritAt (now (a .bo)) (now (a .bt))) (tritAt (now (a .co)) (now (a .ct))) (tritAt (now (a .uo)) (now (a .ut)) (a .j)) (else1 .if1 .left)
-    (after-trit-at2 .trit-at2 .ensures) (after-trit-at3 .trit-at3 .ensures) (after-forced-trit .forced-trit .ensures)) (after-put-at .put-at .ensures)
+    put-number (held s) (a .e) (a .q) _ _
+    (forced-some (a .w) (now (a .ones)) (now (a .twos)) (a .ev) (a .q) _ (s .pre .place) (after-trit-at .trit-at .ensures) (trits-b s) (trits-c s) (value s)
+    (else1 .if1 .left) (after-trit-at2 .trit-at2 .ensures) (after-trit-at3 .trit-at3 .ensures) (after-forced-trit .forced-trit .ensures))
+    (after-put-at .put-at .ensures)
 
 pub force-place-spec : {M : Type 1} → statement M
 force-place-spec =

@@ -1,9 +1,9 @@
 -- Each turn puts the value of one place more of the last part (`forced-turn`); row ev is not the row that changes.
 -- Assumes nothing.
+use Rattle.matrix.proofs.Orders.{place-below}
 use Rattle.draw_walk.proofs.Supplied.{forcedAt, forced-start, forced-turn, forced-all}
 use Rattle.grid.specs.Steps.{Grid, putRow}
-use Rattle.matrix.specs.Linear.{fill}
-use Rattle.matrix.proofs.Orders.{place-below}
+use Rattle.matrix.specs.Linear.{Vector, Matrix, fill}
 use Rattle.trits.specs.Rows.{matrixAt}
 use Rattle.trits.specs.Planes.{tritAt}
 use denote.Ref.{now}
@@ -27,7 +27,7 @@ abbrev start-from-shared-slice-known7 : tie.After-shared-slice-known7 Inv-loop �
 start-from-shared-slice-known7 c = c .before .before .before .before .before .before .before .before .before
 
 abbrev start-from-at-loop : tie.At-loop Inv-loop μ-loop → tie.Start Inv-loop μ-loop
-start-from-at-loop c = c .before .before .before .before .before .before .before .before .before .before
+start-from-at-loop c = start-from-shared-slice-known7 (c .before)
 
 abbrev start-from-in-loop : tie.In-loop Inv-loop μ-loop → tie.Start Inv-loop μ-loop
 start-from-in-loop c = start-from-at-loop (c .before)
@@ -35,19 +35,28 @@ start-from-in-loop c = start-from-at-loop (c .before)
 abbrev start-from-force-place : tie.After-force-place Inv-loop μ-loop → tie.Start Inv-loop μ-loop
 start-from-force-place c = start-from-in-loop (c .before .before .before .before)
 
-abbrev at-loop-from-force-place : tie.After-force-place Inv-loop μ-loop → tie.At-loop Inv-loop μ-loop
-at-loop-from-force-place c = c .before .before .before .before .before
-
 abbrev start-from-after-loop : tie.After-loop Inv-loop μ-loop → tie.Start Inv-loop μ-loop
 start-from-after-loop c = start-from-at-loop (c .before)
+
+-- the rows at the entry, and b, c and the values
+abbrev held : tie.Start Inv-loop μ-loop → Matrix
+held s = matrixAt (s .args .w) (now (s .args .ones)) (now (s .args .twos))
+
+abbrev trits-b : tie.Start Inv-loop μ-loop → Vector
+trits-b s = tritAt (now (s .args .bo)) (now (s .args .bt))
+
+abbrev trits-c : tie.Start Inv-loop μ-loop → Vector
+trits-c s = tritAt (now (s .args .co)) (now (s .args .ct))
+
+abbrev trits-u : tie.Start Inv-loop μ-loop → Vector
+trits-u s = tritAt (now (s .args .uo)) (now (s .args .ut))
 
 loop-holds : tie.Need-loop-holds Inv-loop μ-loop
 loop-holds c =
     let s = start-from-shared-slice-known7 c in
     let a = s .args in (
       (omega arith, omega arith),
-      forced-start (now (a .order)) (matrixAt (a .w) (now (a .ones)) (now (a .twos))) (a .from) (a .from) (a .e) (a .ev) (tritAt (now (a .bo)) (now (a .bt)))
-          (tritAt (now (a .co)) (now (a .ct))) (tritAt (now (a .uo)) (now (a .ut))) (a .g) (s .pre .grid) refl refl,
+      forced-start (now (a .order)) (held s) (a .from) (a .from) (a .e) (a .ev) (trits-b s) (trits-c s) (trits-u s) (a .g) (s .pre .grid) refl refl,
     )
 
 mul-q : tie.Need-mul-q Inv-loop μ-loop
@@ -101,13 +110,13 @@ loop-less c = omega arith
 loop-again : tie.Need-loop-again Inv-loop μ-loop
 loop-again c =
     let after-force-place = c .before .before .before .before in
-    let s = start-from-at-loop (at-loop-from-force-place after-force-place) in
+    let at-loop = after-force-place .before .before .before .before .before in
+    let s = start-from-at-loop at-loop in
     let a = s .args in
-    let l = after-force-place .before .before .before .before .before .loop in (
+    let l = at-loop .loop in (
       (omega arith, omega arith),
-      forced-turn (now (a .order)) (matrixAt (a .w) (now (a .ones)) (now (a .twos))) (a .from) (l .i) (a .e) (a .ev) (tritAt (now (a .bo)) (now (a .bt)))
-          (tritAt (now (a .co)) (now (a .ct))) (tritAt (now (a .uo)) (now (a .ut))) (a .g) (s .pre .is-order) (omega arith) (omega arith) (s .pre .apart)
-          (l .inv .1) (after-force-place .force-place .ensures),
+      forced-turn (now (a .order)) (held s) (a .from) (l .i) (a .e) (a .ev) (trits-b s) (trits-c s) (trits-u s) (a .g) (s .pre .is-order) (omega arith)
+          (omega arith) (s .pre .apart) (l .inv .1) (after-force-place .force-place .ensures),
     )
 
 same-length : tie.Need-same-length Inv-loop μ-loop
@@ -123,10 +132,10 @@ same-length-2 c =
 
 returns : tie.Need-returns Inv-loop μ-loop
 returns c =
-    let a = start-from-after-loop c .args in
+    let s = start-from-after-loop c in
+    let a = s .args in
     let l = c .before .loop in
-    forced-all (now (a .order)) (matrixAt (a .w) (now (a .ones)) (now (a .twos))) (a .from) (l .i) (a .e) (a .ev) (tritAt (now (a .bo)) (now (a .bt)))
-    (tritAt (now (a .co)) (now (a .ct))) (tritAt (now (a .uo)) (now (a .ut))) (a .g) (omega arith) (l .inv .1)
+    forced-all (now (a .order)) (held s) (a .from) (l .i) (a .e) (a .ev) (trits-b s) (trits-c s) (trits-u s) (a .g) (omega arith) (l .inv .1)
 
 pub supply-forced-spec : {M : Type 1} → statement M
 supply-forced-spec =

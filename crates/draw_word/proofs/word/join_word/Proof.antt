@@ -14,9 +14,6 @@ use Rattle.draw_word.proofs.word.join_word.Tie as tie
 abbrev start-from-shape-of : tie.After-shape-of → tie.Start
 start-from-shape-of c = c .before .before .before .before .before .before .before
 
-abbrev join-halves-from-pair-weight-arg2 : tie.After-pair-weight-arg2 → tie.After-join-halves
-join-halves-from-pair-weight-arg2 c = c .before .before .before .before .before .before
-
 shape-of-requires : tie.Need-shape-of-requires
 shape-of-requires c κs = search needs
 
@@ -35,7 +32,6 @@ add-join-halves c = omega (arith, start-from-shape-of (c .before .before) .pre .
 join-halves-requires : tie.Need-join-halves-requires
 join-halves-requires c κs =
     let s = start-from-shape-of (c .before .before) in
-    let y = s .pre in
     rw (c .before .before .shape-of .ensures) (record {
       grid = s .pre .grid;
       b-row = s .pre .b-row;
@@ -45,8 +41,8 @@ join-halves-requires c κs =
       t-in = omega arith;
       u-apart = λ w. omega arith;
       v-apart = λ w. omega arith;
-      b-size = y .b-size;
-      c-size = y .c-size;
+      b-size = s .pre .b-size;
+      c-size = s .pre .c-size;
     })
 
 pair-weight-requires : tie.Need-pair-weight-requires
@@ -75,8 +71,7 @@ returns c =
     let after-work-ones = c .before .before .before .before .before .before in
     let after-join-halves = after-work-ones .before in
     let after-shape-of = after-join-halves .before .before .before in
-    let start = start-from-shape-of after-shape-of in
-    let a = start .args in
+    let a = start-from-shape-of after-shape-of .args in
     let e = after-shape-of .shape-of .ensures in
     let j = rw e at (after-join-halves .join-halves .ensures) in (
       j .rows,

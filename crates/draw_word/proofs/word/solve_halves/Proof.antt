@@ -1,17 +1,20 @@
 -- V is solved first, and its row is kept while U is solved (`halves-solved`).
 -- Assumes nothing.
-use Prim.Native.Nat.{_+_}
-use mathlib.Core.Path.{sym, _∙_}
+use Prim.Native.Nat.{_+_, _*_, _≤_}
+use mathlib.Core.Bool.{true}
+use mathlib.Core.Path.{_≡_, sym, _∙_}
 use native.Mathlib.Omega.{arith}
 use denote.Ref.{now}
-use lib.Dec.{lit<}
+use lib.Dec.{eqb, lit<}
+use Rattle.matrix.specs.Linear.{rank}
 use Rattle.matrix.proofs.Field.{not-true, not-false}
-use Rattle.matrix.proofs.Orders.{order-own}
+use Rattle.scheme.specs.Sizes.{half, ru, rv}
 use Rattle.scheme.specs.Secret.{Secret}
-use Rattle.scheme.specs.Draw.{Choices}
+use Rattle.scheme.specs.Draw.{Choices, firstV, firstU}
 use Rattle.calls.specs.Lent.{planes, halfWords, secretOf}
-use Rattle.calls.proofs.Bounds.{bounds, prod}
+use Rattle.calls.proofs.Bounds.{Bounds, bounds, prod}
 use Rattle.draw_word.specs.Steps.{choices}
+use Rattle.matrix.proofs.Orders.{order-own}
 use Rattle.draw_word.proofs.Stages.{ends-own, ends-to, test-v, test-u, kept-x, kept-u, halves-solved, unsolved}
 use borrow.Author.Needs.{needs}
 use Rattle.draw_word.proofs.word.solve_halves.Statement.{statement}
@@ -34,6 +37,49 @@ abbrev start-from-shape-of : tie.After-shape-of → tie.Start
 start-from-shape-of c =
     c .before .before .before .before .before .before .before .before .before .before .before .before .before .before .before .before .before
 
+abbrev draw-v-from-else1 : tie.Else1 → tie.After-draw-v
+draw-v-from-else1 c = c .before .before .before .before .before
+
+abbrev draw-u-from-else2 : tie.Else2 → tie.After-draw-u
+draw-u-from-else2 c = c .before .before .before .before .before
+
+-- the sizes are in their ranges
+within : (s : tie.Start) → Bounds (s .args .z)
+within s = bounds (s .args .z) (s .pre .sizes)
+
+-- the working space has few words
+few : (s : tie.Start) → (s .args .l + 5) * halfWords (s .args .z) ≤ 8197 * 128
+few s =
+    let h = within s .high in
+    prod (s .args .l + 5) (halfWords (s .args .z)) 8197 128 (omega (arith, s .pre .small)) (omega (arith, h))
+
+-- what each half's test of its rank told
+v-told : (c : tie.After-draw-v) →
+    let s = start-from-shape-of (c .before .before .before) in
+    eqb (rank (rv (s .args .z)) (half (s .args .z)) (secret s .hv) (firstV (s .args .z) (chosen s))) (rv (s .args .z)) ≡ c .draw-v .result
+v-told c =
+    let after-shape-of = c .before .before .before in
+    let s = start-from-shape-of after-shape-of in
+    let v = rw (after-shape-of .shape-of .ensures) at (c .draw-v .ensures) in
+    sym (test-v (s .args .z) (s .args .l) (secret s) (chosen s) (s .pre .v-is-order .size)) ∙ sym (v .0)
+
+u-told : (c : tie.After-draw-u) →
+    let s = start-from-shape-of (draw-v-from-else1 (c .before .before .before) .before .before .before) in
+    eqb (rank (ru (s .args .z)) (half (s .args .z)) (secret s .hu) (firstU (s .args .z) (chosen s))) (ru (s .args .z)) ≡ c .draw-u .result
+u-told c =
+    let after-draw-v = draw-v-from-else1 (c .before .before .before) in
+    let after-shape-of = after-draw-v .before .before .before in
+    let s = start-from-shape-of after-shape-of in
+    let u = rw (after-shape-of .shape-of .ensures) at (c .draw-u .ensures) in
+    sym (test-u (s .args .z) (s .args .l) (secret s) (chosen s) (s .pre .u-is-order .size)) ∙ sym (u .0)
+
+-- V is solved, and U is
+v-passed : (c : tie.Else1) → draw-v-from-else1 c .draw-v .result ≡ true
+v-passed c = not-false (draw-v-from-else1 c .draw-v .result) (c .if1 .left)
+
+u-passed : (c : tie.Else2) → draw-u-from-else2 c .draw-u .result ≡ true
+u-passed c = not-false (draw-u-from-else2 c .draw-u .result) (c .if2 .left)
+
 shape-of-requires : tie.Need-shape-of-requires
 shape-of-requires c κs = search needs
 
@@ -52,32 +98,26 @@ add-draw-v c = omega (arith, start-from-shape-of (c .before .before) .pre .small
 draw-v-requires : tie.Need-draw-v-requires
 draw-v-requires c κs =
     let s = start-from-shape-of (c .before .before) in
-    let a = s .args in
-    let b = bounds (a .z) (s .pre .sizes) in
-    let o = s .pre in
-    let y = s .pre in
     let m = s .pre in
-    let R = s .pre .grid in
-    let E = s .pre in
+    let b = within s in
     let h = b .high in
-    let big = prod (a .l + 5) (halfWords (a .z)) 8197 128 (omega (arith, m .small)) (omega (arith, h)) in
     rw (c .before .before .shape-of .ensures) (record {
-      grid = R;
-      h-grid = s .pre .secret .hv;
-      v-row = o .v-row;
-      is-order = order-own (o .v-is-order);
-      small = omega (arith, R .size, big);
+      grid = m .grid;
+      h-grid = m .secret .hv;
+      v-row = m .v-row;
+      is-order = order-own (m .v-is-order);
+      small = omega (arith, m .grid .size, few s);
       narrow = omega (arith, h);
-      places-fit = omega (arith, o .v-is-order .size);
-      front = omega (arith, o .v-is-order .size, b .gv, b .kv);
-      v-room = omega (arith, o .v-is-order .size, y .v-size, b .kv);
+      places-fit = omega (arith, m .v-is-order .size);
+      front = omega (arith, m .v-is-order .size, b .gv, b .kv);
+      v-room = omega (arith, m .v-is-order .size, m .v-size, b .kv);
       x-past = omega (arith, m .v-few);
       x-in = omega arith;
       e-past = omega (arith, m .v-few);
       e-in = omega arith;
       apart = λ w. omega arith;
-      x-ends = ends-own (o .v-is-order) (E .v-ends);
-      e-zero = E .ev-zero;
+      x-ends = ends-own (m .v-is-order) (m .v-ends);
+      e-zero = m .ev-zero;
     })
 
 same-length : tie.Need-same-length
@@ -90,47 +130,36 @@ returns : tie.Need-returns
 returns c =
     let after-draw-v = c .before .before .before .before .before in
     let after-shape-of = after-draw-v .before .before .before in
-    let s = start-from-shape-of after-shape-of in
-    let a = s .args in
-    let o = s .pre in
-    let v = rw (after-shape-of .shape-of .ensures) at (after-draw-v .draw-v .ensures) in (
-      rw (sym (test-v (a .z) (a .l) (secret s) (chosen s) (o .v-is-order .size)) ∙ sym (v .0) ∙ not-true (after-draw-v .draw-v .result) (c .if1 .taken)),
-      v .1 .0,
-      unsolved (lit< tt),
-    )
+    let v = rw (after-shape-of .shape-of .ensures) at (after-draw-v .draw-v .ensures) in
+    (rw (v-told after-draw-v ∙ not-true (after-draw-v .draw-v .result) (c .if1 .taken)), v .1 .0, unsolved (lit< tt))
 
 draw-u-requires : tie.Need-draw-u-requires
 draw-u-requires c κs =
-    let after-work-ones = c .before .before .before .before .before .before in
-    let after-draw-v = after-work-ones .before in
+    let else1 = c .before .before in
+    let after-draw-v = else1 .before .before .before .before .before in
     let after-shape-of = after-draw-v .before .before .before in
     let s = start-from-shape-of after-shape-of in
     let a = s .args in
-    let b = bounds (a .z) (s .pre .sizes) in
-    let k = s .pre .secret in
-    let o = s .pre in
-    let y = s .pre in
     let m = s .pre in
-    let E = s .pre in
+    let k = m .secret in
+    let b = within s in
     let h = b .high in
-    let big = prod (a .l + 5) (halfWords (a .z)) 8197 128 (omega (arith, m .small)) (omega (arith, h)) in
     let v = rw (after-shape-of .shape-of .ensures) at (after-draw-v .draw-v .ensures) in
-    let hv = v .1 .1 .solved (not-false (after-draw-v .draw-v .result) (c .before .before .if1 .left)) in
-    let Q = v .1 .0 in
+    let hv = v .1 .1 .solved (v-passed else1) in
     rw (after-shape-of .shape-of .ensures) (record {
-      grid = Q;
+      grid = v .1 .0;
       h-grid = k .hu;
       b-row = k .b;
       c-row = k .c;
-      u-row = o .u-row;
-      is-order = order-own (o .u-is-order);
-      small = omega (arith, Q .size, big);
+      u-row = m .u-row;
+      is-order = order-own (m .u-is-order);
+      small = omega (arith, v .1 .0 .size, few s);
       narrow = omega (arith, h);
-      places-fit = omega (arith, o .u-is-order .size);
-      front = omega (arith, o .u-is-order .size, b .gu, b .ku);
-      u-room = omega (arith, o .u-is-order .size, y .u-size, b .ku);
-      b-room = omega (arith, o .u-is-order .size, k .bSize);
-      c-room = omega (arith, o .u-is-order .size, k .cSize);
+      places-fit = omega (arith, m .u-is-order .size);
+      front = omega (arith, m .u-is-order .size, b .gu, b .ku);
+      u-room = omega (arith, m .u-is-order .size, m .u-size, b .ku);
+      b-room = omega (arith, m .u-is-order .size, k .bSize);
+      c-room = omega (arith, m .u-is-order .size, k .cSize);
       x-past = m .u-few;
       x-in = omega arith;
       e-past = omega (arith, m .u-few);
@@ -139,8 +168,8 @@ draw-u-requires c κs =
       ev-past = omega (arith, m .u-few);
       ev-in = omega arith;
       ev-apart = λ w. omega arith;
-      x-ends = ends-own (o .u-is-order) (ends-to (kept-x (a .z) (a .l) (secret s) (chosen s) (o .v-is-order .size) hv (m .v-few)) (E .u-ends));
-      e-zero = kept-u (a .z) (a .l) (secret s) (chosen s) (o .v-is-order .size) hv (m .v-few) ∙ E .eu-zero;
+      x-ends = ends-own (m .u-is-order) (ends-to (kept-x (a .z) (a .l) (secret s) (chosen s) (m .v-is-order .size) hv (m .v-few)) (m .u-ends));
+      e-zero = kept-u (a .z) (a .l) (secret s) (chosen s) (m .v-is-order .size) hv (m .v-few) ∙ m .eu-zero;
     })
 
 same-length-3 : tie.Need-same-length-3
@@ -155,15 +184,8 @@ returns-2 c =
     let else1 = after-draw-u .before .before .before in
     let after-draw-v = else1 .before .before .before .before .before in
     let after-shape-of = after-draw-v .before .before .before in
-    let s = start-from-shape-of after-shape-of in
-    let a = s .args in
-    let o = s .pre in
-    let v = rw (after-shape-of .shape-of .ensures) at (after-draw-v .draw-v .ensures) in
     let u = rw (after-shape-of .shape-of .ensures) at (after-draw-u .draw-u .ensures) in (
-      rw (
-        sym (test-v (a .z) (a .l) (secret s) (chosen s) (o .v-is-order .size)) ∙ sym (v .0) ∙ not-false (after-draw-v .draw-v .result) (else1 .if1 .left),
-        sym (test-u (a .z) (a .l) (secret s) (chosen s) (o .u-is-order .size)) ∙ sym (u .0) ∙ not-true (after-draw-u .draw-u .result) (c .if2 .taken),
-      ),
+      rw (v-told after-draw-v ∙ v-passed else1, u-told after-draw-u ∙ not-true (after-draw-u .draw-u .result) (c .if2 .taken)),
       u .1 .0,
       unsolved (lit< tt),
     )
@@ -181,19 +203,13 @@ returns-3 c =
     let after-draw-v = else1 .before .before .before .before .before in
     let after-shape-of = after-draw-v .before .before .before in
     let s = start-from-shape-of after-shape-of in
-    let a = s .args in
-    let o = s .pre in
     let m = s .pre in
     let v = rw (after-shape-of .shape-of .ensures) at (after-draw-v .draw-v .ensures) in
-    let u = rw (after-shape-of .shape-of .ensures) at (after-draw-u .draw-u .ensures) in
-    let passed-v = not-false (after-draw-v .draw-v .result) (else1 .if1 .left) in
-    let passed-u = not-false (after-draw-u .draw-u .result) (c .if2 .left) in (
-      rw (
-        sym (test-v (a .z) (a .l) (secret s) (chosen s) (o .v-is-order .size)) ∙ sym (v .0) ∙ passed-v,
-        sym (test-u (a .z) (a .l) (secret s) (chosen s) (o .u-is-order .size)) ∙ sym (u .0) ∙ passed-u,
-      ),
+    let u = rw (after-shape-of .shape-of .ensures) at (after-draw-u .draw-u .ensures) in (
+      rw (v-told after-draw-v ∙ v-passed else1, u-told after-draw-u ∙ u-passed c),
       u .1 .0,
-      halves-solved (a .z) (a .l) (secret s) (chosen s) (o .v-is-order .size) (v .1 .1 .solved passed-v) (m .v-few) (o .u-is-order .size) (m .u-few) (u .1 .1 .solved passed-u),
+      halves-solved (s .args .z) (s .args .l) (secret s) (chosen s) (m .v-is-order .size) (v .1 .1 .solved (v-passed else1)) (m .v-few) (m .u-is-order .size)
+          (m .u-few) (u .1 .1 .solved (u-passed c)),
     )
 
 pub solve-halves-spec : {M : Type 1} → statement M

@@ -15,7 +15,8 @@ use Rattle.trits.proofs.Tests.{both-apart}
 use Rattle.bench.specs.{addedTo, sumRefusal}
 
 -- one time more
-pub added-turn : {o t p q : List ℕ} {n : ℕ} (i : ℕ) (u v : ℕ → Trit) → Reads o t n (addedTo i u v) → Reads p q (length o) (zipV addT (tritAt o t) v) → Reads p q n (addedTo (i + 1) u v)
+pub added-turn : {o t p q : List ℕ} {n : ℕ} (i : ℕ) (u v : ℕ → Trit) → Reads o t n (addedTo i u v) → Reads p q (length o) (zipV addT (tritAt o t) v)
+    → Reads p q n (addedTo (i + 1) u v)
 unfolding addedTo
 added-turn i u v r f = record {
   row = f .row;
@@ -29,7 +30,8 @@ pub record Addable (ones twos so st : List ℕ) : Type 0 where
   pub source : Row so st
   pub same : length so ≡ length ones
 
-pub addable : (ones twos so st : List ℕ) → ((j : ℕ) → Fits w64 (getD ones j 0)) → ((j : ℕ) → Fits w64 (getD twos j 0)) → ((j : ℕ) → Fits w64 (getD so j 0)) → ((j : ℕ) → Fits w64 (getD st j 0))
+pub addable : (ones twos so st : List ℕ) → ((j : ℕ) → Fits w64 (getD ones j 0)) → ((j : ℕ) → Fits w64 (getD twos j 0)) → ((j : ℕ) → Fits w64 (getD so j 0))
+    → ((j : ℕ) → Fits w64 (getD st j 0))
     → sumRefusal ones twos so st ≡ 0 → Addable ones twos so st
 unfolding sumRefusal
 addable ones twos so st h₁ h₂ h₃ h₄ e =

@@ -58,7 +58,8 @@ fn weigh_times(
     times: usize,
 ) -> u64
     requires { ⌜ ForWeigh held (now ones) (now twos) (now «y_ones») (now «y_twos») (now «s_ones») (now «s_twos») (now «work_ones») (now «work_twos») ⌝ }
-    ensures { λ r. ⌜ r ≡ after times (heldWeight held (now (ones .entry)) (now (twos .entry)) (tritAt (now («y_ones» .entry)) (now («y_twos» .entry))) (tritAt (now («s_ones» .entry)) (now («s_twos» .entry)))) ⌝ }
+    ensures { λ r. ⌜ r ≡ after times (heldWeight held (now (ones .entry)) (now (twos .entry)) (tritAt (now («y_ones» .entry)) (now («y_twos» .entry)))
+        (tritAt (now («s_ones» .entry)) (now («s_twos» .entry)))) ⌝ }
 {
     let mut weight: u64 = 0;
     let mut i = 0;
@@ -143,7 +144,8 @@ fn weigh_packed_times(
     times: usize,
 ) -> u64
     requires { ⌜ ForWeighPacked held (now ones) (now twos) (now y) (now s) (now «work_ones») (now «work_twos») ⌝ }
-    ensures { λ r. ⌜ r ≡ after times (heldWeight held (now (ones .entry)) (now (twos .entry)) (packedRow (rowTrits held) (now (y .entry))) (packedRow (held .k) (now (s .entry)))) ⌝ }
+    ensures { λ r. ⌜ r ≡ after times (heldWeight held (now (ones .entry)) (now (twos .entry)) (packedRow (rowTrits held) (now (y .entry)))
+        (packedRow (held .k) (now (s .entry)))) ⌝ }
 {
     let mut weight: u64 = 0;
     let mut i = 0;

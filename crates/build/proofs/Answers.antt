@@ -48,7 +48,8 @@ module _ (z : Sizes) (i : BuildCall) where
       answer-contents {x} g h = g ∙ by (eqb (secretRefusal z (i .secret)) 0) (isOrder (places z) (i .start)) (λ y. h (g ∙ y)) ∙ chain
         where
           by : (a b : Bool) → (cond a (demand b 7 0) (secretRefusal z (i .secret)) ≡ 0 → ⊥)
-              → cond a (demand b 7 0) (secretRefusal z (i .secret)) ≡ cond a (demand b 7 (buildRefusal z (secretOf z (i .secret)))) (secretRefusal z (i .secret))
+              → cond a (demand b 7 0) (secretRefusal z (i .secret)) ≡ cond a (demand b 7 (buildRefusal z (secretOf z (i .secret))))
+              (secretRefusal z (i .secret))
           by true true k = absurd (k refl)
           by true false k = refl
           by false b k = refl
@@ -60,7 +61,8 @@ module _ (z : Sizes) (i : BuildCall) where
           let b = passed-demand (isOrder (places z) (i .start)) 7 0 (lit< tt) (a .1) in
           by (isOrder (places z) (i .start)) (b .0) (secretRefusal z (i .secret)) (a .0) ∙ chain
         where
-          by : (t : Bool) → t ≡ true → (x : ℕ) → x ≡ 0 → buildRefusal z (secretOf z (i .secret)) ≡ first x (demand t 7 (buildRefusal z (secretOf z (i .secret))))
+          by : (t : Bool) → t ≡ true → (x : ℕ) → x ≡ 0
+              → buildRefusal z (secretOf z (i .secret)) ≡ first x (demand t 7 (buildRefusal z (secretOf z (i .secret))))
           by t u x y = rw (u, y)
 
 pub contents-le : (z : Sizes) (i : BuildCall) → contents z i ≤ 8
@@ -107,7 +109,8 @@ module _ (z : Sizes) (i : BuildCall) (e : buildLengthsDiffer z i ≡ false) wher
   unfolding buildLengthsDiffer
   lengths-secret = secret-lengths z (i .secret) _ e
 
-  pub lengths-key : KeyLengths z (length (i .start)) (length (i .p)) (length (i .key .ones)) (length (i .key .twos)) (length (i .work .ones)) (length (i .work .twos))
+  pub lengths-key : KeyLengths z (length (i .start)) (length (i .p)) (length (i .key .ones)) (length (i .key .twos)) (length (i .work .ones))
+      (length (i .work .twos))
   unfolding buildLengthsDiffer
   lengths-key = key-same z _ _ _ _ _ _ (or-false-both (differs z (i .secret)) _ e .1)
 

@@ -5,9 +5,9 @@ use Prim.Native.Nat.{_*_, ℕ}
 use lib.ListN.{length}
 use Rattle.scheme.specs.Sizes.{sizesFit, places, dim}
 use Rattle.matrix.specs.Orders.{Order}
-use Rattle.calls.specs.Lent.{planes, Readable}
+use Rattle.calls.specs.Lent.{planes}
 use Rattle.calls.specs.BuildCall.{keyRowWords, buildWorkWords}
-use Rattle.calls.specs.Steps.{SecretLengths}
+use Rattle.calls.specs.Steps.{SecretLengths, Readable}
 use mathlib.Core.List.{List}
 use Rattle.scheme.specs.declared.sizes.Sizes.{Sizes}
 

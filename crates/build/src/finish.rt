@@ -30,14 +30,16 @@ pub fn finish(
     work_ones: &mut [u64],
     work_twos: &mut [u64],
 ) -> Outcome
-    requires { ⌜ ForFinishBuild z (now «hu_ones») (now «hu_twos») (now «hv_ones») (now «hv_twos») (now «b_ones») (now «b_twos») (now «c_ones») (now «c_twos») (now start) (now p) (now «key_ones») (now «key_twos») (now «work_ones») (now «work_twos») ⌝ }
+    requires { ⌜ ForFinishBuild z (now «hu_ones») (now «hu_twos») (now «hv_ones») (now «hv_twos») (now «b_ones») (now «b_twos») (now «c_ones») (now «c_twos»)
+        (now start) (now p) (now «key_ones») (now «key_twos») (now «work_ones») (now «work_twos») ⌝ }
     ensures { λ r. ⌜ (let s = secretOf z (planes (now («hu_ones» .entry)) (now («hu_twos» .entry)) (now («hv_ones» .entry)) (now («hv_twos» .entry))
         (now («b_ones» .entry)) (now («b_twos» .entry)) (now («c_ones» .entry)) (now («c_twos» .entry))) in
         (codeOf r ≡ buildRefusal z s)
         × (now (p .exit) ≡ atExit (buildRefusal z s) (keyOrder z s (now (start .entry))) (now (p .entry)))
         × (now («key_ones» .exit) ≡ atExit (buildRefusal z s) (keyOnesOf z s (now (start .entry))) (now («key_ones» .entry)))
         × (now («key_twos» .exit) ≡ atExit (buildRefusal z s) (keyTwosOf z s (now (start .entry))) (now («key_twos» .entry)))
-        × (now («work_ones» .exit) ≡ zeroWords (length (now («work_ones» .entry)))) × (now («work_twos» .exit) ≡ zeroWords (length (now («work_twos» .entry))))) ⌝ }
+        × (now («work_ones» .exit) ≡ zeroWords (length (now («work_ones» .entry))))
+        × (now («work_twos» .exit) ≡ zeroWords (length (now («work_twos» .entry))))) ⌝ }
 {
     let tested = ranks::test_ranks(z, hu_ones, hu_twos, hv_ones, hv_twos, work_ones, work_twos);
     if trits::refusal::code(tested) == 0 {

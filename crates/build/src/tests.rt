@@ -73,7 +73,8 @@ pub fn test_contents(
 ) -> Outcome
     requires { ⌜ ForTestContentsBuild z (now «hu_ones») (now «hu_twos») (now «hv_ones») (now «hv_twos») (now «b_ones») (now «b_twos»)
         (now «c_ones») (now «c_twos») (now start) ⌝ }
-    ensures { λ r. ⌜ codeOf r ≡ first (secretRefusal z (planes (now («hu_ones» .entry)) (now («hu_twos» .entry)) (now («hv_ones» .entry)) (now («hv_twos» .entry))
+    ensures { λ r. ⌜ codeOf r ≡ first (secretRefusal z (planes (now («hu_ones» .entry)) (now («hu_twos» .entry)) (now («hv_ones» .entry))
+        (now («hv_twos» .entry))
         (now («b_ones» .entry)) (now («b_twos» .entry)) (now («c_ones» .entry)) (now («c_twos» .entry))))
         (demand (isOrder (places z) (now (start .entry))) 7 0) ⌝ }
 {

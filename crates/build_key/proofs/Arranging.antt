@@ -74,19 +74,23 @@ module _ {r half hw w : ℕ} {H : Matrix} {start : List ℕ} {j : ℕ} {ones two
     unfolding placedAt
     place-taken h =
         let x = has-row r j (colOf half hw (getD order j 0)) (matrixAt w ones twos) h in
-        subst (λ (B : Matrix). State r (length start) H start f (suc j) order (λ i q. B i (colOf half hw q))) (sym (step-has r j (colOf half hw (getD order j 0)) (matrixAt w ones twos) h))
+        subst (λ (B : Matrix). State r (length start) H start f (suc j) order (λ i q. B i (colOf half hw q)))
+        (sym (step-has r j (colOf half hw (getD order j 0)) (matrixAt w ones twos) h))
         (taken r (length start) H start f j order (λ i q. matrixAt w ones twos i (colOf half hw q)) (a .state) more
         (pivotRow r (matrixAt w ones twos) (colOf half hw (getD order j 0)) j) (x .0) (x .1) (x .2))
 
     place-turned : hasPivot r j (colOf half hw (getD order j 0)) (matrixAt w ones twos) ≡ false
-        → State r (length start) H start f j (swap j (j + f) order) (λ i q. stepOf r j (colOf half hw (getD order j 0)) (matrixAt w ones twos) i (colOf half hw q))
+        → State r (length start) H start f j (swap j (j + f) order)
+        (λ i q. stepOf r j (colOf half hw (getD order j 0)) (matrixAt w ones twos) i (colOf half hw q))
     unfolding placedAt
     place-turned h =
-        subst (λ (B : Matrix). State r (length start) H start f j (swap j (j + f) order) (λ i q. B i (colOf half hw q))) (sym (step-none r j (colOf half hw (getD order j 0)) (matrixAt w ones twos) h))
+        subst (λ (B : Matrix). State r (length start) H start f j (swap j (j + f) order) (λ i q. B i (colOf half hw q)))
+        (sym (step-none r j (colOf half hw (getD order j 0)) (matrixAt w ones twos) h))
         (turned r (length start) H start f j order (λ i q. matrixAt w ones twos i (colOf half hw q)) (a .state) more
         (has-none r j (colOf half hw (getD order j 0)) (matrixAt w ones twos) h))
 
-    state-of : (o t : List ℕ) {p : List ℕ} {k k′ : ℕ} {p′ : List ℕ} (B : Matrix) → k ≡ k′ → p ≡ p′ → matrixAt w o t ≡ B → State r (length start) H start f k′ p′ (λ i q. B i (colOf half hw q))
+    state-of : (o t : List ℕ) {p : List ℕ} {k k′ : ℕ} {p′ : List ℕ} (B : Matrix) → k ≡ k′ → p ≡ p′ → matrixAt w o t ≡ B
+        → State r (length start) H start f k′ p′ (λ i q. B i (colOf half hw q))
         → State r (length start) H start f k p (placedAt half hw w o t)
     unfolding placedAt
     state-of o t {p} {k} {k′} {p′} B ek ep e s =
@@ -137,11 +141,13 @@ turn-facts {r} {H = H} {start} a e l =
     record { some = s; first = n .0; last = n .1; low = n .2 }
 
 -- the end
-pub arrange-done : {r half hw w : ℕ} {H : Matrix} {start : List ℕ} {f j : ℕ} {ones twos order : List ℕ} → Arranging r half hw w H start f j ones twos order → r ≤ j
+pub arrange-done : {r half hw w : ℕ} {H : Matrix} {start : List ℕ} {f j : ℕ} {ones twos order : List ℕ} → Arranging r half hw w H start f j ones twos order
+    → r ≤ j
     → (order ≡ arranged r (length start) H start .order) × Keyed r (length start) H (placedAt half hw w ones twos) order
 arrange-done {r} {half} {hw} {w} {H} {start} {f} {j} {ones} {twos} {order} a h =
     let e : j ≡ r = omega (arith, a .kept) in
-    let d = finished r (length start) H start f order (placedAt half hw w ones twos) (subst (λ (z : ℕ). State r (length start) H start f z order (placedAt half hw w ones twos)) e (a .state)) in
+    let d = finished r (length start) H start f order (placedAt half hw w ones twos)
+    (subst (λ (z : ℕ). State r (length start) H start f z order (placedAt half hw w ones twos)) e (a .state)) in
     (sym (ap (λ (a : Arrangement). a .order) (d .0)), record { entry = d .1 })
 
 -- ---- an order that one column changed, or left

@@ -26,12 +26,15 @@ module _ (f : ℕ → List ℕ) (w : ℕ) (s : (i : ℕ) → length (f i) ≡ w)
   unfolding rowsOf
   rows-none l = let z : 0 ≡ 0 * w = omega arith in ap (λ (n : ℕ). drop n l) z
 
-  pub rows-more : {k : ℕ} {l ys : List ℕ} (i : ℕ) (l₀ : List ℕ) → l ≡ rowsOf f i ++ drop (i * w) l₀ → k ≡ w → ys ≡ f i → putMid (i * w) k l ys ≡ rowsOf f (i + 1) ++ drop ((i + 1) * w) l₀
+  pub rows-more : {k : ℕ} {l ys : List ℕ} (i : ℕ) (l₀ : List ℕ) → l ≡ rowsOf f i ++ drop (i * w) l₀ → k ≡ w → ys ≡ f i
+      → putMid (i * w) k l ys ≡ rowsOf f (i + 1) ++ drop ((i + 1) * w) l₀
   unfolding rowsOf
   rows-more {k} {l} {ys} i l₀ e d y =
       let X = rowsOf f i in
-      let a : take (i * w) l ≡ X = ap (take (i * w)) e ∙ subst (λ (n : ℕ). take n (X ++ drop (i * w) l₀) ≡ X) (length-rows f w s i) (take-front X (drop (i * w) l₀)) in
-      let b : drop (i * w) l ≡ drop (i * w) l₀ = ap (drop (i * w)) e ∙ subst (λ (n : ℕ). drop n (X ++ drop (i * w) l₀) ≡ drop (i * w) l₀) (length-rows f w s i) (drop-front X (drop (i * w) l₀)) in
+      let a : take (i * w) l ≡ X = ap (take (i * w)) e
+      ∙ subst (λ (n : ℕ). take n (X ++ drop (i * w) l₀) ≡ X) (length-rows f w s i) (take-front X (drop (i * w) l₀)) in
+      let b : drop (i * w) l ≡ drop (i * w) l₀ = ap (drop (i * w)) e
+      ∙ subst (λ (n : ℕ). drop n (X ++ drop (i * w) l₀) ≡ drop (i * w) l₀) (length-rows f w s i) (drop-front X (drop (i * w) l₀)) in
       let c : i * w + k ≡ (i + 1) * w = omega (arith, d, suc-mul i w, ap (λ (n : ℕ). n * w) (add-one i)) in
       ap₂ (λ (x z : List ℕ). x ++ (ys ++ drop k z)) a b
       ∙ ap₂ (λ (x z : List ℕ). X ++ (x ++ z)) y (drop-drop k (i * w) l₀ ∙ ap (λ (n : ℕ). drop n l₀) c)
@@ -48,7 +51,8 @@ module _ (f : ℕ → List ℕ) (w : ℕ) (s : (i : ℕ) → length (f i) ≡ w)
 
   pub rows-all : {l : List ℕ} (i k : ℕ) (l₀ : List ℕ) → l ≡ rowsOf f i ++ drop (i * w) l₀ → i ≡ k → length l₀ ≡ k * w → l ≡ rowsOf f k
   rows-all {l} i k l₀ e p z =
-      e ∙ ap (λ (n : ℕ). rowsOf f n ++ drop (n * w) l₀) p ∙ ap (λ (t : List ℕ). rowsOf f k ++ t) (drop-of-length-le l₀ {i = k * w} (omega arith)) ∙ append-nil (rowsOf f k)
+      e ∙ ap (λ (n : ℕ). rowsOf f n ++ drop (n * w) l₀) p ∙ ap (λ (t : List ℕ). rowsOf f k ++ t) (drop-of-length-le l₀ {i = k * w} (omega arith))
+      ∙ append-nil (rowsOf f k)
 
 pub rows-same : (f g : ℕ → List ℕ) (k : ℕ) → ((i : ℕ) → i < k → f i ≡ g i) → rowsOf f k ≡ rowsOf g k
 unfolding rowsOf
@@ -91,4 +95,5 @@ module _ (r N hw : ℕ) (A : Matrix) (p : List ℕ) (kw : ℕ) where
 pub down-row : (N hw w : ℕ) (o t : List ℕ) {r n : ℕ} {H : Matrix} {p : List ℕ} → Keyed r n H (placedAt N hw w o t) p → (i : ℕ) → r + i < n
     → readDown r N hw (matrixAt w o t) p i ≡ upTo r (rowOfR r n H p i)
 unfolding readDown placedAt
-down-row N hw w o t {r} {n} {H} {p} k i h = upto-same r (column (matrixAt w o t) (colOf N hw (getD p (r + i) 0))) (rowOfR r n H p i) (λ c l. sym (k .entry i c l h))
+down-row N hw w o t {r} {n} {H} {p} k i h = upto-same r (column (matrixAt w o t) (colOf N hw (getD p (r + i) 0))) (rowOfR r n H p i)
+    (λ c l. sym (k .entry i c l h))

@@ -46,7 +46,8 @@ pub fn try_column(
     requires { ⌜ ForTryColumn (now ones) (now twos) rows w c (now order) j l ⌝ }
     ensures { λ r. ⌜ r ≡ cond (hasPivot rows j c (matrixAt w (now (ones .entry)) (now (twos .entry)))) (suc j) j ⌝ }
     ensures { λ _. ⌜ Grid (now (ones .exit)) (now (twos .exit)) rows w (stepOf rows j c (matrixAt w (now (ones .entry)) (now (twos .entry)))) ⌝ }
-    ensures { λ _. ⌜ now (order .exit) ≡ cond (hasPivot rows j c (matrixAt w (now (ones .entry)) (now (twos .entry)))) (now (order .entry)) (swap j l (now (order .entry))) ⌝ }
+    ensures { λ _. ⌜ now (order .exit) ≡ cond (hasPivot rows j c (matrixAt w (now (ones .entry)) (now (twos .entry)))) (now (order .entry))
+        (swap j l (now (order .entry))) ⌝ }
 {
     if elimination::step::step(ones, twos, rows, w, c, j) {
         return j + 1;
@@ -66,7 +67,8 @@ pub fn arrange(
     order: &mut [u16],
 )
     requires { ⌜ ForArrange (now ones) (now twos) rows w half hw (now order) ⌝ }
-    ensures { λ _. ⌜ now (order .exit) ≡ arranged rows (length (now (order .entry))) (placedAt half hw w (now (ones .entry)) (now (twos .entry))) (now (order .entry)) .order ⌝ }
+    ensures { λ _. ⌜ now (order .exit) ≡ arranged rows (length (now (order .entry))) (placedAt half hw w (now (ones .entry)) (now (twos .entry)))
+        (now (order .entry)) .order ⌝ }
     ensures { λ _. ⌜ Keyed rows (length (now (order .entry))) (placedAt half hw w (now (ones .entry)) (now (twos .entry)))
         (placedAt half hw w (now (ones .exit)) (now (twos .exit))) (now (order .exit)) ⌝ }
     ensures { λ _. ⌜ Rows (now (ones .exit)) (now (twos .exit)) rows w ⌝ }

@@ -20,7 +20,8 @@ pub fn put_column(
     kt: &mut [u64],
 )
     requires { ⌜ ForPutColumn (now ones) (now twos) rows w c (now ko) (now kt) ⌝ }
-    ensures { λ _. ⌜ Reads (now (ko .exit)) (now (kt .exit)) (length (now (ko .entry))) (upTo rows (column (matrixAt w (now (ones .entry)) (now (twos .entry))) c)) ⌝ }
+    ensures { λ _. ⌜ Reads (now (ko .exit)) (now (kt .exit)) (length (now (ko .entry)))
+        (upTo rows (column (matrixAt w (now (ones .entry)) (now (twos .entry))) c)) ⌝ }
 {
     let mut i = 0;
     while i < rows {

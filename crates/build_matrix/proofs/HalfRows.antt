@@ -31,7 +31,8 @@ scaled-past b c h q e = law2 (λ x y. t0) (λ x y. mulT (addT t1 (mulT x y)) t0)
 pub negative-past : (v h : Vector) (q : ℕ) → h q ≡ t0 → t0 ≡ negativeBy v h q
 negative-past v h q e = law2 (λ x y. t0) (λ x y. negT (mulT x t0)) tt (v q) (v q) ∙ ap (λ (x : Trit). negT (mulT (v q) x)) (sym e)
 
-module _ {ho ht o t o₂ t₂ : List ℕ} {n : ℕ} (v : Vector) (e : o ≡ ho) (f : t ≡ ht) (l : length ho ≡ n) (m : Reads o₂ t₂ (length o) (zipV mulT (tritAt o t) v)) where
+module _ {ho ht o t o₂ t₂ : List ℕ} {n : ℕ} (v : Vector) (e : o ≡ ho) (f : t ≡ ht) (l : length ho ≡ n)
+    (m : Reads o₂ t₂ (length o) (zipV mulT (tritAt o t) v)) where
   times : tritAt o₂ t₂ ≡ zipV mulT (tritAt ho ht) v
   times = m .trits ∙ ap₂ (λ (a b : List ℕ). zipV mulT (tritAt a b) v) e f
 
@@ -42,7 +43,8 @@ module _ {ho ht o t o₂ t₂ : List ℕ} {n : ℕ} (v : Vector) (e : o ≡ ho) 
     trits = d .trits ∙ ap negV times ∙ negative-trits (tritAt ho ht) v;
   }
 
-  pub scaled-done : {o₃ t₃ o₄ t₄ : List ℕ} (c : Vector) → Reads o₃ t₃ (length o₂) (zipV mulT (tritAt o₂ t₂) c) → Reads o₄ t₄ (length o₃) (zipV addT (tritAt o₃ t₃) (tritAt ho ht))
+  pub scaled-done : {o₃ t₃ o₄ t₄ : List ℕ} (c : Vector) → Reads o₃ t₃ (length o₂) (zipV mulT (tritAt o₂ t₂) c)
+      → Reads o₄ t₄ (length o₃) (zipV addT (tritAt o₃ t₃) (tritAt ho ht))
       → Reads o₄ t₄ n (scaledBy v c (tritAt ho ht))
   scaled-done c d s = record {
     row = s .row;
@@ -56,7 +58,8 @@ module _ (a : ℕ) (L R A : Matrix) where
   module _ (m j q : ℕ) where
     pub halves-low : j < a + a → halvesIn a m L R A j q ≡ A j q
     unfolding halvesIn
-    halves-low h = ap (λ (s : Bool). cond (s && ltb j (a + m + (a + m))) (cond (eqb (j % 2) 0) (L (j / 2 - a) q) (R (j / 2 - a) q)) (A j q)) (lt-leb (a + a) j h)
+    halves-low h = ap (λ (s : Bool). cond (s && ltb j (a + m + (a + m))) (cond (eqb (j % 2) 0) (L (j / 2 - a) q) (R (j / 2 - a) q)) (A j q))
+        (lt-leb (a + a) j h)
 
     halves-high : a + m + (a + m) ≤ j → halvesIn a m L R A j q ≡ A j q
     unfolding halvesIn
@@ -80,7 +83,8 @@ module _ (a : ℕ) (L R A : Matrix) where
   halves-right m i q h =
       let e : (a + i + (a + i) + 1) / 2 - a ≡ i = omega arith in
       halves-mid m (a + i + (a + i) + 1) q (omega arith) (omega arith)
-      ∙ ap (λ (s : Bool). cond s (L ((a + i + (a + i) + 1) / 2 - a) q) (R ((a + i + (a + i) + 1) / 2 - a) q)) (ne-eqb ((a + i + (a + i) + 1) % 2) 0 (λ z. omega arith))
+      ∙ ap (λ (s : Bool). cond s (L ((a + i + (a + i) + 1) / 2 - a) q) (R ((a + i + (a + i) + 1) / 2 - a) q))
+      (ne-eqb ((a + i + (a + i) + 1) % 2) 0 (λ z. omega arith))
       ∙ ap (λ (n : ℕ). R n q) e
 
   pub halves-none : A ≡ halvesIn a 0 L R A
@@ -105,7 +109,8 @@ module _ (a : ℕ) (L R A : Matrix) where
       by : (j q : ℕ) → Dec (j ≡ a + i + (a + i) + 1) → Dec (j ≡ a + i + (a + i))
           → putRow (a + i + (a + i) + 1) r (putRow (a + i + (a + i)) l (halvesIn a i L R A)) j q ≡ halvesIn a (i + 1) L R A j q
       by j q (yes g) d =
-          rw (eq-eqb j (a + i + (a + i) + 1) g) (ap (λ (v : Vector). v q) f ∙ sym (halves-right (i + 1) i q (omega arith)) ∙ ap (λ (k : ℕ). halvesIn a (i + 1) L R A k q) (sym g))
+          rw (eq-eqb j (a + i + (a + i) + 1) g) (ap (λ (v : Vector). v q) f ∙ sym (halves-right (i + 1) i q (omega arith))
+          ∙ ap (λ (k : ℕ). halvesIn a (i + 1) L R A k q) (sym g))
       by j q (no g) (yes d) =
           rw (ne-eqb j (a + i + (a + i) + 1) g, eq-eqb j (a + i + (a + i)) d)
           (ap (λ (v : Vector). v q) e ∙ sym (halves-left (i + 1) i q (omega arith)) ∙ ap (λ (k : ℕ). halvesIn a (i + 1) L R A k q) (sym d))
@@ -120,5 +125,6 @@ halves-turn {w = w} a L R A {i} {l} {s} m n g em en e f g₁ g₂ =
     grid-to g₂
     (ap₂ (λ (k : ℕ) (B : Matrix). putRow k s B) en (g₁ .cells ∙ ap₂ (λ (k : ℕ) (B : Matrix). putRow k l B) em (g .cells)) ∙ halves-next a L R A i l s e f)
 
-pub halves-done : {o t : List ℕ} {r w : ℕ} (a : ℕ) (L R A : Matrix) {i : ℕ} (m : ℕ) → i ≡ m → Grid o t r w (halvesIn a i L R A) → Grid o t r w (halvesIn a m L R A)
+pub halves-done : {o t : List ℕ} {r w : ℕ} (a : ℕ) (L R A : Matrix) {i : ℕ} (m : ℕ) → i ≡ m → Grid o t r w (halvesIn a i L R A)
+    → Grid o t r w (halvesIn a m L R A)
 halves-done a L R A m e g = grid-to g (ap (λ (n : ℕ). halvesIn a n L R A) e)

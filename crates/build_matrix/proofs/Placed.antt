@@ -51,7 +51,8 @@ module _ (N hw : ℕ) (o t : List ℕ) (fit : N ≤ 64 * hw) (i : ℕ) where
       by (no f) = cell-past (hw + hw) o t i (64 * hw + (q - N)) (omega arith) ∙ sym (cell-past hw o t (i + i + 1) (q - N) (omega arith))
 
 -- the half-rows of U, then those of V, are the secret matrix
-module _ (z : Sizes) (hw : ℕ) {o t uo ut vo vt : List ℕ} (b c : Vector) (A : Matrix) (fit : half z ≤ 64 * hw) (u : Rows uo ut (ru z) hw) (v : Rows vo vt (rv z) hw)
+module _ (z : Sizes) (hw : ℕ) {o t uo ut vo vt : List ℕ} (b c : Vector) (A : Matrix) (fit : half z ≤ 64 * hw) (u : Rows uo ut (ru z) hw)
+    (v : Rows vo vt (rv z) hw)
     (g : Grid o t (codim z + codim z) hw
     (halvesIn (ru z) (rv z) (leftV (matrixAt hw vo vt) c) (matrixAt hw vo vt)
     (halvesIn 0 (ru z) (leftU (matrixAt hw uo ut) b c) (rightU (matrixAt hw uo ut) b) A))) where
@@ -80,11 +81,13 @@ module _ (z : Sizes) (hw : ℕ) {o t uo ut vo vt : List ℕ} (b c : Vector) (A :
   left : (i q : ℕ) → Dec (i < ru z) → Dec (i < codim z) → matrixAt hw o t (i + i) q ≡ cond (ltb i (ru z)) (LU i q) (LV (i - ru z) q)
   left i q (yes l) d =
       at (i + i) q ∙ halves-low (ru z) LV HV U (rv z) (i + i) q (omega arith)
-      ∙ ap (λ (n : ℕ). U n q) (omega arith) ∙ halves-left 0 LU RU A (ru z) i q l ∙ ap (λ (s : Bool). cond s (LU i q) (LV (i - ru z) q)) (sym (lt-ltb i (ru z) l))
+      ∙ ap (λ (n : ℕ). U n q) (omega arith) ∙ halves-left 0 LU RU A (ru z) i q l
+      ∙ ap (λ (s : Bool). cond s (LU i q) (LV (i - ru z) q)) (sym (lt-ltb i (ru z) l))
   left i q (no f) (yes d) =
       let e : i + i ≡ ru z + (i - ru z) + (ru z + (i - ru z)) = omega arith in
       at (i + i) q ∙ ap (λ (n : ℕ). halvesIn (ru z) (rv z) LV HV U n q) e
-      ∙ halves-left (ru z) LV HV U (rv z) (i - ru z) q (omega arith) ∙ ap (λ (s : Bool). cond s (LU i q) (LV (i - ru z) q)) (sym (le-ltb i (ru z) (omega arith)))
+      ∙ halves-left (ru z) LV HV U (rv z) (i - ru z) q (omega arith)
+      ∙ ap (λ (s : Bool). cond s (LU i q) (LV (i - ru z) q)) (sym (le-ltb i (ru z) (omega arith)))
   left i q (no f) (no d) =
       cell-none (g .rows) (i + i) q (omega arith) ∙ negative-past c (HV (i - ru z)) q (cell-none v (i - ru z) q (omega arith))
       ∙ ap (λ (s : Bool). cond s (LU i q) (LV (i - ru z) q)) (sym (le-ltb i (ru z) (omega arith)))
@@ -92,11 +95,13 @@ module _ (z : Sizes) (hw : ℕ) {o t uo ut vo vt : List ℕ} (b c : Vector) (A :
   right : (i q : ℕ) → Dec (i < ru z) → Dec (i < codim z) → matrixAt hw o t (i + i + 1) q ≡ cond (ltb i (ru z)) (RU i q) (HV (i - ru z) q)
   right i q (yes l) d =
       at (i + i + 1) q ∙ halves-low (ru z) LV HV U (rv z) (i + i + 1) q (omega arith)
-      ∙ ap (λ (n : ℕ). U n q) (omega arith) ∙ halves-right 0 LU RU A (ru z) i q l ∙ ap (λ (s : Bool). cond s (RU i q) (HV (i - ru z) q)) (sym (lt-ltb i (ru z) l))
+      ∙ ap (λ (n : ℕ). U n q) (omega arith) ∙ halves-right 0 LU RU A (ru z) i q l
+      ∙ ap (λ (s : Bool). cond s (RU i q) (HV (i - ru z) q)) (sym (lt-ltb i (ru z) l))
   right i q (no f) (yes d) =
       let e : i + i + 1 ≡ ru z + (i - ru z) + (ru z + (i - ru z)) + 1 = omega arith in
       at (i + i + 1) q ∙ ap (λ (n : ℕ). halvesIn (ru z) (rv z) LV HV U n q) e
-      ∙ halves-right (ru z) LV HV U (rv z) (i - ru z) q (omega arith) ∙ ap (λ (s : Bool). cond s (RU i q) (HV (i - ru z) q)) (sym (le-ltb i (ru z) (omega arith)))
+      ∙ halves-right (ru z) LV HV U (rv z) (i - ru z) q (omega arith)
+      ∙ ap (λ (s : Bool). cond s (RU i q) (HV (i - ru z) q)) (sym (le-ltb i (ru z) (omega arith)))
   right i q (no f) (no d) =
       cell-none (g .rows) (i + i + 1) q (omega arith) ∙ sym (cell-none v (i - ru z) q (omega arith))
       ∙ ap (λ (s : Bool). cond s (RU i q) (HV (i - ru z) q)) (sym (le-ltb i (ru z) (omega arith)))
@@ -111,10 +116,13 @@ module _ (z : Sizes) (hw : ℕ) {o t uo ut vo vt : List ℕ} (b c : Vector) (A :
   placed-secret = fun-ext (λ i. fun-ext (λ q. by i q (decLt q (half z)) ∙ sym (joined (ltb i (ru z)) i q)))
     where
       by : (i q : ℕ) → Dec (q < half z)
-          → placedAt (half z) hw (hw + hw) o t i q ≡ cond (ltb q (half z)) (cond (ltb i (ru z)) (LU i q) (LV (i - ru z) q)) (cond (ltb i (ru z)) (RU i (q - half z)) (HV (i - ru z) (q - half z)))
+          → placedAt (half z) hw (hw + hw) o t i q ≡ cond (ltb q (half z)) (cond (ltb i (ru z)) (LU i q) (LV (i - ru z) q))
+          (cond (ltb i (ru z)) (RU i (q - half z)) (HV (i - ru z) (q - half z)))
       by i q (yes l) =
           placed-left (half z) hw o t fit i q l ∙ left i q (decLt i (ru z)) (decLt i (codim z))
-          ∙ ap (λ (s : Bool). cond s (cond (ltb i (ru z)) (LU i q) (LV (i - ru z) q)) (cond (ltb i (ru z)) (RU i (q - half z)) (HV (i - ru z) (q - half z)))) (sym (lt-ltb q (half z) l))
+          ∙ ap (λ (s : Bool). cond s (cond (ltb i (ru z)) (LU i q) (LV (i - ru z) q)) (cond (ltb i (ru z)) (RU i (q - half z)) (HV (i - ru z) (q - half z))))
+          (sym (lt-ltb q (half z) l))
       by i q (no f) =
           placed-right (half z) hw o t fit i q (omega arith) ∙ right i (q - half z) (decLt i (ru z)) (decLt i (codim z))
-          ∙ ap (λ (s : Bool). cond s (cond (ltb i (ru z)) (LU i q) (LV (i - ru z) q)) (cond (ltb i (ru z)) (RU i (q - half z)) (HV (i - ru z) (q - half z)))) (sym (le-ltb q (half z) (omega arith)))
+          ∙ ap (λ (s : Bool). cond s (cond (ltb i (ru z)) (LU i q) (LV (i - ru z) q)) (cond (ltb i (ru z)) (RU i (q - half z)) (HV (i - ru z) (q - half z))))
+          (sym (le-ltb q (half z) (omega arith)))

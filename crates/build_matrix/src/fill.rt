@@ -22,8 +22,10 @@ pub fn fill_u(
 )
     requires { ⌜ ForFillU (now ones) (now twos) rows w ru (now ho) (now ht) (now bo) (now bt) (now co) (now ct) ⌝ }
     ensures { λ _. ⌜ Grid (now (ones .exit)) (now (twos .exit)) rows w
-        (halvesIn 0 ru (leftU (matrixAt w (now (ho .entry)) (now (ht .entry))) (tritAt (now (bo .entry)) (now (bt .entry))) (tritAt (now (co .entry)) (now (ct .entry))))
-        (rightU (matrixAt w (now (ho .entry)) (now (ht .entry))) (tritAt (now (bo .entry)) (now (bt .entry)))) (matrixAt w (now (ones .entry)) (now (twos .entry)))) ⌝ }
+        (halvesIn 0 ru (leftU (matrixAt w (now (ho .entry)) (now (ht .entry))) (tritAt (now (bo .entry)) (now (bt .entry)))
+        (tritAt (now (co .entry)) (now (ct .entry))))
+        (rightU (matrixAt w (now (ho .entry)) (now (ht .entry))) (tritAt (now (bo .entry)) (now (bt .entry))))
+        (matrixAt w (now (ones .entry)) (now (twos .entry)))) ⌝ }
 {
     let mut i = 0;
     while i < ru {

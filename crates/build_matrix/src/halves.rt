@@ -56,7 +56,8 @@ pub fn put_scaled(
 )
     requires { ⌜ ForPutScaled (now ones) (now twos) rows w j (now ho) (now ht) (now bo) (now bt) (now co) (now ct) ⌝ }
     ensures { λ _. ⌜ Grid (now (ones .exit)) (now (twos .exit)) rows w
-        (putRow j (scaledBy (tritAt (now (bo .entry)) (now (bt .entry))) (tritAt (now (co .entry)) (now (ct .entry))) (tritAt (now (ho .entry)) (now (ht .entry))))
+        (putRow j (scaledBy (tritAt (now (bo .entry)) (now (bt .entry))) (tritAt (now (co .entry)) (now (ct .entry)))
+        (tritAt (now (ho .entry)) (now (ht .entry))))
         (matrixAt w (now (ones .entry)) (now (twos .entry)))) ⌝ }
 {
     let a = j * w;

@@ -50,8 +50,14 @@ module _ (z : Sizes) (s : Secret) {u : ℕ} (eu : u ≡ rank (ru z) (half z) (s 
   module _ {v : ℕ} (fu : u ≡ ru z) (ev : v ≡ rank (rv z) (half z) (s .hv) (range (half z))) where
     pub lacks-v : (v ≡ rv z → ⊥) → 10 ≡ buildRefusal z s
     unfolding buildRefusal
-    lacks-v f = rw (eq-eqb (rank (ru z) (half z) (s .hu) (range (half z))) (ru z) (sym eu ∙ fu), ne-eqb (rank (rv z) (half z) (s .hv) (range (half z))) (rv z) (λ e. f (ev ∙ e)))
+    lacks-v f = rw (
+      eq-eqb (rank (ru z) (half z) (s .hu) (range (half z))) (ru z) (sym eu ∙ fu),
+      ne-eqb (rank (rv z) (half z) (s .hv) (range (half z))) (rv z) (λ e. f (ev ∙ e)),
+    )
 
     pub lacks-none : v ≡ rv z → 0 ≡ buildRefusal z s
     unfolding buildRefusal
-    lacks-none fv = rw (eq-eqb (rank (ru z) (half z) (s .hu) (range (half z))) (ru z) (sym eu ∙ fu), eq-eqb (rank (rv z) (half z) (s .hv) (range (half z))) (rv z) (sym ev ∙ fv))
+    lacks-none fv = rw (
+      eq-eqb (rank (ru z) (half z) (s .hu) (range (half z))) (ru z) (sym eu ∙ fu),
+      eq-eqb (rank (rv z) (half z) (s .hv) (range (half z))) (rv z) (sym ev ∙ fv),
+    )

@@ -64,7 +64,8 @@ pub fn test_ranks(
     work_twos: &mut [u64],
 ) -> Outcome
     requires { ⌜ ForTestRanks z (now «hu_ones») (now «hu_twos») (now «hv_ones») (now «hv_twos») (now «work_ones») (now «work_twos») ⌝ }
-    ensures { λ r. ⌜ codeOf r ≡ buildRefusal z (matrices z (now («hu_ones» .entry)) (now («hu_twos» .entry)) (now («hv_ones» .entry)) (now («hv_twos» .entry))) ⌝ }
+    ensures { λ r. ⌜ codeOf r ≡ buildRefusal z (matrices z (now («hu_ones» .entry)) (now («hu_twos» .entry)) (now («hv_ones» .entry))
+        (now («hv_twos» .entry))) ⌝ }
 {
     let half = z.n as usize / 2;
     let hw = (half + 63) / 64;

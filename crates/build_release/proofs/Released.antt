@@ -29,21 +29,28 @@ use Rattle.build_matrix.specs.Steps.{placedAt, halvesIn, leftU, rightU, leftV}
 use Rattle.build_matrix.proofs.Placed.{rows-joined, placed-secret}
 use Rattle.build_key.specs.Steps.{Keyed, readDown, keyOnes, keyTwos}
 use Rattle.build_key.proofs.Written.{rows-same, down-row}
-use Rattle.calls.specs.Lent.{Planes, halfWords, secretOf, Readable}
+use Rattle.calls.specs.Lent.{Planes, halfWords, secretOf}
+use Rattle.calls.specs.Steps.{Readable}
 use Rattle.calls.specs.BuildCall.{keyRowWords, buildWorkWords, keyOnesOf, keyTwosOf}
 use Rattle.calls.proofs.Bounds.{Bounds}
 use Rattle.build_release.specs.Steps.{Filled}
 
 -- working planes of 0, as half-rows
-pub zero-rows : (z : Sizes) {o t : List ℕ} (n k : ℕ) → o ≡ zeroWords n → t ≡ zeroWords k → n ≡ buildWorkWords z → k ≡ buildWorkWords z → Rows o t (codim z + codim z) (halfWords z)
+pub zero-rows : (z : Sizes) {o t : List ℕ} (n k : ℕ) → o ≡ zeroWords n → t ≡ zeroWords k → n ≡ buildWorkWords z → k ≡ buildWorkWords z
+    → Rows o t (codim z + codim z) (halfWords z)
 zero-rows z {o} {t} n k e f a b =
     copied-rows (e ∙ ap zeroWords a) (f ∙ ap zeroWords b)
-    (record { row = zeros-row (buildWorkWords z); size = length-zeros (buildWorkWords z) ∙ omega (arith, mul-add (codim z) (halfWords z) (halfWords z), add-mul (codim z) (codim z) (halfWords z)) })
+    (record {
+      row = zeros-row (buildWorkWords z);
+      size = length-zeros (buildWorkWords z) ∙ omega (arith, mul-add (codim z) (halfWords z) (halfWords z), add-mul (codim z) (codim z) (halfWords z));
+    })
 
 -- both parts filled
 pub filled-done : (z : Sizes) (k : Planes) {o₁ t₁ o t : List ℕ} (A : Matrix) → Readable z k
-    → Grid o₁ t₁ (codim z + codim z) (halfWords z) (halvesIn 0 (ru z) (leftU (secretOf z k .hu) (secretOf z k .b) (secretOf z k .c)) (rightU (secretOf z k .hu) (secretOf z k .b)) A)
-    → Grid o t (codim z + codim z) (halfWords z) (halvesIn (ru z) (rv z) (leftV (secretOf z k .hv) (secretOf z k .c)) (secretOf z k .hv) (matrixAt (halfWords z) o₁ t₁)) → Filled z (secretOf z k) o t
+    → Grid o₁ t₁ (codim z + codim z) (halfWords z) (halvesIn 0 (ru z) (leftU (secretOf z k .hu) (secretOf z k .b) (secretOf z k .c))
+    (rightU (secretOf z k .hu) (secretOf z k .b)) A)
+    → Grid o t (codim z + codim z) (halfWords z) (halvesIn (ru z) (rv z) (leftV (secretOf z k .hv) (secretOf z k .c)) (secretOf z k .hv)
+    (matrixAt (halfWords z) o₁ t₁)) → Filled z (secretOf z k) o t
 filled-done z k {o₁} {t₁} {o} {t} A r g h = record {
   rows = rows-joined (h .rows);
   cells = placed-secret z (halfWords z) (secretOf z k .b) (secretOf z k .c) A (omega arith) (r .hu) (r .hv)
@@ -63,7 +70,8 @@ pub same-ranks : (z : Sizes) (s r : Secret) → s .hu ≡ r .hu → s .hv ≡ r 
 unfolding buildRefusal
 same-ranks z s r e f = rw (e, f)
 
-module _ (z : Sizes) (s : Secret) (start : List ℕ) {o t p : List ℕ} (f : Filled z s o t) (e : p ≡ start) (n : length start ≡ places z) (ord : Order (places z) start)
+module _ (z : Sizes) (s : Secret) (start : List ℕ) {o t p : List ℕ} (f : Filled z s o t) (e : p ≡ start) (n : length start ≡ places z)
+    (ord : Order (places z) start)
     (full : rank (codim z) (places z) (secretMatrix z s) (range (places z)) ≡ codim z) where
   pub ready-size : length p ≡ places z
   ready-size = ap length e ∙ n
@@ -89,7 +97,8 @@ module _ (z : Sizes) (s : Secret) (start : List ℕ) {o t p : List ℕ} (f : Fil
     pub final-ready : Order (length q) q
     final-ready = subst (λ (m : ℕ). Order m q) (sym (final-good .size)) final-good
 
-    module _ (o₂ t₂ : List ℕ) (k : Keyed (codim z) (length p) (placedAt (half z) (halfWords z) (halfWords z + halfWords z) o t) (placedAt (half z) (halfWords z) (halfWords z + halfWords z) o₂ t₂) q)
+    module _ (o₂ t₂ : List ℕ) (k : Keyed (codim z) (length p) (placedAt (half z) (halfWords z) (halfWords z + halfWords z) o t)
+        (placedAt (half z) (halfWords z) (halfWords z + halfWords z) o₂ t₂) q)
         (b : Bounds z) where
       keyed : Keyed (codim z) (places z) (secretMatrix z s) (placedAt (half z) (halfWords z) (halfWords z + halfWords z) o₂ t₂) q
       keyed = subst₂ (λ (m : ℕ) (H : Matrix). Keyed (codim z) m H (placedAt (half z) (halfWords z) (halfWords z + halfWords z) o₂ t₂) q) ready-size (f .cells) k

@@ -7,7 +7,8 @@ use Rattle.scheme.specs.declared.sizes.Sizes.{Sizes}
 use Rattle.scheme.specs.Sizes.{half, codim, sizesFit, places, dim}
 use Rattle.scheme.specs.Secret.{Secret, secretMatrix}
 use Rattle.build_matrix.specs.Steps.{placedAt}
-use Rattle.calls.specs.Lent.{halfWords, planes, Readable, secretOf}
+use Rattle.calls.specs.Lent.{halfWords, planes, secretOf}
+use Rattle.calls.specs.Steps.{Readable}
 use mathlib.Core.Bool.{true}
 use lib.ListN.{length}
 use Rattle.calls.specs.BuildCall.{buildWorkWords, keyRowWords}
@@ -31,7 +32,8 @@ pub record ForRelease (z : Sizes) (huOnes huTwos hvOnes hvTwos bOnes bTwos cOnes
   pub sizes : sizesFit z ≡ true
   pub secret : Readable z (planes huOnes huTwos hvOnes hvTwos bOnes bTwos cOnes cTwos)
   pub is-order : Order (places z) start
-  pub rank-full : rank (codim z) (places z) (secretMatrix z (secretOf z (planes huOnes huTwos hvOnes hvTwos bOnes bTwos cOnes cTwos))) (range (places z)) ≡ codim z
+  pub rank-full : rank (codim z) (places z) (secretMatrix z (secretOf z (planes huOnes huTwos hvOnes hvTwos bOnes bTwos cOnes cTwos))) (range (places z)) ≡
+      codim z
   pub p-size : length p ≡ places z
   pub key-ones-size : length keyOnes ≡ dim z * keyRowWords z
   pub key-twos-size : length keyTwos ≡ dim z * keyRowWords z

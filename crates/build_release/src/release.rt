@@ -22,7 +22,8 @@ pub fn fill_matrix(
     work_ones: &mut [u64],
     work_twos: &mut [u64],
 )
-    requires { ⌜ ForFillMatrix z (now «hu_ones») (now «hu_twos») (now «hv_ones») (now «hv_twos») (now «b_ones») (now «b_twos») (now «c_ones») (now «c_twos») (now «work_ones») (now «work_twos») ⌝ }
+    requires { ⌜ ForFillMatrix z (now «hu_ones») (now «hu_twos») (now «hv_ones») (now «hv_twos») (now «b_ones») (now «b_twos») (now «c_ones») (now «c_twos»)
+        (now «work_ones») (now «work_twos») ⌝ }
     ensures { λ _. ⌜ Filled z (secretOf z (planes (now («hu_ones» .entry)) (now («hu_twos» .entry)) (now («hv_ones» .entry)) (now («hv_twos» .entry))
         (now («b_ones» .entry)) (now («b_twos» .entry)) (now («c_ones» .entry)) (now («c_twos» .entry))))
         (now («work_ones» .exit)) (now («work_twos» .exit)) ⌝ }
@@ -76,7 +77,8 @@ pub fn release(
     work_ones: &mut [u64],
     work_twos: &mut [u64],
 )
-    requires { ⌜ ForRelease z (now «hu_ones») (now «hu_twos») (now «hv_ones») (now «hv_twos») (now «b_ones») (now «b_twos») (now «c_ones») (now «c_twos») (now start) (now p) (now «key_ones») (now «key_twos») (now «work_ones») (now «work_twos») ⌝ }
+    requires { ⌜ ForRelease z (now «hu_ones») (now «hu_twos») (now «hv_ones») (now «hv_twos») (now «b_ones») (now «b_twos») (now «c_ones») (now «c_twos»)
+        (now start) (now p) (now «key_ones») (now «key_twos») (now «work_ones») (now «work_twos») ⌝ }
     ensures { λ _. ⌜ (let s = secretOf z (planes (now («hu_ones» .entry)) (now («hu_twos» .entry)) (now («hv_ones» .entry)) (now («hv_twos» .entry))
         (now («b_ones» .entry)) (now («b_twos» .entry)) (now («c_ones» .entry)) (now («c_twos» .entry))) in
         (now (p .exit) ≡ keyOrder z s (now (start .entry)))

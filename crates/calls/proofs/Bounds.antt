@@ -26,7 +26,15 @@ bounds z h =
     let a = and-eq-true-iff (leb 4 (z .n)) _ .0 h in
     let b = and-eq-true-iff (leb (z .n) 16384) _ .0 (a .1) in
     let r = sizes-fit z h in
-    record { low = leb-true 4 (z .n) (a .0); high = leb-true (z .n) 16384 (b .0); ku = r .ku-low; kv = r .kv-low; gu = r .gu-low; gv = r .gv-low; even = r .even }
+    record {
+      low = leb-true 4 (z .n) (a .0);
+      high = leb-true (z .n) 16384 (b .0);
+      ku = r .ku-low;
+      kv = r .kv-low;
+      gu = r .gu-low;
+      gv = r .gv-low;
+      even = r .even;
+    }
 
 pub prod : (a b A B : ℕ) → a ≤ A → b ≤ B → a * b ≤ A * B
 prod a b A B h g = mul-le-mul h g

@@ -16,7 +16,7 @@ use Rattle.matrix.specs.Linear.{Vector, elem}
 use Rattle.matrix.specs.Orders.{isOrder}
 use Rattle.matrix.proofs.Places.{elem-append}
 use Rattle.matrix.proofs.Field.{number-set, number-unset}
-use Rattle.calls.specs.Lent.{flag, Marked, markPlace, allSet}
+use Rattle.calls.specs.Steps.{flag, Marked, markPlace, allSet}
 use Rattle.scheme.specs.Secret.{hasZero}
 
 -- ---- marks
@@ -51,8 +51,10 @@ or-true false = refl
 elem-one : (v x : ℕ) (b : Bool) → eqb v x ≡ b → elem v (x ∷ []) ≡ b
 elem-one v x b e = ap (λ (t : Bool). t || false) e ∙ or-false b
 
-pub marked-turn : {n : ℕ} (l : List ℕ) {flags f : List ℕ} (i : ℕ) → Marked n (take i l) flags → i < length l → n ≤ length flags → f ≡ markPlace (getD l i 0) n flags → Marked n (take (i + 1) l) f
-marked-turn {n} l {flags} {f} i m h b e = record { place = λ v k. ap (λ (z : List ℕ). getD z v 0) e ∙ by v k (ℕ-discrete v (getD l i 0)) ∙ sym (ap flag (more v)) }
+pub marked-turn : {n : ℕ} (l : List ℕ) {flags f : List ℕ} (i : ℕ) → Marked n (take i l) flags → i < length l → n ≤ length flags
+    → f ≡ markPlace (getD l i 0) n flags → Marked n (take (i + 1) l) f
+marked-turn {n} l {flags} {f} i m h b e =
+    record { place = λ v k. ap (λ (z : List ℕ). getD z v 0) e ∙ by v k (ℕ-discrete v (getD l i 0)) ∙ sym (ap flag (more v)) }
   where
     x : ℕ
     x = getD l i 0
@@ -68,10 +70,12 @@ marked-turn {n} l {flags} {f} i m h b e = record { place = λ v k. ap (λ (z : L
     by v k (yes g) =
         ap (λ (z : List ℕ). getD z v 0) (sym (mark-in (getD l i 0) n flags (omega arith)))
         ∙ ap (λ (q : ℕ). getD (set flags (getD l i 0) 1) q 0) g ∙ getD-set-same flags (getD l i 0) 1 0 (omega arith)
-        ∙ sym (ap (λ (t : Bool). flag (elem v (take i l) || t)) (elem-one v (getD l i 0) true (eq-eqb v (getD l i 0) g)) ∙ ap flag (or-true (elem v (take i l))))
+        ∙ sym (ap (λ (t : Bool). flag (elem v (take i l) || t)) (elem-one v (getD l i 0) true (eq-eqb v (getD l i 0) g))
+        ∙ ap flag (or-true (elem v (take i l))))
     by v k (no g) =
         other v k g (decLt (getD l i 0) n) ∙ m .place v k
-        ∙ sym (ap (λ (t : Bool). flag (elem v (take i l) || t)) (elem-one v (getD l i 0) false (ne-eqb v (getD l i 0) g)) ∙ ap flag (or-false (elem v (take i l))))
+        ∙ sym (ap (λ (t : Bool). flag (elem v (take i l) || t)) (elem-one v (getD l i 0) false (ne-eqb v (getD l i 0) g))
+        ∙ ap flag (or-false (elem v (take i l))))
 
 pub marked-all : {n : ℕ} (l : List ℕ) {flags : List ℕ} (i : ℕ) → Marked n (take i l) flags → i ≡ length l → Marked n l flags
 marked-all l i m e = record { place = λ v k. m .place v k ∙ ap (λ (z : List ℕ). flag (elem v z)) (take-all i l (omega arith)) }

@@ -17,8 +17,8 @@ use Rattle.matrix.specs.Linear.{Vector}
 use Rattle.matrix.proofs.Field.{not-false}
 use Rattle.scheme.specs.declared.sizes.Sizes.{Sizes}
 use Rattle.scheme.specs.Sizes.{half, ru, rv}
-use Rattle.calls.specs.Lent.{Planes, halfWords, pairDiffers, secretDiffers, secretRefusal, Readable}
-use Rattle.calls.specs.Steps.{SecretLengths}
+use Rattle.calls.specs.Lent.{Planes, halfWords, pairDiffers, secretDiffers, secretRefusal}
+use Rattle.calls.specs.Steps.{SecretLengths, Readable}
 use Rattle.calls.proofs.Marks.{isZero}
 use Rattle.calls.proofs.Exits.{Low, planes-low}
 use Rattle.scheme.specs.Secret.{hasZero}
@@ -120,8 +120,10 @@ module _ (z : Sizes) (i : Planes) {x : ℕ} (a : x ≡ refusalHU z i) where
 
 pub readable : (z : Sizes) (i : Planes)
     → Lengths z i → secretRefusal z i ≡ 0
-    → ((j : ℕ) → Fits w64 (getD (i .hu .ones) j 0)) → ((j : ℕ) → Fits w64 (getD (i .hu .twos) j 0)) → ((j : ℕ) → Fits w64 (getD (i .hv .ones) j 0)) → ((j : ℕ) → Fits w64 (getD (i .hv .twos) j 0))
-    → ((j : ℕ) → Fits w64 (getD (i .b .ones) j 0)) → ((j : ℕ) → Fits w64 (getD (i .b .twos) j 0)) → ((j : ℕ) → Fits w64 (getD (i .c .ones) j 0)) → ((j : ℕ) → Fits w64 (getD (i .c .twos) j 0)) → Readable z i
+    → ((j : ℕ) → Fits w64 (getD (i .hu .ones) j 0)) → ((j : ℕ) → Fits w64 (getD (i .hu .twos) j 0)) → ((j : ℕ) → Fits w64 (getD (i .hv .ones) j 0))
+    → ((j : ℕ) → Fits w64 (getD (i .hv .twos) j 0))
+    → ((j : ℕ) → Fits w64 (getD (i .b .ones) j 0)) → ((j : ℕ) → Fits w64 (getD (i .b .twos) j 0)) → ((j : ℕ) → Fits w64 (getD (i .c .ones) j 0))
+    → ((j : ℕ) → Fits w64 (getD (i .c .twos) j 0)) → Readable z i
 unfolding secretRefusal
 readable z i l e f1 f2 f3 f4 f5 f6 f7 f8 =
     let A = passed-first (refusalHU z i) _ e in

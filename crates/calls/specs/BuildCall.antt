@@ -1,4 +1,5 @@
--- The call `build`: its refusals in the paper's order, and each lent buffer at exit ("Building a key", "Turned back by the input", "Turned back by the state"). Assumes nothing.
+-- The call `build`: its refusals in the paper's order, and each lent buffer at exit ("Building a
+-- key", "Turned back by the input", "Turned back by the state"). Assumes nothing.
 use mathlib.Core.Bool.{Bool, _||_}
 use mathlib.Core.List.{List}
 use Prim.Native.Nat.{ℕ, _+_, _*_}
@@ -44,7 +45,8 @@ keyDiffers z s p k1 k2 w1 w2 = pairDiffers (places z) s p || (pairDiffers (dim z
 unfoldable pub buildLengthsDiffer : Sizes → BuildCall → Bool
 buildLengthsDiffer z i =
     let k = i .secret in
-    secretDiffers z (length (k .hu .ones)) (length (k .hu .twos)) (length (k .hv .ones)) (length (k .hv .twos)) (length (k .b .ones)) (length (k .b .twos)) (length (k .c .ones)) (length (k .c .twos))
+    secretDiffers z (length (k .hu .ones)) (length (k .hu .twos)) (length (k .hv .ones)) (length (k .hv .twos)) (length (k .b .ones)) (length (k .b .twos))
+    (length (k .c .ones)) (length (k .c .twos))
     || keyDiffers z (length (i .start)) (length (i .p)) (length (i .key .ones)) (length (i .key .twos)) (length (i .work .ones)) (length (i .work .twos))
 
 -- ---- the answer: 1, every length, the contents of the secret and of the starting order, then 9 and 10

@@ -1,4 +1,5 @@
--- The call `draw`: its refusals in the paper's order, and each lent buffer at exit ("One draw", "Turned back by the input", "Turned back by the state"). Assumes nothing.
+-- The call `draw`: its refusals in the paper's order, and each lent buffer at exit ("One draw",
+-- "Turned back by the input", "Turned back by the state"). Assumes nothing.
 use mathlib.Core.Bool.{Bool, not, _||_, cond}
 use mathlib.Core.List.{List}
 use Prim.Native.Nat.{ℕ, _+_, _-_, _*_}
@@ -29,7 +30,8 @@ pub record DrawCall : Type 0 where
   pub s : Pair
   pub work : Pair
 
-abbrev pub drawCall : Planes → List ℕ → List ℕ → List ℕ → List ℕ → List ℕ → List ℕ → List ℕ → List ℕ → List ℕ → List ℕ → List ℕ → List ℕ → List ℕ → List ℕ → List ℕ → DrawCall
+abbrev pub drawCall : Planes → List ℕ → List ℕ → List ℕ → List ℕ → List ℕ → List ℕ → List ℕ → List ℕ → List ℕ → List ℕ → List ℕ → List ℕ → List ℕ → List ℕ
+    → List ℕ → DrawCall
 drawCall s p yo yt ov vo vt ou uo ut eo et so st wo wt = record {
   secret = s;
   p = p;
@@ -76,8 +78,10 @@ choicesDiffer z p y1 y2 ov v1 v2 ou u1 u2 e1 e2 s1 s2 w1 w2 =
 unfoldable pub drawLengthsDiffer : Sizes → DrawCall → Bool
 drawLengthsDiffer z i =
     let k = i .secret in
-    secretDiffers z (length (k .hu .ones)) (length (k .hu .twos)) (length (k .hv .ones)) (length (k .hv .twos)) (length (k .b .ones)) (length (k .b .twos)) (length (k .c .ones)) (length (k .c .twos))
-    || choicesDiffer z (length (i .p)) (length (i .y .ones)) (length (i .y .twos)) (length (i .orderV)) (length (i .v .ones)) (length (i .v .twos)) (length (i .orderU)) (length (i .u .ones)) (length (i .u .twos))
+    secretDiffers z (length (k .hu .ones)) (length (k .hu .twos)) (length (k .hv .ones)) (length (k .hv .twos)) (length (k .b .ones)) (length (k .b .twos))
+    (length (k .c .ones)) (length (k .c .twos))
+    || choicesDiffer z (length (i .p)) (length (i .y .ones)) (length (i .y .twos)) (length (i .orderV)) (length (i .v .ones)) (length (i .v .twos))
+    (length (i .orderU)) (length (i .u .ones)) (length (i .u .twos))
     (length (i .word .ones)) (length (i .word .twos)) (length (i .s .ones)) (length (i .s .twos)) (length (i .work .ones)) (length (i .work .twos))
 
 -- ---- 3, 4, 7 and 8: the contents, buffer after buffer

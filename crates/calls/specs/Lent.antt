@@ -1,16 +1,12 @@
--- What both calls of the editor's half are lent: the secret in planes ("The secret pairs"), its lengths and its contents, and orders ("Turned back by the input"). Assumes nothing.
-use mathlib.Core.Path.{_≡_}
-use mathlib.Core.Bool.{Bool, not, _||_, cond}
+-- What both calls of the editor's half are lent: the secret in planes ("The secret pairs"), its
+-- lengths and its contents, and orders ("Turned back by the input"). Assumes nothing.
+use mathlib.Core.Bool.{Bool, not, _||_}
 use mathlib.Core.List.{List}
-use Prim.Native.Nat.{ℕ, _*_, _<_}
-use lib.Dec.{eqb, ltb}
-use lib.ListN.{length, getD, set}
-use Rattle.trits.specs.Trit.{anyTo}
-use Rattle.trits.specs.Planes.{Pair, pairOf, Row, tritAt, wordsFor}
+use Prim.Native.Nat.{ℕ, _*_}
+use lib.Dec.{eqb}
+use Rattle.trits.specs.Planes.{Pair, pairOf, tritAt, wordsFor}
 use Rattle.trits.specs.Rows.{matrixAt}
 use Rattle.trits.specs.Refusal.{refuse, first, planesRefusal}
-use Rattle.matrix.specs.Linear.{elem}
-use Rattle.grid.specs.Steps.{Rows}
 use Rattle.scheme.specs.declared.sizes.Sizes.{Sizes}
 use Rattle.scheme.specs.Sizes.{half, ru, rv}
 use Rattle.scheme.specs.Secret.{Secret, hasZero}
@@ -65,30 +61,3 @@ secretRefusal z i =
     (first (planesRefusal (i .c .ones) (i .c .twos) 1 (half z))
     (refuse (hasZero (half z) (tritAt (i .c .ones) (i .c .twos))) 8
     0))))
-
--- what a secret whose lengths and contents are right has: rows that can be read, of the right sizes
-pub record Readable (z : Sizes) (i : Planes) : Type 0 where
-  pub hu : Rows (i .hu .ones) (i .hu .twos) (ru z) (halfWords z)
-  pub hv : Rows (i .hv .ones) (i .hv .twos) (rv z) (halfWords z)
-  pub b : Row (i .b .ones) (i .b .twos)
-  pub c : Row (i .c .ones) (i .c .twos)
-  pub bSize : length (i .b .ones) ≡ halfWords z
-  pub cSize : length (i .c .ones) ≡ halfWords z
-
--- ---- 7: the test of an order, by a flag for each place
-
--- 1 for yes
-abbrev pub flag : Bool → ℕ
-flag t = cond t 1 0
-
--- the flags of the places below n say which stand in the list
-pub record Marked (n : ℕ) (l flags : List ℕ) : Type 0 where
-  pub place : (v : ℕ) → v < n → getD flags v 0 ≡ flag (elem v l)
-
--- the flag of place v is set, where v is below n
-unfoldable pub markPlace : ℕ → ℕ → List ℕ → List ℕ
-markPlace v n flags = cond (ltb v n) (set flags v 1) flags
-
--- every flag below n is set
-unfoldable pub allSet : ℕ → List ℕ → Bool
-allSet n flags = not (anyTo (λ q. eqb (getD flags q 0) 0) n)

@@ -4,7 +4,7 @@ ghost use mathlib.Core.List.{[]};
 ghost use Prim.Native.Nat.{_≤_};
 ghost use lib.ListN.{length};
 ghost use Rattle.matrix.specs.Orders.{isOrder};
-ghost use Rattle.calls.specs.Lent.{Marked, markPlace, allSet};
+ghost use Rattle.calls.specs.Steps.{Marked, markPlace, allSet};
 
 // The place v is marked, where it is below n.
 pub fn mark_place(v: usize, n: usize, flags: &mut [u8])

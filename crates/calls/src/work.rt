@@ -17,7 +17,8 @@ pub fn more_rows(ru: usize, rv: usize) -> usize
 
 // Both working planes are made 0.
 pub fn clear(work_ones: &mut [u64], work_twos: &mut [u64])
-    ensures { λ _. ⌜ (now («work_ones» .exit) ≡ zeroWords (length (now («work_ones» .entry)))) × (now («work_twos» .exit) ≡ zeroWords (length (now («work_twos» .entry)))) ⌝ }
+    ensures { λ _. ⌜ (now («work_ones» .exit) ≡ zeroWords (length (now («work_ones» .entry))))
+        × (now («work_twos» .exit) ≡ zeroWords (length (now («work_twos» .entry)))) ⌝ }
 {
     planes::words::zero_words(work_ones);
     planes::words::zero_words(work_twos);

@@ -25,7 +25,8 @@ pub record Called (h : Held) (number ones twos workOnes workTwos : ℕ) : Type 0
   pub work-ones : workOnes ≡ rowWords h
   pub work-twos : workTwos ≡ rowWords h
 
-pub called : (h : Held) (number ones twos workOnes workTwos : ℕ) → callRefusal h number ones twos workOnes workTwos ≡ 0 → Called h number ones twos workOnes workTwos
+pub called : (h : Held) (number ones twos workOnes workTwos : ℕ) → callRefusal h number ones twos workOnes workTwos ≡ 0
+    → Called h number ones twos workOnes workTwos
 unfolding callRefusal
 called h number ones twos wo wt e =
     let a = passed-refuse (eqb (h .begun) 0) 20 _ (lit< tt) e in
@@ -36,7 +37,15 @@ called h number ones twos wo wt e =
     let g = passed-demand (eqb twos (keyWords h)) 2 _ (lit< tt) (f .1) in
     let i = passed-demand (eqb wo (rowWords h)) 2 _ (lit< tt) (g .1) in
     let j = passed-demand (eqb wt (rowWords h)) 2 0 (lit< tt) (i .1) in
-    record { is-sound = b .0; all-rows = eqb-true _ _ (c .0); named = eqb-true _ _ (d .0); ones-are = eqb-true _ _ (f .0); twos-are = eqb-true _ _ (g .0); work-ones = eqb-true _ _ (i .0); work-twos = eqb-true _ _ (j .0) }
+    record {
+      is-sound = b .0;
+      all-rows = eqb-true _ _ (c .0);
+      named = eqb-true _ _ (d .0);
+      ones-are = eqb-true _ _ (f .0);
+      twos-are = eqb-true _ _ (g .0);
+      work-ones = eqb-true _ _ (i .0);
+      work-twos = eqb-true _ _ (j .0);
+    }
 
 pub whole : {h : Held} {number : ℕ} {ones twos : List ℕ} {wo wt : ℕ} → Called h number (length ones) (length twos) wo wt → Whole h ones twos
 whole p = record { is-sound = p .is-sound; all-rows = p .all-rows; ones-size = p .ones-are; twos-size = p .twos-are }

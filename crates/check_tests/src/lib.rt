@@ -116,7 +116,8 @@ fn test_contents(
 ) -> Outcome
     requires { ⌜ Whole held (now ones) (now twos) ⌝ }
     requires { ⌜ planesLengths held (length (now «y_ones»)) (length (now «y_twos»)) (length (now «s_ones»)) (length (now «s_twos»)) ≡ 0 ⌝ }
-    ensures { λ r. ⌜ codeOf r ≡ planesContents held (now (ones .entry)) (now (twos .entry)) (now («y_ones» .entry)) (now («y_twos» .entry)) (now («s_ones» .entry)) (now («s_twos» .entry)) ⌝ }
+    ensures { λ r. ⌜ codeOf r ≡ planesContents held (now (ones .entry)) (now (twos .entry)) (now («y_ones» .entry)) (now («y_twos» .entry))
+        (now («s_ones» .entry)) (now («s_twos» .entry)) ⌝ }
 {
     let m = held_key::state::row_trits(held);
     let k = held.k as usize;

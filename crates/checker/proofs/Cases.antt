@@ -15,7 +15,8 @@ use Rattle.held_key.specs.Held.{numbersFit, sound, heldRow, heldKey}
 use Rattle.held_key.specs.Store.{beginRefusal, begunHeld, beginHeld, packedStoreOf, rowRefusal, storePackedRefusal, nextHeld, storedHeld, storedPlane}
 use Rattle.held_key.specs.Load.{offer, offerAll}
 use Rattle.check_tests.specs.Check.{callRefusal, planesLengths, planesContents, packedLengths, packedContents, heldWeight, answered}
-use Rattle.check_tests.specs.Check.{checkOf, checkRefusal, checkAnswer, packedCheckOf, checkPackedRefusal, checkPackedAnswer, checkPackedWorkOnes, checkPackedWorkTwos}
+use Rattle.check_tests.specs.Check.{checkOf, checkRefusal, checkAnswer, packedCheckOf, checkPackedRefusal, checkPackedAnswer, checkPackedWorkOnes}
+use Rattle.check_tests.specs.Check.{checkPackedWorkTwos}
 
 -- P 7 4 2 4, over a state of any numbers
 abbrev held : ℕ → Held
@@ -55,7 +56,8 @@ abbrev rows : ℕ → List ℕ
 rows i = cond (eqb i 0) (6 ∷ []) (8 ∷ [])
 
 loaded : offerAll rows 2 (record { held = held 0; ones = 99 ∷ 99 ∷ []; twos = 98 ∷ 98 ∷ [] }) ≡ record { held = held 2; ones = 0 ∷ 0 ∷ []; twos = 2 ∷ 3 ∷ [] }
-unfolding offerAll offer storedHeld storedPlane storePackedRefusal first rowRefusal sound numbersFit packedRefusal badByte anyTo nextHeld putWords onesOf twosOf tabulate fromBits packedRow packedAt digitOf upTo
+unfolding offerAll offer storedHeld storedPlane storePackedRefusal first rowRefusal sound numbersFit packedRefusal badByte anyTo nextHeld putWords onesOf twosOf
+    tabulate fromBits packedRow packedAt digitOf upTo
 loaded = refl
 
 -- a third row is 21
@@ -66,13 +68,15 @@ third = refl
 -- S 7 12 12 11: weight 4, yes
 line-1 : checkPackedAnswer (packedCheckOf (held 2) 7 (0 ∷ 0 ∷ []) (2 ∷ 3 ∷ []) (7 ∷ []) (4 ∷ []) (5 ∷ []) (5 ∷ []))
     ≡ record { refusal = 0; yes = 1; weight = 4 }
-unfolding checkPackedAnswer answered checkPackedRefusal first callRefusal sound numbersFit packedLengths packedContents planesRefusal bothSet anyTo bitAt bit rowsPastEnd rowPart heldRow pastEnd tritAt packedRefusal badByte heldWeight fullWeight sumTo fullWord timesKey dotV heldKey packedRow packedAt digitOf upTo
+unfolding checkPackedAnswer answered checkPackedRefusal first callRefusal sound numbersFit packedLengths packedContents planesRefusal bothSet anyTo bitAt bit
+    rowsPastEnd rowPart heldRow pastEnd tritAt packedRefusal badByte heldWeight fullWeight sumTo fullWord timesKey dotV heldKey packedRow packedAt digitOf upTo
 line-1 = refl
 
 -- S 7 13 12 12: weight 3, no
 line-2 : checkPackedAnswer (packedCheckOf (held 2) 7 (0 ∷ 0 ∷ []) (2 ∷ 3 ∷ []) (7 ∷ []) (7 ∷ []) (5 ∷ []) (5 ∷ []))
     ≡ record { refusal = 0; yes = 0; weight = 3 }
-unfolding checkPackedAnswer answered checkPackedRefusal first callRefusal sound numbersFit packedLengths packedContents planesRefusal bothSet anyTo bitAt bit rowsPastEnd rowPart heldRow pastEnd tritAt packedRefusal badByte heldWeight fullWeight sumTo fullWord timesKey dotV heldKey packedRow packedAt digitOf upTo
+unfolding checkPackedAnswer answered checkPackedRefusal first callRefusal sound numbersFit packedLengths packedContents planesRefusal bothSet anyTo bitAt bit
+    rowsPastEnd rowPart heldRow pastEnd tritAt packedRefusal badByte heldWeight fullWeight sumTo fullWord timesKey dotV heldKey packedRow packedAt digitOf upTo
 line-2 = refl
 
 -- S 8 14 12 11: 22
@@ -84,7 +88,8 @@ line-3 = refl
 -- the first of them in planes
 line-1-planes : checkAnswer (checkOf (held 2) 7 (0 ∷ 0 ∷ []) (2 ∷ 3 ∷ []) (1 ∷ []) (2 ∷ []) (3 ∷ []) (0 ∷ []) (5 ∷ []) (5 ∷ []))
     ≡ record { refusal = 0; yes = 1; weight = 4 }
-unfolding checkAnswer answered checkRefusal first callRefusal sound numbersFit planesLengths planesContents planesRefusal bothSet anyTo bitAt bit rowsPastEnd rowPart heldRow pastEnd tritAt heldWeight fullWeight sumTo fullWord timesKey dotV heldKey
+unfolding checkAnswer answered checkRefusal first callRefusal sound numbersFit planesLengths planesContents planesRefusal bothSet anyTo bitAt bit rowsPastEnd
+    rowPart heldRow pastEnd tritAt heldWeight fullWeight sumTo fullWord timesKey dotV heldKey
 line-1-planes = refl
 
 -- no key begun before all else; a state out of its ranges before missing rows; these before another key number; that before a length
@@ -118,12 +123,14 @@ unfolding checkPackedRefusal first callRefusal sound numbersFit packedLengths pa
 past = refl
 
 large : checkPackedRefusal (packedCheckOf (held 2) 7 (0 ∷ 0 ∷ []) (2 ∷ 3 ∷ []) (243 ∷ []) (4 ∷ []) (5 ∷ []) (5 ∷ [])) ≡ 5
-unfolding checkPackedRefusal first callRefusal sound numbersFit packedLengths packedContents planesRefusal bothSet anyTo bitAt bit rowsPastEnd rowPart pastEnd packedRefusal badByte
+unfolding checkPackedRefusal first callRefusal sound numbersFit packedLengths packedContents planesRefusal bothSet anyTo bitAt bit rowsPastEnd rowPart pastEnd
+    packedRefusal badByte
 large = refl
 
 -- the working space: zero after a verdict, as it was after a refusal
 cleared : checkPackedWorkOnes (packedCheckOf (held 2) 7 (0 ∷ 0 ∷ []) (2 ∷ 3 ∷ []) (7 ∷ []) (4 ∷ []) (5 ∷ []) (6 ∷ [])) ≡ 0 ∷ []
-unfolding spaceExit checkPackedRefusal first callRefusal sound numbersFit packedLengths packedContents planesRefusal bothSet anyTo bitAt bit rowsPastEnd rowPart pastEnd packedRefusal badByte zeroWords tabulate
+unfolding spaceExit checkPackedRefusal first callRefusal sound numbersFit packedLengths packedContents planesRefusal bothSet anyTo bitAt bit rowsPastEnd rowPart
+    pastEnd packedRefusal badByte zeroWords tabulate
 cleared = refl
 
 kept : checkPackedWorkTwos (packedCheckOf (held 2) 8 (0 ∷ 0 ∷ []) (2 ∷ 3 ∷ []) (7 ∷ []) (4 ∷ []) (5 ∷ []) (6 ∷ [])) ≡ 6 ∷ []

@@ -58,7 +58,12 @@ module _ (number n k w : ℕ) (z : numbersFit number n k w ≡ true) (rows : ℕ
   module _ (i : ℕ) (ones twos : List ℕ) (l : i < k) (p : length ones ≡ k * wordsFor (n - k)) (q : length twos ≡ k * wordsFor (n - k)) where
     state-passes : rowRefusal (heldAt i) (length ones) (length twos) ≡ 0
     unfolding rowRefusal
-    state-passes = rw (sound-at i (omega arith), ne-eqb i k (λ e. absurd (omega arith)), eq-eqb (length ones) (k * wordsFor (n - k)) p, eq-eqb (length twos) (k * wordsFor (n - k)) q)
+    state-passes = rw (
+      sound-at i (omega arith),
+      ne-eqb i k (λ e. absurd (omega arith)),
+      eq-eqb (length ones) (k * wordsFor (n - k)) p,
+      eq-eqb (length twos) (k * wordsFor (n - k)) q,
+    )
 
     -- row i is offered
     abbrev c : PackedStore
@@ -85,7 +90,8 @@ module _ (number n k w : ℕ) (z : numbersFit number n k w ≡ true) (rows : ℕ
 
   next : (i : ℕ) (s : Holding) → i < k → Good i s → Good (suc i) (offer s (rows i))
   next i s l g =
-      subst (λ h. Good (suc i) (offer (record { held = h; ones = s .ones; twos = s .twos }) (rows i))) (sym (g .held-is)) (more i (s .ones) (s .twos) l (g .ones-size) (g .twos-size) (g .rows-are))
+      subst (λ h. Good (suc i) (offer (record { held = h; ones = s .ones; twos = s .twos }) (rows i))) (sym (g .held-is))
+      (more i (s .ones) (s .twos) l (g .ones-size) (g .twos-size) (g .rows-are))
 
   -- after i rows, whatever the planes held before
   pub offered : (ones twos : List ℕ) → length ones ≡ k * wordsFor (n - k) → length twos ≡ k * wordsFor (n - k) → (i : ℕ) → i ≤ k
@@ -95,7 +101,8 @@ module _ (number n k w : ℕ) (z : numbersFit number n k w ≡ true) (rows : ℕ
   offered ones twos p q (suc i) l = next i (offerAll rows i (record { held = heldAt 0; ones = ones; twos = twos })) l (offered ones twos p q i (omega arith))
 
   -- and then a check
-  module _ (s : Holding) (g : Good k s) (y t wo wt : List ℕ) (yl : length y ≡ bytesFor (n - k)) (tl : length t ≡ bytesFor k) (yg : badByte y ≡ false) (tg : badByte t ≡ false)
+  module _ (s : Holding) (g : Good k s) (y t wo wt : List ℕ) (yl : length y ≡ bytesFor (n - k)) (tl : length t ≡ bytesFor k) (yg : badByte y ≡ false)
+      (tg : badByte t ≡ false)
       (ol : length wo ≡ wordsFor (n - k)) (pl : length wt ≡ wordsFor (n - k)) where
     whole : Whole (heldAt k) (s .ones) (s .twos)
     whole = record { is-sound = sound-at k (le-refl k); all-rows = refl; ones-size = g .ones-size; twos-size = g .twos-size }
@@ -131,7 +138,8 @@ module _ (number n k w : ℕ) (z : numbersFit number n k w ≡ true) (rows : ℕ
 
     weight-is : checkPackedWeight asks ≡ fullWeight (n - k) k key (packedRow (n - k) y) (packedRow k t)
     unfolding heldWeight
-    weight-is = weight-cong (n - k) k (heldKey (heldAt k) (s .ones) (s .twos)) (packedRow (n - k) y) (packedRow k t) key (λ i q l. ap (λ (r : ℕ → Trit). r q) (filled-row whole key (g .rows-are) i l))
+    weight-is = weight-cong (n - k) k (heldKey (heldAt k) (s .ones) (s .twos)) (packedRow (n - k) y) (packedRow k t) key
+        (λ i q l. ap (λ (r : ℕ → Trit). r q) (filled-row whole key (g .rows-are) i l))
 
     -- the answer is that of the rows offered
     pub answer : checkPackedAnswer (packedCheckOf (heldAt k) number (s .ones) (s .twos) y t wo wt)
@@ -140,7 +148,8 @@ module _ (number n k w : ℕ) (z : numbersFit number n k w ≡ true) (rows : ℕ
     answer = ap₂ (λ (a b : ℕ). answered a b w) accepted weight-is
 
   -- begin, offer the k rows, check: whatever was held before and whatever the planes had, the answer is that of the rows offered
-  pub loaded : (h : Held) (ones twos y t wo wt : List ℕ) → length ones ≡ k * wordsFor (n - k) → length twos ≡ k * wordsFor (n - k) → length y ≡ bytesFor (n - k) → length t ≡ bytesFor k
+  pub loaded : (h : Held) (ones twos y t wo wt : List ℕ) → length ones ≡ k * wordsFor (n - k) → length twos ≡ k * wordsFor (n - k)
+      → length y ≡ bytesFor (n - k) → length t ≡ bytesFor k
       → badByte y ≡ false → badByte t ≡ false → length wo ≡ wordsFor (n - k) → length wt ≡ wordsFor (n - k)
       → let s = offerAll rows k (record { held = beginHeld h number n k w; ones = ones; twos = twos }) in
       checkPackedAnswer (packedCheckOf (s .held) number (s .ones) (s .twos) y t wo wt)

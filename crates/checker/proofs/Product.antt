@@ -64,7 +64,9 @@ module _ (m k : ℕ) (R : Key) (y s : ℕ → Trit) where
   unfolding timesKey fullWeight
   full-weight places l yz rz =
       let v : ℕ → Trit = zipV subT y (timesKey k R s) in
-      let low : weightV v places ≡ weightV v m = weight-ended v m places l (λ q h. ap₂ subT (yz q h) (dot-zero k s (λ j. R j q) (λ j b. ap (mulT (s j)) (rz j q b h) ∙ mul-zero (s j)))) in
+      let low : weightV v places ≡ weightV v m = weight-ended v m places l
+      (λ q h. ap₂ subT (yz q h) (dot-zero k s (λ j. R j q) (λ j b. ap (mulT (s j)) (rz j q b h) ∙ mul-zero (s j)))) in
       let head : weightV v m ≡ weightV (fullWord m k R y s) m = weight-same m v (fullWord m k R y s) (λ i h. sym (full-low m k R y s i h)) in
-      let last : weightV s k ≡ sumTo (λ i. nonZero (fullWord m k R y s (m + i))) k = weight-same k s (λ i. fullWord m k R y s (m + i)) (λ i h. sym (full-high m k R y s i)) in
+      let last : weightV s k ≡ sumTo (λ i. nonZero (fullWord m k R y s (m + i))) k = weight-same k s (λ i. fullWord m k R y s (m + i))
+      (λ i h. sym (full-high m k R y s i)) in
       omega (arith, low, head, last, sum-add m k (λ i. nonZero (fullWord m k R y s i)))

@@ -1,4 +1,5 @@
--- What a check that is not refused says: yes exactly when some word of weight w with that syndrome extends s, and it is one word; both forms of a check agree. Assumes nothing.
+-- What a check that is not refused says: yes exactly when some word of weight w with that syndrome
+-- extends s, and it is one word; both forms of a check agree. Assumes nothing.
 use mathlib.Core.Path.{_≡_, refl, sym, ap, ap₂, _∙_}
 use mathlib.Core.Logic.{_↔_}
 use mathlib.Core.Bool.{Bool, true, cond}

@@ -24,7 +24,8 @@ fn take_row(
     requires { ⌜ ForTakeRow held (now ones) (now twos) i t (now «work_ones») (now «work_twos») ⌝ }
     ensures { λ r. ⌜ r ≡ nonZero (tritOf t) ⌝ }
     ensures { λ _. ⌜ Reads (now («work_ones» .exit)) (now («work_twos» .exit)) (length (now («work_ones» .entry)))
-        (zipV subT (tritAt (now («work_ones» .entry)) (now («work_twos» .entry))) (zipV mulT (λ (q : ℕ). tritOf t) (heldKey held (now (ones .entry)) (now (twos .entry)) i))) ⌝ }
+        (zipV subT (tritAt (now («work_ones» .entry)) (now («work_twos» .entry)))
+        (zipV mulT (λ (q : ℕ). tritOf t) (heldKey held (now (ones .entry)) (now (twos .entry)) i))) ⌝ }
 {
     if t == 0 {
         return 0;
@@ -52,7 +53,8 @@ fn take_rows(
     requires { ⌜ ForTakeRows held (now ones) (now twos) (now «s_ones») (now «s_twos») (now «work_ones») (now «work_twos») ⌝ }
     ensures { λ r. ⌜ r ≡ weightV (tritAt (now («s_ones» .entry)) (now («s_twos» .entry))) (held .k) ⌝ }
     ensures { λ _. ⌜ Reads (now («work_ones» .exit)) (now («work_twos» .exit)) (length (now («work_ones» .entry)))
-        (zipV subT (tritAt (now («work_ones» .entry)) (now («work_twos» .entry))) (timesKey (held .k) (heldKey held (now (ones .entry)) (now (twos .entry))) (tritAt (now («s_ones» .entry)) (now («s_twos» .entry))))) ⌝ }
+        (zipV subT (tritAt (now («work_ones» .entry)) (now («work_twos» .entry)))
+        (timesKey (held .k) (heldKey held (now (ones .entry)) (now (twos .entry))) (tritAt (now («s_ones» .entry)) (now («s_twos» .entry))))) ⌝ }
 {
     let k = held.k as usize;
     let mut taken: u64 = 0;
@@ -78,7 +80,8 @@ fn take_by_table(
     requires { ⌜ ForTakeByTable held (now ones) (now twos) (now s) (now «work_ones») (now «work_twos») (now table) ⌝ }
     ensures { λ r. ⌜ r ≡ weightV (packedRow (held .k) (now (s .entry))) (held .k) ⌝ }
     ensures { λ _. ⌜ Reads (now («work_ones» .exit)) (now («work_twos» .exit)) (length (now («work_ones» .entry)))
-        (zipV subT (tritAt (now («work_ones» .entry)) (now («work_twos» .entry))) (timesKey (held .k) (heldKey held (now (ones .entry)) (now (twos .entry))) (packedRow (held .k) (now (s .entry))))) ⌝ }
+        (zipV subT (tritAt (now («work_ones» .entry)) (now («work_twos» .entry)))
+        (timesKey (held .k) (heldKey held (now (ones .entry)) (now (twos .entry))) (packedRow (held .k) (now (s .entry))))) ⌝ }
 {
     let k = held.k as usize;
     let mut taken: u64 = 0;
@@ -103,7 +106,8 @@ fn take_packed_rows(
     requires { ⌜ ForTakePackedRows held (now ones) (now twos) (now s) (now «work_ones») (now «work_twos») ⌝ }
     ensures { λ r. ⌜ r ≡ weightV (packedRow (held .k) (now (s .entry))) (held .k) ⌝ }
     ensures { λ _. ⌜ Reads (now («work_ones» .exit)) (now («work_twos» .exit)) (length (now («work_ones» .entry)))
-        (zipV subT (tritAt (now («work_ones» .entry)) (now («work_twos» .entry))) (timesKey (held .k) (heldKey held (now (ones .entry)) (now (twos .entry))) (packedRow (held .k) (now (s .entry))))) ⌝ }
+        (zipV subT (tritAt (now («work_ones» .entry)) (now («work_twos» .entry)))
+        (timesKey (held .k) (heldKey held (now (ones .entry)) (now (twos .entry))) (packedRow (held .k) (now (s .entry))))) ⌝ }
 {
     let table = packing::table::byte_table();
     take_by_table(held, ones, twos, s, work_ones, work_twos, &table)
@@ -122,7 +126,8 @@ pub fn weigh(
     work_twos: &mut [u64],
 ) -> u64
     requires { ⌜ ForWeigh held (now ones) (now twos) (now «y_ones») (now «y_twos») (now «s_ones») (now «s_twos») (now «work_ones») (now «work_twos») ⌝ }
-    ensures { λ r. ⌜ r ≡ heldWeight held (now (ones .entry)) (now (twos .entry)) (tritAt (now («y_ones» .entry)) (now («y_twos» .entry))) (tritAt (now («s_ones» .entry)) (now («s_twos» .entry))) ⌝ }
+    ensures { λ r. ⌜ r ≡ heldWeight held (now (ones .entry)) (now (twos .entry)) (tritAt (now («y_ones» .entry)) (now («y_twos» .entry)))
+        (tritAt (now («s_ones» .entry)) (now («s_twos» .entry))) ⌝ }
 {
     planes::words::copy_words(work_ones, y_ones);
     planes::words::copy_words(work_twos, y_twos);
@@ -142,7 +147,8 @@ pub fn weigh_packed(
     work_twos: &mut [u64],
 ) -> u64
     requires { ⌜ ForWeighPacked held (now ones) (now twos) (now y) (now s) (now «work_ones») (now «work_twos») ⌝ }
-    ensures { λ r. ⌜ r ≡ heldWeight held (now (ones .entry)) (now (twos .entry)) (packedRow (rowTrits held) (now (y .entry))) (packedRow (held .k) (now (s .entry))) ⌝ }
+    ensures { λ r. ⌜ r ≡ heldWeight held (now (ones .entry)) (now (twos .entry)) (packedRow (rowTrits held) (now (y .entry)))
+        (packedRow (held .k) (now (s .entry))) ⌝ }
 {
     packing::write::write_packed(held_key::state::row_trits(held), y, work_ones, work_twos);
     let taken = take_packed_rows(held, ones, twos, s, work_ones, work_twos);

@@ -12,7 +12,8 @@ use mathlib.Core.List.{List}
 use Rattle.scheme.specs.declared.sizes.Sizes.{Sizes}
 
 -- sizes that fit, all that a draw is given, tested, and all that is written to
-pub record ForFinishDraw (z : Sizes) (huOnes huTwos hvOnes hvTwos bOnes bTwos cOnes cTwos p yOnes yTwos vOrder vOnes vTwos uOrder uOnes uTwos wordOnes wordTwos sOnes sTwos workOnes workTwos : List ℕ) : Type 0 where
+pub record ForFinishDraw (z : Sizes) (huOnes huTwos hvOnes hvTwos bOnes bTwos cOnes cTwos p yOnes yTwos vOrder vOnes vTwos uOrder uOnes uTwos wordOnes wordTwos
+    sOnes sTwos workOnes workTwos : List ℕ) : Type 0 where
   pub sizes : sizesFit z ≡ true
   pub ready : Ready z (given (planes huOnes huTwos hvOnes hvTwos bOnes bTwos cOnes cTwos) p yOnes yTwos vOrder vOnes vTwos uOrder uOnes uTwos)
   pub word-ones-size : length wordOnes ≡ wordsFor (places z)

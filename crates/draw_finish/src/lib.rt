@@ -42,7 +42,9 @@ pub fn finish(
     work_ones: &mut [u64],
     work_twos: &mut [u64],
 ) -> Outcome
-    requires { ⌜ ForFinishDraw z (now «hu_ones») (now «hu_twos») (now «hv_ones») (now «hv_twos») (now «b_ones») (now «b_twos») (now «c_ones») (now «c_twos») (now p) (now «y_ones») (now «y_twos») (now «v_order») (now «v_ones») (now «v_twos») (now «u_order») (now «u_ones») (now «u_twos») (now «word_ones») (now «word_twos») (now «s_ones») (now «s_twos») (now «work_ones») (now «work_twos») ⌝ }
+    requires { ⌜ ForFinishDraw z (now «hu_ones») (now «hu_twos») (now «hv_ones») (now «hv_twos») (now «b_ones») (now «b_twos») (now «c_ones») (now «c_twos»)
+        (now p) (now «y_ones») (now «y_twos») (now «v_order») (now «v_ones») (now «v_twos») (now «u_order») (now «u_ones») (now «u_twos») (now «word_ones»)
+        (now «word_twos») (now «s_ones») (now «s_twos») (now «work_ones») (now «work_twos») ⌝ }
     ensures { λ r. ⌜ (let i = (given (planes (now («hu_ones» .entry)) (now («hu_twos» .entry)) (now («hv_ones» .entry)) (now («hv_twos» .entry))
         (now («b_ones» .entry)) (now («b_twos» .entry)) (now («c_ones» .entry)) (now («c_twos» .entry)))
         (now (p .entry)) (now («y_ones» .entry)) (now («y_twos» .entry)) (now («v_order» .entry)) (now («v_ones» .entry)) (now («v_twos» .entry))
@@ -52,7 +54,8 @@ pub fn finish(
         × (now («word_twos» .exit) ≡ atExit (ending z i) (twosOf (upTo (places z) (wordOf z i)) (wordsFor (places z))) (now («word_twos» .entry)))
         × (now («s_ones» .exit) ≡ atExit (ending z i) (onesOf (upTo (dim z) (signature z (wordOf z i))) (wordsFor (dim z))) (now («s_ones» .entry)))
         × (now («s_twos» .exit) ≡ atExit (ending z i) (twosOf (upTo (dim z) (signature z (wordOf z i))) (wordsFor (dim z))) (now («s_twos» .entry)))
-        × (now («work_ones» .exit) ≡ zeroWords (length (now («work_ones» .entry)))) × (now («work_twos» .exit) ≡ zeroWords (length (now («work_twos» .entry))))) ⌝ }
+        × (now («work_ones» .exit) ≡ zeroWords (length (now («work_ones» .entry))))
+        × (now («work_twos» .exit) ≡ zeroWords (length (now («work_twos» .entry))))) ⌝ }
 {
     let s = sizes::shape_of(z);
     let l = calls::work::more_rows(s.ru, s.rv);

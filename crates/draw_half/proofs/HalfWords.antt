@@ -49,7 +49,8 @@ word-drawU z s x eV ch = refl
 pub upto-ends : (n : ℕ) (x : Vector) → Ends n (upTo n x)
 upto-ends n x = record { past = λ q h. upto-out x n q h }
 
-pub row-drawV : (z : Sizes) (s : Secret) (x : Vector) (ch : Choices) → wordV (rv z) (half z) (s .hv) (ch .orderV) (gapV z) (ch .tritsV) (upTo (half z) x) ≡ drawV z s x ch
+pub row-drawV : (z : Sizes) (s : Secret) (x : Vector) (ch : Choices)
+    → wordV (rv z) (half z) (s .hv) (ch .orderV) (gapV z) (ch .tritsV) (upTo (half z) x) ≡ drawV z s x ch
 unfolding wordV drawV pivotsV suppliedV
 row-drawV z s x ch = ap (λ (v : Vector). orZeros (solve (rv z) (half z) (s .hv) v (pivotsV z s ch) (suppliedV z s ch))) (times-upto (half z) (s .hv) x)
 
@@ -117,12 +118,14 @@ module _ (r g : ℕ) (H A : Matrix) (order : List ℕ) (o : Order (length order)
       solvedBy = putRow e (fill (taken r less 0 (take (r + g) order)) (times w less (less x)) (less e)) less
 
       less-row : (i : ℕ) → i < r → less i ≡ eliminated r H (take (r + g) order) i
-      less-row i h = sub-else x e xe (putRow e S reduced) i (λ z. omega arith) ∙ put-else e S reduced i (λ z. omega arith) ∙ over-row r (eliminated r H (take (r + g) order)) A i h
+      less-row i h = sub-else x e xe (putRow e S reduced) i (λ z. omega arith) ∙ put-else e S reduced i (λ z. omega arith)
+          ∙ over-row r (eliminated r H (take (r + g) order)) A i h
 
       less-x : less x ≡ (λ (q : ℕ). subT (A x q) (S q))
       less-x =
           sub-here x e xe (putRow e S reduced)
-          ∙ ap₂ {C = Vector} (λ (u v : Vector) (q : ℕ). subT (u q) (v q)) (put-else e S reduced x xe ∙ over-rest r (eliminated r H (take (r + g) order)) A x rx) (put-here e S reduced e refl)
+          ∙ ap₂ {C = Vector} (λ (u v : Vector) (q : ℕ). subT (u q) (v q)) (put-else e S reduced x xe ∙ over-rest r (eliminated r H (take (r + g) order)) A x rx)
+          (put-here e S reduced e refl)
 
       less-e : less e ≡ S
       less-e = sub-else x e xe (putRow e S reduced) e (λ z. xe (sym z)) ∙ put-here e S reduced e refl
@@ -138,7 +141,8 @@ module _ (r g : ℕ) (H A : Matrix) (order : List ℕ) (o : Order (length order)
       word : fill (taken r less 0 (take (r + g) order)) (times w less (less x)) (less e) ≡ orZeros (solve r n H (times n H (A x)) piv S)
       word =
           ap₂ (λ (ps : List ℕ) (v : Vector). fill ps (times w less (less x)) v) less-taken less-e
-          ∙ fill-same piv (times w less (less x)) (times n (eliminated r H (take (r + g) order)) (λ q. subT (A x q) (S q))) S (λ c h. value c (omega (arith, full-pivots, h)))
+          ∙ fill-same piv (times w less (less x)) (times n (eliminated r H (take (r + g) order)) (λ q. subT (A x q) (S q))) S
+          (λ c h. value c (omega (arith, full-pivots, h)))
           ∙ sym (ap orZeros
           (solve-by-rows r n H (eliminated r H (take (r + g) order)) piv (pivots-kept r n H (take (r + g) order) (first-below n (r + g) order o))
           (eliminated-reduced r n H (take (r + g) order) (first-below n (r + g) order o)) full-pivots (A x) S none))
@@ -146,12 +150,14 @@ module _ (r g : ℕ) (H A : Matrix) (order : List ℕ) (o : Order (length order)
       half-solved : Solved r x e A solvedBy (orZeros (solve r n H (times n H (A x)) piv S))
       half-solved = record {
         word = put-here e _ less e refl ∙ word;
-        kept = λ k h kx ke. put-else e _ less k ke ∙ sub-else x e xe (putRow e S reduced) k kx ∙ put-else e S reduced k ke ∙ over-rest r (eliminated r H (take (r + g) order)) A k h;
+        kept = λ k h kx ke. put-else e _ less k ke ∙ sub-else x e xe (putRow e S reduced) k kx ∙ put-else e S reduced k ke
+            ∙ over-rest r (eliminated r H (take (r + g) order)) A k h;
       }
 
       -- the four matrices, one after another
       pub half-done : {M₁ M₂ M₃ M₄ : Matrix} → M₁ ≡ reduced → M₂ ≡ putRow e S M₁ → M₃ ≡ joinRow subT x e M₂
-          → M₄ ≡ putRow e (fill (taken r M₃ 0 (take (r + g) order)) (times w M₃ (M₃ x)) (M₃ e)) M₃ → Solved r x e A M₄ (orZeros (solve r n H (times n H (A x)) piv S))
+          → M₄ ≡ putRow e (fill (taken r M₃ 0 (take (r + g) order)) (times w M₃ (M₃ x)) (M₃ e)) M₃
+          → Solved r x e A M₄ (orZeros (solve r n H (times n H (A x)) piv S))
       half-done {M₁} {M₂} {M₃} {M₄} a b c d =
           let m : M₃ ≡ less = c ∙ ap (joinRow subT x e) (b ∙ ap (putRow e S) a) in
           let f : M₄ ≡ solvedBy = d ∙ ap (λ (M : Matrix). putRow e (fill (taken r M 0 (take (r + g) order)) (times w M (M x)) (M e)) M) m in
@@ -221,13 +227,15 @@ module _ (r g : ℕ) (H A : Matrix) (order : List ℕ) (o : Order (length order)
       halfU-done {M₁} {M₂} {M₃} ends l a s t d f =
           half-done (fill lastPart (forces (A ev)) firstWord) ends
           (fill-past n lastPart (forces (A ev)) firstWord (λ q m. order-good n order o .1 q (last-in n (r + g) order o q m))
-          (fill-past n (without piv (take (r + g) order)) u zeros (λ q m. first-below n (r + g) order o q (without-out piv (take (r + g) order) q m .0)) (zeros-end n)))
+          (fill-past n (without piv (take (r + g) order)) u zeros (λ q m. first-below n (r + g) order o q (without-out piv (take (r + g) order) q m .0))
+          (zeros-end n)))
           (λ q m.
           fill-off lastPart (forces (A ev)) firstWord q (last-none q m)
           ∙ fill-off (without piv (take (r + g) order)) u zeros q (without-none piv (take (r + g) order) q m)) l a
           (t
           ∙ ap (λ (M : Matrix). putRow e (fill lastPart (forces (M ev)) (M e)) M) two
-          ∙ ap₂ (λ (y z : Vector). putRow e (fill lastPart (forces y) z) (putRow e firstWord M₁)) (put-else e firstWord M₁ ev eve ∙ own-row a ev rev) (put-here e firstWord M₁ e refl)
+          ∙ ap₂ (λ (y z : Vector). putRow e (fill lastPart (forces y) z) (putRow e firstWord M₁)) (put-else e firstWord M₁ ev eve ∙ own-row a ev rev)
+          (put-here e firstWord M₁ e refl)
           ∙ put-again e firstWord M₁ (fill lastPart (forces (A ev)) firstWord)) d f
         where
           two : M₂ ≡ putRow e firstWord M₁

@@ -30,7 +30,8 @@ pub fn draw_v(
     ensures { λ t. ⌜ t ≡ eqb (rank r (length (now (order .entry))) (matrixAt w (now (ho .entry)) (now (ht .entry))) (take (r + g) (now (order .entry)))) r ⌝ }
     ensures { λ _. ⌜ Rows (now (ones .exit)) (now (twos .exit)) rows w ⌝ }
     ensures { λ t. ⌜ SolvedWhere t r x e (matrixAt w (now (ones .entry)) (now (twos .entry))) (matrixAt w (now (ones .exit)) (now (twos .exit)))
-        (wordV r (length (now (order .entry))) (matrixAt w (now (ho .entry)) (now (ht .entry))) (now (order .entry)) g (tritAt (now (vo .entry)) (now (vt .entry)))
+        (wordV r (length (now (order .entry))) (matrixAt w (now (ho .entry)) (now (ht .entry))) (now (order .entry)) g
+        (tritAt (now (vo .entry)) (now (vt .entry)))
         (matrixAt w (now (ones .entry)) (now (twos .entry)) x)) ⌝ }
 {
     let first = r + g;
@@ -68,8 +69,10 @@ pub fn draw_u(
     ensures { λ t. ⌜ t ≡ eqb (rank r (length (now (order .entry))) (matrixAt w (now (ho .entry)) (now (ht .entry))) (take (r + g) (now (order .entry)))) r ⌝ }
     ensures { λ _. ⌜ Rows (now (ones .exit)) (now (twos .exit)) rows w ⌝ }
     ensures { λ t. ⌜ SolvedWhere t r x e (matrixAt w (now (ones .entry)) (now (twos .entry))) (matrixAt w (now (ones .exit)) (now (twos .exit)))
-        (wordU r (length (now (order .entry))) (matrixAt w (now (ho .entry)) (now (ht .entry))) (tritAt (now (bo .entry)) (now (bt .entry))) (tritAt (now (co .entry)) (now (ct .entry)))
-        (now (order .entry)) g (tritAt (now (uo .entry)) (now (ut .entry))) (matrixAt w (now (ones .entry)) (now (twos .entry)) ev) (matrixAt w (now (ones .entry)) (now (twos .entry)) x)) ⌝ }
+        (wordU r (length (now (order .entry))) (matrixAt w (now (ho .entry)) (now (ht .entry))) (tritAt (now (bo .entry)) (now (bt .entry)))
+        (tritAt (now (co .entry)) (now (ct .entry)))
+        (now (order .entry)) g (tritAt (now (uo .entry)) (now (ut .entry))) (matrixAt w (now (ones .entry)) (now (twos .entry)) ev)
+        (matrixAt w (now (ones .entry)) (now (twos .entry)) x)) ⌝ }
 {
     let first = r + g;
     if draw_reduce::reduce::reduce(ones, twos, rows, w, r, ho, ht, order, first) != r {

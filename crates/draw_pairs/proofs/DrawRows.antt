@@ -23,7 +23,8 @@ use Rattle.scheme.specs.Secret.{Secret, join, uOf, vOf, leftOf, rightOf}
 use Rattle.scheme.specs.Draw.{Choices, placed, firstU, lastU, pivotsV, pivotsU, suppliedV, suppliedU, forced, drawV, drawU, drawn, signature}
 use Rattle.scheme_laws.proofs.Draws.{Valid, keptV, keptU, drawV-good, drawU-good, first-below, last-below}
 use Rattle.draw_pairs.specs.Steps.{placedRows, partedRows, joinedRows, writtenFrom}
-use Rattle.draw_pairs.proofs.PlacedHalves.{Paired, placed-left, placed-right, placed-else, parted-left, parted-right, parted-else, joined-left, joined-right, joined-else}
+use Rattle.draw_pairs.proofs.PlacedHalves.{Paired, placed-left, placed-right, placed-else, parted-left, parted-right, parted-else, joined-left}
+use Rattle.draw_pairs.proofs.PlacedHalves.{joined-right, joined-else}
 use Rattle.draw_pairs.proofs.Weighed.{pair-weighs}
 
 -- ---- the halves of x parted
@@ -52,7 +53,8 @@ module _ (z : Sizes) (s : Secret) (x : Vector) where
       by : (q : ℕ) → Dec (q < half z) → subT (X q) (mulT (upTo (half z) (vOf z s x) q) (s .b q)) ≡ upTo (half z) (uOf z s x) q
       by q (yes h) =
           ap₂ (λ (a b : Trit). subT a (mulT b (s .b q))) (upto-in x (half z) q h) (upto-in (vOf z s x) (half z) q h)
-          ∙ law4 (λ l r b c. subT l (mulT (subT r (mulT c l)) b)) (λ l r b c. subT (mulT (addT t1 (mulT b c)) l) (mulT b r)) tt (x q) (x (half z + q)) (s .b q) (s .c q)
+          ∙ law4 (λ l r b c. subT l (mulT (subT r (mulT c l)) b)) (λ l r b c. subT (mulT (addT t1 (mulT b c)) l) (mulT b r)) tt (x q) (x (half z + q)) (s .b q)
+          (s .c q)
           ∙ sym (upto-in (uOf z s x) (half z) q h)
       by q (no f) =
           ap₂ (λ (a b : Trit). subT a (mulT b (s .b q))) (upto-out x (half z) q (omega arith)) (upto-out (vOf z s x) (half z) q (omega arith))
@@ -62,7 +64,8 @@ module _ (z : Sizes) (s : Secret) (x : Vector) where
   pub parted-halves : (l : ℕ) (A : Matrix) → A l ≡ upTo (half z) x → A (l + 1) ≡ upTo (half z) (λ q. x (half z + q))
       → Paired l (l + 1) (l + 2) A (partedRows l (s .b) (s .c) A) (upTo (half z) (uOf z s x)) (upTo (half z) (vOf z s x))
   parted-halves l A a b =
-      let v : zipV subT (A (l + 1)) (zipV mulT (A l) (s .c)) ≡ upTo (half z) (vOf z s x) = ap₂ (λ (r m : Vector). zipV subT r (zipV mulT m (s .c))) b a ∙ right-trits in
+      let v : zipV subT (A (l + 1)) (zipV mulT (A l) (s .c)) ≡ upTo (half z) (vOf z s x) = ap₂ (λ (r m : Vector). zipV subT r (zipV mulT m (s .c))) b a
+      ∙ right-trits in
       record {
         left = parted-left l (s .b) (s .c) A ∙ ap₂ (λ (m r : Vector). zipV subT m (zipV mulT r (s .b))) a v ∙ left-trits;
         right = parted-right l (s .b) (s .c) A ∙ v;
@@ -109,13 +112,15 @@ module _ (z : Sizes) (s : Secret) (ch : Choices) (va : Valid z ch) where
   drawV-ends full x q h =
       drawV-good z s ch va full x .0 q (elem-past (half z) (pivotsV z s ch) q (keptV z s ch va .below) h)
       ∙ fill-off (without (pivotsV z s ch) (ch .orderV)) (ch .tritsV) zeros q
-      (elem-past (half z) (without (pivotsV z s ch) (ch .orderV)) q (λ n m. order-good (half z) (ch .orderV) (va .orderV) .1 n (without-out (pivotsV z s ch) (ch .orderV) n m .0)) h)
+      (elem-past (half z) (without (pivotsV z s ch) (ch .orderV)) q
+      (λ n m. order-good (half z) (ch .orderV) (va .orderV) .1 n (without-out (pivotsV z s ch) (ch .orderV) n m .0)) h)
 
   pub drawU-ends : length (pivotsU z s ch) ≡ ru z → (x eV : Vector) (q : ℕ) → half z ≤ q → drawU z s x eV ch q ≡ t0
   unfolding suppliedU
   drawU-ends full x eV q h =
       drawU-good z s ch va full x eV .0 q (elem-past (half z) (pivotsU z s ch) q (keptU z s ch va .below) h)
-      ∙ fill-off (lastU z ch) (λ j. forced s eV (getD (lastU z ch) j 0) (ch .valuesU (gapU z + j))) _ q (elem-past (half z) (lastU z ch) q (last-below z s ch va) h)
+      ∙ fill-off (lastU z ch) (λ j. forced s eV (getD (lastU z ch) j 0) (ch .valuesU (gapU z + j))) _ q
+      (elem-past (half z) (lastU z ch) q (last-below z s ch va) h)
       ∙ fill-off (without (pivotsU z s ch) (firstU z ch)) (ch .valuesU) zeros q
       (elem-past (half z) (without (pivotsU z s ch) (firstU z ch)) q
       (λ n m. first-below (half z) (ru z + gapU z) (ch .orderU) (va .orderU) n (without-out (pivotsU z s ch) (firstU z ch) n m .0)) h)
@@ -161,4 +166,5 @@ module _ (z : Sizes) (s : Secret) (p : List ℕ) (y : Vector) (ch : Choices) whe
         let ev = drawV-ends z s ch va fv (vOf z s startOf) in
         let eu = drawU-ends z s ch va fu (uOf z s startOf) drawnV in
         ap₂ (λ (a b : Vector). weightV a m + weightV b m) l r
-        ∙ pair-weighs (half z) m p (leftOf s drawnU drawnV) (rightOf s drawnU drawnV) o h (left-ends s (half z) drawnU drawnV eu ev) (right-ends s (half z) drawnU drawnV eu ev)
+        ∙ pair-weighs (half z) m p (leftOf s drawnU drawnV) (rightOf s drawnU drawnV) o h (left-ends s (half z) drawnU drawnV eu ev)
+        (right-ends s (half z) drawnU drawnV eu ev)

@@ -71,7 +71,8 @@ put-upto N q x y h = fun-ext (λ j. by j (ℕ-discrete j q) (decLt j N))
   where
     by : (j : ℕ) → Dec (j ≡ q) → Dec (j < N) → putV (upTo N x) q y j ≡ upTo N (putV x q y) j
     by j (yes e) d =
-        ap (λ (b : Bool). cond b y (upTo N x j)) (eq-eqb j q e) ∙ sym (ap (λ (b : Bool). cond b y (x j)) (eq-eqb j q e)) ∙ sym (upto-in (putV x q y) N j (omega arith))
+        ap (λ (b : Bool). cond b y (upTo N x j)) (eq-eqb j q e) ∙ sym (ap (λ (b : Bool). cond b y (x j)) (eq-eqb j q e))
+        ∙ sym (upto-in (putV x q y) N j (omega arith))
     by j (no f) (yes l) = put-other (upTo N x) q y j f ∙ upto-in x N j l ∙ sym (put-other x q y j f) ∙ sym (upto-in (putV x q y) N j l)
     by j (no f) (no l) = put-other (upTo N x) q y j f ∙ upto-out x N j (omega arith) ∙ sym (upto-out (putV x q y) N j (omega arith))
 
@@ -85,7 +86,8 @@ module _ (l N q : ℕ) (x : Vector) (y : Trit) (A : Matrix) where
       rows-alike l (l + 1) (putRow l (putV (B l) q y) B) (placedRows l N (putV x q y) A)
       (put-here l (putV (B l) q y) B l refl ∙ ap (λ (v : Vector). putV v q y) (placed-left l N x A) ∙ put-upto N q x y h ∙ sym (placed-left l N (putV x q y) A))
       (put-else l (putV (B l) q y) B (l + 1) (λ z. omega arith) ∙ placed-right l N x A
-      ∙ upto-same N (λ j. x (N + j)) (λ j. putV x q y (N + j)) (λ j i. sym (put-other x q y (N + j) (λ z. omega arith))) ∙ sym (placed-right l N (putV x q y) A))
+      ∙ upto-same N (λ j. x (N + j)) (λ j. putV x q y (N + j)) (λ j i. sym (put-other x q y (N + j) (λ z. omega arith)))
+      ∙ sym (placed-right l N (putV x q y) A))
       (λ k f g. put-else l (putV (B l) q y) B k f ∙ placed-else l N x A k f g ∙ sym (placed-else l N (putV x q y) A k f g))
 
   high : N ≤ q → q < N + N → putRow (l + 1) (putV (B (l + 1)) (q - N) y) B ≡ placedRows l N (putV x q y) A
@@ -94,7 +96,8 @@ module _ (l N q : ℕ) (x : Vector) (y : Trit) (A : Matrix) where
       (put-else (l + 1) (putV (B (l + 1)) (q - N) y) B l (λ z. omega arith) ∙ placed-left l N x A
       ∙ upto-same N x (putV x q y) (λ j i. sym (put-other x q y j (λ z. omega arith))) ∙ sym (placed-left l N (putV x q y) A))
       (put-here (l + 1) (putV (B (l + 1)) (q - N) y) B (l + 1) refl ∙ ap (λ (v : Vector). putV v (q - N) y) (placed-right l N x A)
-      ∙ put-upto N (q - N) (λ j. x (N + j)) y (omega arith) ∙ ap (upTo N) (fun-ext (λ j. shifted j (ℕ-discrete j (q - N)))) ∙ sym (placed-right l N (putV x q y) A))
+      ∙ put-upto N (q - N) (λ j. x (N + j)) y (omega arith) ∙ ap (upTo N) (fun-ext (λ j. shifted j (ℕ-discrete j (q - N))))
+      ∙ sym (placed-right l N (putV x q y) A))
       (λ k f g. put-else (l + 1) (putV (B (l + 1)) (q - N) y) B k g ∙ placed-else l N x A k f g ∙ sym (placed-else l N (putV x q y) A k f g))
     where
       shifted : (j : ℕ) → Dec (j ≡ q - N) → putV (λ j. x (N + j)) (q - N) y j ≡ putV x q y (N + j)
@@ -109,7 +112,8 @@ module _ (l N q : ℕ) (x : Vector) (y : Trit) (A : Matrix) where
       by : Dec (q < N) → cond (lib.Dec.ltb q N) (putRow l (putV (B l) q y) B) (putRow (l + 1) (putV (B (l + 1)) (q - N) y) B) ≡ placedRows l N (putV x q y) A
       by (yes m) = ap (λ (b : Bool). cond b (putRow l (putV (B l) q y) B) (putRow (l + 1) (putV (B (l + 1)) (q - N) y) B)) (lt-ltb q N m) ∙ low m
       by (no f) =
-          ap (λ (b : Bool). cond b (putRow l (putV (B l) q y) B) (putRow (l + 1) (putV (B (l + 1)) (q - N) y) B)) (le-ltb q N (omega arith)) ∙ high (omega arith) h
+          ap (λ (b : Bool). cond b (putRow l (putV (B l) q y) B) (putRow (l + 1) (putV (B (l + 1)) (q - N) y) B)) (le-ltb q N (omega arith))
+          ∙ high (omega arith) h
 
 -- ---- the first i trits of y at the places of an order
 
@@ -128,7 +132,9 @@ module _ (n : ℕ) (p : List ℕ) (o : Order n p) (y : Vector) where
   placed-none = fun-ext (λ q. by q (bool-cases (elem q p)))
     where
       by : (q : ℕ) → (elem q p ≡ true) ⊎ (elem q p ≡ false) → t0 ≡ placed p (join 0 y zeros) q
-      by q (inl m) = let k = elem-index q p m in sym (ap (placed p (join 0 y zeros)) (sym (k .2)) ∙ at-place 0 (k .0) (omega (arith, k .1, o .size)) ∙ past-start 0 y (k .0) (omega arith))
+      by q (inl m) =
+          let k = elem-index q p m in
+          sym (ap (placed p (join 0 y zeros)) (sym (k .2)) ∙ at-place 0 (k .0) (omega (arith, k .1, o .size)) ∙ past-start 0 y (k .0) (omega arith))
       by q (inr m) = sym (fill-off p (join 0 y zeros) zeros q m)
 
   pub placed-more : (i : ℕ) → i < n → putV (placed p (join i y zeros)) (getD p i 0) (y i) ≡ placed p (join (i + 1) y zeros)
@@ -138,7 +144,8 @@ module _ (n : ℕ) (p : List ℕ) (o : Order n p) (y : Vector) where
       next j f (yes l) = join-low i y zeros j l ∙ sym (join-low (i + 1) y zeros j (omega arith))
       next j f (no l) = let g : j ≢ i = f in past-start i y j (omega arith) ∙ sym (past-start (i + 1) y j (omega arith))
 
-      by : (q : ℕ) → Dec (q ≡ getD p i 0) → (elem q p ≡ true) ⊎ (elem q p ≡ false) → putV (placed p (join i y zeros)) (getD p i 0) (y i) q ≡ placed p (join (i + 1) y zeros) q
+      by : (q : ℕ) → Dec (q ≡ getD p i 0) → (elem q p ≡ true) ⊎ (elem q p ≡ false)
+          → putV (placed p (join i y zeros)) (getD p i 0) (y i) q ≡ placed p (join (i + 1) y zeros) q
       by q (yes e) d =
           ap (λ (b : Bool). cond b (y i) (placed p (join i y zeros) q)) (eq-eqb q (getD p i 0) e)
           ∙ sym (ap (placed p (join (i + 1) y zeros)) e ∙ at-place (i + 1) i h ∙ join-low (i + 1) y zeros i (omega arith))
@@ -150,7 +157,8 @@ module _ (n : ℕ) (p : List ℕ) (o : Order n p) (y : Vector) where
           ∙ next (k .0) (λ e. f (sym (k .2) ∙ ap (λ (j : ℕ). getD p j 0) e)) (decLt (k .0) i)
           ∙ sym (ap (placed p (join (i + 1) y zeros)) (sym (k .2)) ∙ at-place (i + 1) (k .0) l)
       by q (no f) (inr m) =
-          put-other (placed p (join i y zeros)) (getD p i 0) (y i) q f ∙ fill-off p (join i y zeros) zeros q m ∙ sym (fill-off p (join (i + 1) y zeros) zeros q m)
+          put-other (placed p (join i y zeros)) (getD p i 0) (y i) q f ∙ fill-off p (join i y zeros) zeros q m
+          ∙ sym (fill-off p (join (i + 1) y zeros) zeros q m)
 
 -- rows of 0 hold the halves of 0
 pub placed-begun : (l N : ℕ) (A : Matrix) → A l ≡ zeros → A (l + 1) ≡ zeros → A ≡ placedRows l N zeros A
@@ -173,22 +181,26 @@ module _ {o t : List ℕ} {r w : ℕ} (u v N q : ℕ) (x : Trit) (A : Matrix) wh
   put-high h g = grid-to g (sym (ap (λ (b : Bool). cond b (putRow u (putV (A u) q x) A) (putRow v (putV (A v) (q - N) x) A)) (le-ltb q N h)))
 
 module _ (l N : ℕ) (p : List ℕ) (o : Order (N + N) p) (y : Vector) (A : Matrix) where
-  pub place-begun : {os ts : List ℕ} {r w : ℕ} → Rows os ts r w → matrixAt w os ts ≡ A → A l ≡ zeros → A (l + 1) ≡ zeros → Grid os ts r w (placedRows l N (placed p (join 0 y zeros)) A)
+  pub place-begun : {os ts : List ℕ} {r w : ℕ} → Rows os ts r w → matrixAt w os ts ≡ A → A l ≡ zeros → A (l + 1) ≡ zeros
+      → Grid os ts r w (placedRows l N (placed p (join 0 y zeros)) A)
   place-begun g e a b = record { rows = g; cells = e ∙ placed-begun l N A a b ∙ ap (λ (x : Vector). placedRows l N x A) (placed-none (N + N) p o y) }
 
   pub place-turn : {os ts os′ ts′ : List ℕ} {r w : ℕ} (i x : ℕ) → i < N + N → Grid os ts r w (placedRows l N (placed p (join i y zeros)) A) → tritOf x ≡ y i
-      → Grid os′ ts′ r w (putPlace l (l + 1) N (getD p i 0) (tritOf x) (matrixAt w os ts)) → Grid os′ ts′ r w (placedRows l N (placed p (join (i + 1) y zeros)) A)
+      → Grid os′ ts′ r w (putPlace l (l + 1) N (getD p i 0) (tritOf x) (matrixAt w os ts))
+      → Grid os′ ts′ r w (placedRows l N (placed p (join (i + 1) y zeros)) A)
   place-turn i x h g e d =
       grid-to d
       (ap₂ (λ (t : Trit) (B : Matrix). putPlace l (l + 1) N (getD p i 0) t B) e (g .cells)
       ∙ place-more l N (getD p i 0) (placed p (join i y zeros)) (y i) A (order-below (N + N) p o i h)
       ∙ ap (λ (x : Vector). placedRows l N x A) (placed-more (N + N) p o y i h))
 
-  pub place-done : {os ts : List ℕ} {r w : ℕ} (i m : ℕ) → i ≡ m → Grid os ts r w (placedRows l N (placed p (join i y zeros)) A) → Grid os ts r w (placedRows l N (placed p (join m y zeros)) A)
+  pub place-done : {os ts : List ℕ} {r w : ℕ} (i m : ℕ) → i ≡ m → Grid os ts r w (placedRows l N (placed p (join i y zeros)) A)
+      → Grid os ts r w (placedRows l N (placed p (join m y zeros)) A)
   place-done i m e g = grid-to g (ap (λ (k : ℕ). placedRows l N (placed p (join k y zeros)) A) e)
 
 module _ (w : ℕ) (o₀ t₀ : List ℕ) {o₁ t₁ o₂ t₂ : List ℕ} {r : ℕ} (b c : Vector) where
-  pub parted-grid : (l : ℕ) → Grid o₁ t₁ r w (joinProduct subT (l + 1) l (l + 2) c (matrixAt w o₀ t₀)) → Grid o₂ t₂ r w (joinProduct subT l (l + 1) (l + 2) b (matrixAt w o₁ t₁))
+  pub parted-grid : (l : ℕ) → Grid o₁ t₁ r w (joinProduct subT (l + 1) l (l + 2) c (matrixAt w o₀ t₀))
+      → Grid o₂ t₂ r w (joinProduct subT l (l + 1) (l + 2) b (matrixAt w o₁ t₁))
       → Grid o₂ t₂ r w (partedRows l b c (matrixAt w o₀ t₀))
   unfolding partedRows
   parted-grid l g h = grid-to h (ap (joinProduct subT l (l + 1) (l + 2) b) (g .cells))
@@ -204,7 +216,8 @@ module _ (w : ℕ) (o t : List ℕ) (u v N q x : ℕ) where
   pub read-low : q < N → N ≤ 64 * w → x ≡ number (tritAt o t (64 * (u * w) + q)) → x ≡ number (join N (matrixAt w o t u) (matrixAt w o t v) q)
   read-low h l e = e ∙ ap number (sym (join-low N (matrixAt w o t u) (matrixAt w o t v) q h ∙ cell w o t u q (omega arith)))
 
-  pub read-high : N ≤ q → q < N + N → N ≤ 64 * w → x ≡ number (tritAt o t (64 * (v * w) + (q - N))) → x ≡ number (join N (matrixAt w o t u) (matrixAt w o t v) q)
+  pub read-high : N ≤ q → q < N + N → N ≤ 64 * w → x ≡ number (tritAt o t (64 * (v * w) + (q - N)))
+      → x ≡ number (join N (matrixAt w o t u) (matrixAt w o t v) q)
   read-high h m l e =
       e ∙ ap number (sym (ap (λ (b : Bool). cond b (matrixAt w o t u q) (matrixAt w o t v (q - N))) (le-ltb q N h) ∙ cell w o t v (q - N) (omega arith)))
 
@@ -222,7 +235,8 @@ module _ (l : ℕ) (b c : Vector) (A : Matrix) where
   unfolding partedRows
   parted-left =
       product-at subT l (l + 1) (l + 2) b C
-      ∙ ap₂ (λ (x y : Vector). zipV subT x (zipV mulT y b)) (product-else subT (l + 1) l (l + 2) c A l (λ z. omega arith) (λ z. omega arith)) (product-at subT (l + 1) l (l + 2) c A)
+      ∙ ap₂ (λ (x y : Vector). zipV subT x (zipV mulT y b)) (product-else subT (l + 1) l (l + 2) c A l (λ z. omega arith) (λ z. omega arith))
+      (product-at subT (l + 1) l (l + 2) c A)
 
   pub parted-else : (k : ℕ) → (k ≡ l → ⊥) → (k ≡ l + 1 → ⊥) → (k ≡ l + 2 → ⊥) → partedRows l b c A k ≡ A k
   unfolding partedRows

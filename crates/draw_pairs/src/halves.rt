@@ -19,7 +19,8 @@ pub fn part_halves(
 )
     requires { ⌜ ForPartHalves (now ones) (now twos) rows w l (now bo) (now bt) (now co) (now ct) ⌝ }
     ensures { λ _. ⌜ Grid (now (ones .exit)) (now (twos .exit)) rows w
-        (partedRows l (tritAt (now (bo .entry)) (now (bt .entry))) (tritAt (now (co .entry)) (now (ct .entry))) (matrixAt w (now (ones .entry)) (now (twos .entry)))) ⌝ }
+        (partedRows l (tritAt (now (bo .entry)) (now (bt .entry))) (tritAt (now (co .entry)) (now (ct .entry)))
+        (matrixAt w (now (ones .entry)) (now (twos .entry)))) ⌝ }
 {
     let r = l + 1;
     let t = l + 2;
@@ -43,7 +44,8 @@ pub fn join_halves(
 )
     requires { ⌜ ForJoinHalves (now ones) (now twos) rows w u v t (now bo) (now bt) (now co) (now ct) ⌝ }
     ensures { λ _. ⌜ Grid (now (ones .exit)) (now (twos .exit)) rows w
-        (joinedRows u v t (tritAt (now (bo .entry)) (now (bt .entry))) (tritAt (now (co .entry)) (now (ct .entry))) (matrixAt w (now (ones .entry)) (now (twos .entry)))) ⌝ }
+        (joinedRows u v t (tritAt (now (bo .entry)) (now (bt .entry))) (tritAt (now (co .entry)) (now (ct .entry)))
+        (matrixAt w (now (ones .entry)) (now (twos .entry)))) ⌝ }
 {
     grid::products::add_product(ones, twos, rows, w, u, v, t, bo, bt);
     grid::products::add_product(ones, twos, rows, w, v, u, t, co, ct);

@@ -48,7 +48,8 @@ pub fn place_syndrome(
 )
     requires { ⌜ ForPlaceSyndrome (now ones) (now twos) rows w l half (now p) count (now yo) (now yt) ⌝ }
     ensures { λ _. ⌜ Grid (now (ones .exit)) (now (twos .exit)) rows w
-        (placedRows l half (placed (now (p .entry)) (join count (tritAt (now (yo .entry)) (now (yt .entry))) zeros)) (matrixAt w (now (ones .entry)) (now (twos .entry)))) ⌝ }
+        (placedRows l half (placed (now (p .entry)) (join count (tritAt (now (yo .entry)) (now (yt .entry))) zeros))
+        (matrixAt w (now (ones .entry)) (now (twos .entry)))) ⌝ }
 {
     let r = l + 1;
     let mut i = 0;
@@ -98,7 +99,8 @@ pub fn put_places(
 )
     requires { ⌜ ForPutPlaces (now ones) (now twos) rows w u v half (now p) from count (now oo) (now ot) ⌝ }
     ensures { λ _. ⌜ Reads (now (oo .exit)) (now (ot .exit)) (length (now (oo .entry)))
-        (upTo count (writtenFrom half (matrixAt w (now (ones .entry)) (now (twos .entry)) u) (matrixAt w (now (ones .entry)) (now (twos .entry)) v) (now (p .entry)) from)) ⌝ }
+        (upTo count (writtenFrom half (matrixAt w (now (ones .entry)) (now (twos .entry)) u) (matrixAt w (now (ones .entry)) (now (twos .entry)) v)
+        (now (p .entry)) from)) ⌝ }
 {
     let mut j = 0;
     while j < count {
@@ -125,8 +127,10 @@ pub fn write_places(
     ot: &mut [u64],
 )
     requires { ⌜ ForWritePlaces (now ones) (now twos) rows w u v half (now p) from count (now oo) (now ot) ⌝ }
-    ensures { λ _. ⌜ now (oo .exit) ≡ onesOf (upTo count (writtenFrom half (matrixAt w (now (ones .entry)) (now (twos .entry)) u) (matrixAt w (now (ones .entry)) (now (twos .entry)) v) (now (p .entry)) from)) (length (now (oo .entry))) ⌝ }
-    ensures { λ _. ⌜ now (ot .exit) ≡ twosOf (upTo count (writtenFrom half (matrixAt w (now (ones .entry)) (now (twos .entry)) u) (matrixAt w (now (ones .entry)) (now (twos .entry)) v) (now (p .entry)) from)) (length (now (oo .entry))) ⌝ }
+    ensures { λ _. ⌜ now (oo .exit) ≡ onesOf (upTo count (writtenFrom half (matrixAt w (now (ones .entry)) (now (twos .entry)) u)
+        (matrixAt w (now (ones .entry)) (now (twos .entry)) v) (now (p .entry)) from)) (length (now (oo .entry))) ⌝ }
+    ensures { λ _. ⌜ now (ot .exit) ≡ twosOf (upTo count (writtenFrom half (matrixAt w (now (ones .entry)) (now (twos .entry)) u)
+        (matrixAt w (now (ones .entry)) (now (twos .entry)) v) (now (p .entry)) from)) (length (now (oo .entry))) ⌝ }
 {
     planes::words::zero_words(oo);
     planes::words::zero_words(ot);

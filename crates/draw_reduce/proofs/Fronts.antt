@@ -40,7 +40,8 @@ copied-cells e f w = ap₂ (matrixAt w) e f
 -- ---- the first r rows come back with the matrix B
 
 module _ {o₀ t₀ : List ℕ} {rows : ℕ} (w r : ℕ) (g : Rows o₀ t₀ rows w) (h : r ≤ rows) where
-  pub front-grid : {ys zs : List ℕ} {B : Matrix} (k : ℕ) → k ≡ r * w → Grid ys zs r w B → Grid (putMid 0 k o₀ ys) (putMid 0 k t₀ zs) rows w (over r B (matrixAt w o₀ t₀))
+  pub front-grid : {ys zs : List ℕ} {B : Matrix} (k : ℕ) → k ≡ r * w → Grid ys zs r w B
+      → Grid (putMid 0 k o₀ ys) (putMid 0 k t₀ zs) rows w (over r B (matrixAt w o₀ t₀))
   front-grid {ys} {zs} {B} k e d =
       let room : 0 + k ≤ length o₀ = omega (arith, e, g .size, mul-le-mul-right w h) in
       let s = part-back (g .row) 0 k room (record { row = d .rows .row; size = d .rows .size ∙ sym e; trits = refl }) in

@@ -45,7 +45,8 @@ module _ (r at p : ℕ) (A : Matrix) (e : hasPivot r at p A ≡ true) where
       go true k = rw k (square (moved at p) moved-set)
       go false k =
           ap (λ (s : Bool). cond s (mulT (moved at p) (moved at p)) (subT (moved i p) (mulT (mulT (moved i p) (moved at p)) (moved at p)))) k
-          ∙ ap (subT (moved i p)) (mul-assoc (moved i p) (moved at p) (moved at p) ∙ ap (mulT (moved i p)) (square (moved at p) moved-set) ∙ mul-one (moved i p))
+          ∙ ap (subT (moved i p)) (mul-assoc (moved i p) (moved at p) (moved at p) ∙ ap (mulT (moved i p)) (square (moved at p) moved-set)
+          ∙ mul-one (moved i p))
           ∙ add-neg (moved i p) ∙ sym (put-other zeros at t1 i (eqb-false i at k))
 
   -- row `at` is among those that are 0 at q
@@ -295,7 +296,8 @@ module _ (r n : ℕ) (H : Matrix) (k : ℕ) (order : List ℕ) (o : Order n orde
     order-taken =
         let F : Matrix = eliminated r H (take k order) in
         ap (taken r F 0) (sym (take-append-drop k order)) ∙ taken-append r F (take k order) (drop k order) 0
-        ∙ ap₂ (λ (a b : List ℕ). a ++ b) first-taken (taken-full r F (0 + length (taken r F 0 (take k order))) (drop k order) (omega (arith, ap (λ (l : List ℕ). length l) first-taken, full)))
+        ∙ ap₂ (λ (a b : List ℕ). a ++ b) first-taken (taken-full r F (0 + length (taken r F 0 (take k order))) (drop k order)
+        (omega (arith, ap (λ (l : List ℕ). length l) first-taken, full)))
         ∙ append-nil (pivots r n H (take k order))
 
     pub order-passed : passed r (eliminated r H (take k order)) 0 order ≡ without (pivots r n H (take k order)) order
@@ -349,7 +351,8 @@ order-reduced r n H A k order o =
     let F : Matrix = eliminated r H (take k order) in
     let ps : List ℕ = pivots r n H (take k order) in
     let b = first-below n k order o in
-    reduced-cong r n H F (over r F A) ps (pivots-kept r n H (take k order) b .below) (λ i q l m. sym (ap (λ (u : Vector). u q) (over-row r F A i l))) (eliminated-reduced r n H (take k order) b)
+    reduced-cong r n H F (over r F A) ps (pivots-kept r n H (take k order) b .below) (λ i q l m. sym (ap (λ (u : Vector). u q) (over-row r F A i l)))
+    (eliminated-reduced r n H (take k order) b)
 
 -- a rank that is full is that of r pivots
 pub rank-full : (r n : ℕ) (H : Matrix) (ps : List ℕ) → rank r n H ps ≡ r → length (pivots r n H ps) ≡ r

@@ -1,4 +1,5 @@
--- The walk along an order in a reduced matrix, which finds the pivots again. No rule of the paper: code is tied to it, and its laws to `pivots` and `without`. Assumes nothing.
+-- The walk along an order in a reduced matrix, which finds the pivots again. No rule of the paper:
+-- code is tied to it, and its laws to `pivots` and `without`. Assumes nothing.
 use mathlib.Core.Bool.{Bool, _&&_, cond}
 use mathlib.Core.List.{List, [], _∷_}
 use Prim.Native.Nat.{ℕ, suc, _*_, _≤_}

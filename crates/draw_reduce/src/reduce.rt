@@ -67,7 +67,8 @@ pub fn reduce(
     requires { ⌜ ForReduce (now ones) (now twos) rows w r (now ho) (now ht) (now order) m ⌝ }
     ensures { λ c. ⌜ c ≡ rank r (length (now (order .entry))) (matrixAt w (now (ho .entry)) (now (ht .entry))) (take m (now (order .entry))) ⌝ }
     ensures { λ _. ⌜ Grid (now (ones .exit)) (now (twos .exit)) rows w
-        (over r (eliminated r (matrixAt w (now (ho .entry)) (now (ht .entry))) (take m (now (order .entry)))) (matrixAt w (now (ones .entry)) (now (twos .entry)))) ⌝ }
+        (over r (eliminated r (matrixAt w (now (ho .entry)) (now (ht .entry))) (take m (now (order .entry))))
+        (matrixAt w (now (ones .entry)) (now (twos .entry)))) ⌝ }
 {
     let e = ho.len();
     reduce_copied(&mut ones[0..e], &mut twos[0..e], r, w, ho, ht, order, m)

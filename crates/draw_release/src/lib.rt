@@ -26,8 +26,10 @@ pub fn release_word(
     requires { ⌜ ForReleaseWord z l (now p) (now «work_ones») (now «work_twos») (now «word_ones») (now «word_twos») (now «s_ones») (now «s_twos») ⌝ }
     ensures { λ _. ⌜ (let A = matrixAt (halfWords z) (now («work_ones» .entry)) (now («work_twos» .entry)) in
         let word = writtenFrom (half z) (A (l + 4)) (A (l + 3)) (now (p .entry)) in
-        (now («word_ones» .exit) ≡ onesOf (upTo (places z) (word 0)) (wordsFor (places z))) × (now («word_twos» .exit) ≡ twosOf (upTo (places z) (word 0)) (wordsFor (places z)))
-        × (now («s_ones» .exit) ≡ onesOf (upTo (dim z) (word (codim z))) (wordsFor (dim z))) × (now («s_twos» .exit) ≡ twosOf (upTo (dim z) (word (codim z))) (wordsFor (dim z)))) ⌝ }
+        (now («word_ones» .exit) ≡ onesOf (upTo (places z) (word 0)) (wordsFor (places z)))
+        × (now («word_twos» .exit) ≡ twosOf (upTo (places z) (word 0)) (wordsFor (places z)))
+        × (now («s_ones» .exit) ≡ onesOf (upTo (dim z) (word (codim z))) (wordsFor (dim z)))
+        × (now («s_twos» .exit) ≡ twosOf (upTo (dim z) (word (codim z))) (wordsFor (dim z)))) ⌝ }
 {
     let s = sizes::shape_of(z);
     let rows = l + 5;

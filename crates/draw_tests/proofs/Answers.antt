@@ -11,7 +11,8 @@ use lib.Dec.{eqb, lit<}
 use lib.ListN.{length, getD}
 use Rattle.trits.specs.Planes.{wordsFor, tritAt, zeroWords}
 use Rattle.trits.specs.Refusal.{demand, first, spaceExit, planesRefusal}
-use Rattle.trits.proofs.Refusals.{passed-first, passed-refuse, passed-demand, first-all, demand-all, refuse-all, planes-row, left-cleared, clears-demand, clears-none}
+use Rattle.trits.proofs.Refusals.{passed-first, passed-refuse, passed-demand, first-all, demand-all, refuse-all, planes-row, left-cleared, clears-demand}
+use Rattle.trits.proofs.Refusals.{clears-none}
 use Rattle.trits.proofs.Tests.{or-false-both}
 use Rattle.trits.specs.Trit.{weightV}
 use Rattle.matrix.specs.Linear.{Vector, rank}
@@ -23,7 +24,8 @@ use Rattle.scheme.specs.Sizes.{half, places, dim, codim, gapU, sizesFit, ru, rv
 use Rattle.scheme.specs.Secret.{Secret, hasZero}
 use Rattle.scheme.specs.Draw.{Choices, drawRefusal, firstV, firstU, drawn}
 use Rattle.scheme.proofs.Zeros.{noZero-of}
-use Rattle.calls.specs.Lent.{pairDiffers, secretRefusal, Readable}
+use Rattle.calls.specs.Lent.{pairDiffers, secretRefusal}
+use Rattle.calls.specs.Steps.{Readable}
 use Rattle.calls.specs.DrawCall.{DrawCall, drawWorkWords, choicesDiffer, drawLengthsDiffer, choicesRefusal, drawAnswer}
 use Rattle.calls.proofs.Exits.{Low, planes-low}
 use Rattle.calls.proofs.Secrets.{pair-same, differs, Lengths, secret-lengths, secret-low}
@@ -52,7 +54,9 @@ module _ (z : Sizes) (i : DrawCall) where
 
       pub answer-contents : {x : ℕ} → x ≡ contents z i → (x ≡ 0 → ⊥) → x ≡ drawAnswer z i
       unfolding first
-      answer-contents {x} g h = g ∙ by (secretRefusal z (i .secret)) (eqb (secretRefusal z (i .secret)) 0) (choicesRefusal z i) (eqb (choicesRefusal z i) 0) refl (λ y. h (g ∙ y)) ∙ chain
+      answer-contents {x} g h = g
+          ∙ by (secretRefusal z (i .secret)) (eqb (secretRefusal z (i .secret)) 0) (choicesRefusal z i) (eqb (choicesRefusal z i) 0) refl (λ y. h (g ∙ y))
+          ∙ chain
         where
           by : (S : ℕ) (s : Bool) (C : ℕ) (t : Bool) → eqb C 0 ≡ t → (cond s C S ≡ 0 → ⊥) → cond s C S ≡ cond s (cond t (ending z i) C) S
           by S true C true q k = absurd (k (eqb-true C 0 q))
@@ -69,7 +73,9 @@ module _ (z : Sizes) (i : DrawCall) where
           by S p C q = rw (p, q)
 
 -- the choices are tested alone
-pub same-choices : (z : Sizes) (i : DrawCall) → choicesRefusal z (chosen (i .p) (i .y .ones) (i .y .twos) (i .orderV) (i .v .ones) (i .v .twos) (i .orderU) (i .u .ones) (i .u .twos)) ≡ choicesRefusal z i
+pub same-choices : (z : Sizes) (i : DrawCall)
+    → choicesRefusal z (chosen (i .p) (i .y .ones) (i .y .twos) (i .orderV) (i .v .ones) (i .v .twos) (i .orderU) (i .u .ones) (i .u .twos)) ≡ choicesRefusal z
+    i
 unfolding choicesRefusal
 same-choices z i = refl
 
@@ -146,7 +152,8 @@ choices-same z p y1 y2 ov v1 v2 ou u1 u2 e1 e2 s1 s2 w1 w2 e =
 module _ (z : Sizes) (i : DrawCall) where
   -- the lengths one after another
   abbrev choicesAll : Bool
-  choicesAll = choicesDiffer z (length (i .p)) (length (i .y .ones)) (length (i .y .twos)) (length (i .orderV)) (length (i .v .ones)) (length (i .v .twos)) (length (i .orderU)) (length (i .u .ones)) (length (i .u .twos))
+  choicesAll = choicesDiffer z (length (i .p)) (length (i .y .ones)) (length (i .y .twos)) (length (i .orderV)) (length (i .v .ones)) (length (i .v .twos))
+      (length (i .orderU)) (length (i .u .ones)) (length (i .u .twos))
       (length (i .word .ones)) (length (i .word .twos)) (length (i .s .ones)) (length (i .s .twos)) (length (i .work .ones)) (length (i .work .twos))
 
   pub same-lengths : {t : Bool} → (differs z (i .secret) || choicesAll) ≡ t → drawLengthsDiffer z i ≡ t
@@ -158,15 +165,18 @@ module _ (z : Sizes) (i : DrawCall) where
     unfolding drawLengthsDiffer
     lengths-secret = secret-lengths z (i .secret) choicesAll e
 
-    pub lengths-choices : ChoicesLengths z (length (i .p)) (length (i .y .ones)) (length (i .y .twos)) (length (i .orderV)) (length (i .v .ones)) (length (i .v .twos)) (length (i .orderU)) (length (i .u .ones))
-        (length (i .u .twos)) (length (i .word .ones)) (length (i .word .twos)) (length (i .s .ones)) (length (i .s .twos)) (length (i .work .ones)) (length (i .work .twos))
+    pub lengths-choices : ChoicesLengths z (length (i .p)) (length (i .y .ones)) (length (i .y .twos)) (length (i .orderV)) (length (i .v .ones))
+        (length (i .v .twos)) (length (i .orderU)) (length (i .u .ones))
+        (length (i .u .twos)) (length (i .word .ones)) (length (i .word .twos)) (length (i .s .ones)) (length (i .s .twos)) (length (i .work .ones))
+        (length (i .work .twos))
     unfolding drawLengthsDiffer
     lengths-choices = choices-same z _ _ _ _ _ _ _ _ _ _ _ _ _ _ _ (or-false-both (differs z (i .secret)) choicesAll e .1)
 
     -- ---- contents that are not refused
 
     pub ready : contents z i ≡ 0 → Readable z (i .secret)
-        → ((j : ℕ) → Fits w64 (getD (i .y .ones) j 0)) → ((j : ℕ) → Fits w64 (getD (i .y .twos) j 0)) → ((j : ℕ) → Fits w64 (getD (i .v .ones) j 0)) → ((j : ℕ) → Fits w64 (getD (i .v .twos) j 0))
+        → ((j : ℕ) → Fits w64 (getD (i .y .ones) j 0)) → ((j : ℕ) → Fits w64 (getD (i .y .twos) j 0)) → ((j : ℕ) → Fits w64 (getD (i .v .ones) j 0))
+        → ((j : ℕ) → Fits w64 (getD (i .v .twos) j 0))
         → ((j : ℕ) → Fits w64 (getD (i .u .ones) j 0)) → ((j : ℕ) → Fits w64 (getD (i .u .twos) j 0))
         → Ready z (given (i .secret) (i .p) (i .y .ones) (i .y .twos) (i .orderV) (i .v .ones) (i .v .twos) (i .orderU) (i .u .ones) (i .u .twos))
     unfolding choicesRefusal
@@ -190,7 +200,8 @@ module _ (z : Sizes) (i : DrawCall) where
           orderU = order-test (half z) (i .orderU) (E .0);
           u = planes-row 1 (z .ku) (F .0) (l .uTwos ∙ sym (l .uOnes)) f5 f6;
           uSize = l .uOnes;
-          values = noZero-of (z .ku - gapU z) (λ j. tritAt (i .u .ones) (i .u .twos) (gapU z + j)) (passed-refuse (hasZero (z .ku - gapU z) (λ j. tritAt (i .u .ones) (i .u .twos) (gapU z + j))) 8 0 (lit< tt) (F .1) .0);
+          values = noZero-of (z .ku - gapU z) (λ j. tritAt (i .u .ones) (i .u .twos) (gapU z + j))
+              (passed-refuse (hasZero (z .ku - gapU z) (λ j. tritAt (i .u .ones) (i .u .twos) (gapU z + j))) 8 0 (lit< tt) (F .1) .0);
         }
 
 -- what the tests of the secret have shown, its words being words

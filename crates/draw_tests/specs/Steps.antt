@@ -10,9 +10,9 @@ use Rattle.scheme.specs.declared.sizes.Sizes.{Sizes}
 use Rattle.scheme.specs.Sizes.{half, places, codim, gapU, sizesFit}
 use Rattle.scheme.specs.Secret.{noZero}
 use Rattle.scheme.specs.Draw.{drawRefusal}
-use Rattle.calls.specs.Lent.{Planes, planes, secretOf, Readable}
+use Rattle.calls.specs.Lent.{Planes, planes, secretOf}
 use Rattle.calls.specs.DrawCall.{DrawCall, drawCall, syndromeOf, choicesOf}
-use Rattle.calls.specs.Steps.{SecretLengths}
+use Rattle.calls.specs.Steps.{SecretLengths, Readable}
 
 -- what is read: the secret, p, y and the choices, with nothing to write to
 abbrev pub given : Planes → List ℕ → List ℕ → List ℕ → List ℕ → List ℕ → List ℕ → List ℕ → List ℕ → List ℕ → DrawCall

@@ -116,7 +116,8 @@ pub fn test_choices(
     requires { ⌜ sizesFit z ≡ true ⌝ }
     requires { ⌜ ChosenLengths z (length (now p)) (length (now «y_ones»)) (length (now «y_twos»)) (length (now «v_order»))
         (length (now «v_ones»)) (length (now «v_twos»)) (length (now «u_order»)) (length (now «u_ones»)) (length (now «u_twos»)) ⌝ }
-    ensures { λ r. ⌜ codeOf r ≡ choicesRefusal z (chosen (now (p .entry)) (now («y_ones» .entry)) (now («y_twos» .entry)) (now («v_order» .entry)) (now («v_ones» .entry)) (now («v_twos» .entry))
+    ensures { λ r. ⌜ codeOf r ≡ choicesRefusal z (chosen (now (p .entry)) (now («y_ones» .entry)) (now («y_twos» .entry)) (now («v_order» .entry))
+        (now («v_ones» .entry)) (now («v_twos» .entry))
         (now («u_order» .entry)) (now («u_ones» .entry)) (now («u_twos» .entry))) ⌝ }
 {
     let half = z.n as usize / 2;
@@ -175,9 +176,11 @@ pub fn test_contents(
     requires { ⌜ ForTestContentsDraw z (now «hu_ones») (now «hu_twos») (now «hv_ones») (now «hv_twos») (now «b_ones») (now «b_twos»)
         (now «c_ones») (now «c_twos») (now p) (now «y_ones») (now «y_twos») (now «v_order») (now «v_ones») (now «v_twos») (now «u_order») (now «u_ones»)
         (now «u_twos») ⌝ }
-    ensures { λ r. ⌜ codeOf r ≡ first (secretRefusal z (planes (now («hu_ones» .entry)) (now («hu_twos» .entry)) (now («hv_ones» .entry)) (now («hv_twos» .entry))
+    ensures { λ r. ⌜ codeOf r ≡ first (secretRefusal z (planes (now («hu_ones» .entry)) (now («hu_twos» .entry)) (now («hv_ones» .entry))
+        (now («hv_twos» .entry))
         (now («b_ones» .entry)) (now («b_twos» .entry)) (now («c_ones» .entry)) (now («c_twos» .entry))))
-        (choicesRefusal z (chosen (now (p .entry)) (now («y_ones» .entry)) (now («y_twos» .entry)) (now («v_order» .entry)) (now («v_ones» .entry)) (now («v_twos» .entry))
+        (choicesRefusal z (chosen (now (p .entry)) (now («y_ones» .entry)) (now («y_twos» .entry)) (now («v_order» .entry)) (now («v_ones» .entry))
+        (now («v_twos» .entry))
         (now («u_order» .entry)) (now («u_ones» .entry)) (now («u_twos» .entry)))) ⌝ }
 {
     let secret = tests::test_secret(

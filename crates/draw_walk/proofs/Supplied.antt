@@ -80,16 +80,19 @@ module _ (r : ℕ) (A : Matrix) where
   walk-length c (q ∷ ps) = by (walk-length (suc c) ps) (walk-length c ps) (isNext r A c q)
     where
       by : length (taken r A (suc c) ps) + length (passed r A (suc c) ps) ≡ length ps → length (taken r A c ps) + length (passed r A c ps) ≡ length ps
-          → (b : Bool) → length (cond b (q ∷ taken r A (suc c) ps) (taken r A c ps)) + length (cond b (passed r A (suc c) ps) (q ∷ passed r A c ps)) ≡ suc (length ps)
+          → (b : Bool) → length (cond b (q ∷ taken r A (suc c) ps) (taken r A c ps)) + length (cond b (passed r A (suc c) ps) (q ∷ passed r A c ps)) ≡ suc
+          (length ps)
       by f g true = omega arith
       by f g false = omega arith
 
   pub passed-out : (c : ℕ) (ps : List ℕ) (x : ℕ) → elem x ps ≡ false → elem x (passed r A c ps) ≡ false
   unfolding passed
   passed-out c [] x h = refl
-  passed-out c (q ∷ ps) x h = by (passed-out (suc c) ps x (or-false-right (eqb x q) (elem x ps) h)) (passed-out c ps x (or-false-right (eqb x q) (elem x ps) h)) (isNext r A c q)
+  passed-out c (q ∷ ps) x h = by (passed-out (suc c) ps x (or-false-right (eqb x q) (elem x ps) h)) (passed-out c ps x (or-false-right (eqb x q) (elem x ps) h))
+      (isNext r A c q)
     where
-      by : elem x (passed r A (suc c) ps) ≡ false → elem x (passed r A c ps) ≡ false → (b : Bool) → elem x (cond b (passed r A (suc c) ps) (q ∷ passed r A c ps)) ≡ false
+      by : elem x (passed r A (suc c) ps) ≡ false → elem x (passed r A c ps) ≡ false → (b : Bool)
+          → elem x (cond b (passed r A (suc c) ps) (q ∷ passed r A c ps)) ≡ false
       by f g true = f
       by f g false = false-or-false (eqb x q) (elem x (passed r A c ps)) (or-false-left (eqb x q) (elem x ps) h) g
 
@@ -108,11 +111,13 @@ module _ (r : ℕ) (A : Matrix) where
 
     pub taken-no : isNext r A c q ≡ false → taken r A 0 (ps ++ (q ∷ [])) ≡ taken r A 0 ps
     taken-no h =
-        taken-append r A ps (q ∷ []) 0 ∙ ap (λ (l : List ℕ). taken r A 0 ps ++ l) (one-taken ∙ ap (λ (b : Bool). cond b (q ∷ []) []) h) ∙ append-nil (taken r A 0 ps)
+        taken-append r A ps (q ∷ []) 0 ∙ ap (λ (l : List ℕ). taken r A 0 ps ++ l) (one-taken ∙ ap (λ (b : Bool). cond b (q ∷ []) []) h)
+        ∙ append-nil (taken r A 0 ps)
 
     pub passed-yes : isNext r A c q ≡ true → passed r A 0 (ps ++ (q ∷ [])) ≡ passed r A 0 ps
     passed-yes h =
-        passed-append r A ps (q ∷ []) 0 ∙ ap (λ (l : List ℕ). passed r A 0 ps ++ l) (one-passed ∙ ap (λ (b : Bool). cond b [] (q ∷ [])) h) ∙ append-nil (passed r A 0 ps)
+        passed-append r A ps (q ∷ []) 0 ∙ ap (λ (l : List ℕ). passed r A 0 ps ++ l) (one-passed ∙ ap (λ (b : Bool). cond b [] (q ∷ [])) h)
+        ∙ append-nil (passed r A 0 ps)
 
     pub passed-no : isNext r A c q ≡ false → passed r A 0 (ps ++ (q ∷ [])) ≡ passed r A 0 ps ++ (q ∷ [])
     passed-no h = passed-append r A ps (q ∷ []) 0 ∙ ap (λ (l : List ℕ). passed r A 0 ps ++ l) (one-passed ∙ ap (λ (b : Bool). cond b [] (q ∷ [])) h)
@@ -121,7 +126,8 @@ module _ (r : ℕ) (A : Matrix) where
     taken-count d = d ∙ by (bool-cases (isNext r A c q))
       where
         by : (isNext r A c q ≡ true) ⊎ (isNext r A c q ≡ false) → cond (isNext r A c q) (suc c) c ≡ length (taken r A 0 (ps ++ (q ∷ [])))
-        by (inl h) = ap (λ (b : Bool). cond b (suc c) c) h ∙ ap suc e ∙ sym (add-one (length (taken r A 0 ps))) ∙ sym (length-append (taken r A 0 ps) (q ∷ [])) ∙ ap (λ (l : List ℕ). length l) (sym (taken-yes h))
+        by (inl h) = ap (λ (b : Bool). cond b (suc c) c) h ∙ ap suc e ∙ sym (add-one (length (taken r A 0 ps)))
+            ∙ sym (length-append (taken r A 0 ps) (q ∷ [])) ∙ ap (λ (l : List ℕ). length l) (sym (taken-yes h))
         by (inr h) = ap (λ (b : Bool). cond b (suc c) c) h ∙ e ∙ ap (λ (l : List ℕ). length l) (sym (taken-no h))
 
 -- ---- rows of a matrix of which row e is another
@@ -198,7 +204,8 @@ module _ {rows w r e : ℕ} (l : List ℕ) (A : Matrix) {i c : ℕ} {os ts : Lis
     passed-count = omega (arith, k .count, walk-length r A 0 (take i l), length-take-le i l (omega arith))
 
     -- a place that is passed over finds a trit
-    pub supply-room : (m N : ℕ) {j : ℕ} → i < m → length (passed r A 0 (take m l)) ≤ N → j ≤ length (passed r A 0 (take i l)) → (isNext r (matrixAt w os ts) c (getD l i 0) ≡ true) ⊎ (j < N)
+    pub supply-room : (m N : ℕ) {j : ℕ} → i < m → length (passed r A 0 (take m l)) ≤ N → j ≤ length (passed r A 0 (take i l))
+        → (isNext r (matrixAt w os ts) c (getD l i 0) ≡ true) ⊎ (j < N)
     supply-room m N {j} a b d = by (bool-cases (isNext r A c (getD l i 0)))
       where
         rest : List ℕ
@@ -223,7 +230,8 @@ module _ {rows w r e : ℕ} (l : List ℕ) (A : Matrix) {i c : ℕ} {os ts : Lis
   -- the place at i takes the next trit, or none
   pub supply-turn : {n : ℕ} {o₁ t₁ : List ℕ} (v : Vector) → Walking rows w r e A (fill (passed r A 0 (take i l)) v (A e)) (take i l) c os ts
       → n ≡ cond (isNext r (matrixAt w os ts) c (getD l i 0)) (suc c) c
-      → Grid o₁ t₁ rows w (putRow e (cond (isNext r (matrixAt w os ts) c (getD l i 0)) (matrixAt w os ts e) (putV (matrixAt w os ts e) (getD l i 0) (v (i - c)))) (matrixAt w os ts))
+      → Grid o₁ t₁ rows w (putRow e (cond (isNext r (matrixAt w os ts) c (getD l i 0)) (matrixAt w os ts e)
+      (putV (matrixAt w os ts e) (getD l i 0) (v (i - c)))) (matrixAt w os ts))
       → Walking rows w r e A (fill (passed r A 0 (take (i + 1) l)) v (A e)) (take (i + 1) l) n o₁ t₁
   supply-turn {n} {o₁} {t₁} v k d g =
       let q = getD l i 0 in
@@ -239,10 +247,12 @@ module _ {rows w r e : ℕ} (l : List ℕ) (A : Matrix) {i c : ℕ} {os ts : Lis
       ∙ ap (λ (x : List ℕ). fill x v (A e)) (sym (passed-no r A ps q c (k .count) f))))
 
   -- the place at i takes its row's product, or nothing
-  pub solve-turn : {n : ℕ} {o₁ t₁ : List ℕ} (x m : ℕ) → (x ≡ e → ⊥) → Walking rows w r e A (fill (taken r A 0 (take i l)) (times m A (A x)) (A e)) (take i l) c os ts
+  pub solve-turn : {n : ℕ} {o₁ t₁ : List ℕ} (x m : ℕ) → (x ≡ e → ⊥)
+      → Walking rows w r e A (fill (taken r A 0 (take i l)) (times m A (A x)) (A e)) (take i l) c os ts
       → n ≡ cond (isNext r (matrixAt w os ts) c (getD l i 0)) (suc c) c
       → Grid o₁ t₁ rows w
-      (putRow e (cond (isNext r (matrixAt w os ts) c (getD l i 0)) (putV (matrixAt w os ts e) (getD l i 0) (dotV (matrixAt w os ts c) (matrixAt w os ts x) m)) (matrixAt w os ts e)) (matrixAt w os ts))
+      (putRow e (cond (isNext r (matrixAt w os ts) c (getD l i 0)) (putV (matrixAt w os ts e) (getD l i 0) (dotV (matrixAt w os ts c) (matrixAt w os ts x) m))
+      (matrixAt w os ts e)) (matrixAt w os ts))
       → Walking rows w r e A (fill (taken r A 0 (take (i + 1) l)) (times m A (A x)) (A e)) (take (i + 1) l) n o₁ t₁
   solve-turn {n} {o₁} {t₁} x m a k d g =
       let q = getD l i 0 in
@@ -266,14 +276,17 @@ forcedAt l A a ev b c y g j = forcedBy b c (A ev) (getD (drop a l) j 0) (y (g + 
 
 -- the first places of the last part are forced
 module _ {rows w : ℕ} (l : List ℕ) (A : Matrix) (a i e ev : ℕ) (b c y : Vector) (g : ℕ) where
-  pub forced-start : {o t : List ℕ} → Rows o t rows w → matrixAt w o t ≡ A → i ≡ a → Grid o t rows w (putRow e (fill (take (i - a) (drop a l)) (forcedAt l A a ev b c y g) (A e)) A)
+  pub forced-start : {o t : List ℕ} → Rows o t rows w → matrixAt w o t ≡ A → i ≡ a
+      → Grid o t rows w (putRow e (fill (take (i - a) (drop a l)) (forcedAt l A a ev b c y g) (A e)) A)
   unfolding fill
   forced-start {o} {t} h d f =
       let z : i - a ≡ 0 = omega arith in
       record { rows = h; cells = d ∙ put-own e A ∙ ap (λ (k : ℕ). putRow e (fill (take k (drop a l)) (forcedAt l A a ev b c y g) (A e)) A) (sym z) }
 
-  pub forced-turn : {os ts o t : List ℕ} → Order (length l) l → a ≤ i → i < length l → (ev ≡ e → ⊥) → Grid os ts rows w (putRow e (fill (take (i - a) (drop a l)) (forcedAt l A a ev b c y g) (A e)) A)
-      → Grid o t rows w (putRow e (putV (matrixAt w os ts e) (getD l i 0) (forcedBy b c (matrixAt w os ts ev) (getD l i 0) (y (g + (i - a))))) (matrixAt w os ts))
+  pub forced-turn : {os ts o t : List ℕ} → Order (length l) l → a ≤ i → i < length l → (ev ≡ e → ⊥)
+      → Grid os ts rows w (putRow e (fill (take (i - a) (drop a l)) (forcedAt l A a ev b c y g) (A e)) A)
+      → Grid o t rows w (putRow e (putV (matrixAt w os ts e) (getD l i 0) (forcedBy b c (matrixAt w os ts ev) (getD l i 0) (y (g + (i - a)))))
+      (matrixAt w os ts))
       → Grid o t rows w (putRow e (fill (take (i + 1 - a) (drop a l)) (forcedAt l A a ev b c y g) (A e)) A)
   forced-turn {os} {ts} {o} {t} od la h ne k s =
       let D = drop a l in
@@ -289,9 +302,11 @@ module _ {rows w : ℕ} (l : List ℕ) (A : Matrix) (a i e ev : ℕ) (b c y : Ve
       (ap (λ (x : Vector). putRow e (putV u q (forcedBy b c x q (y (g + m)))) A) (put-else e u A ev ne)
       ∙ ap (λ (p : ℕ). putRow e (putV u p (forcedBy b c (A ev) p (y (g + m)))) A) (sym same)
       ∙ ap (λ (j : ℕ). putRow e (putV u (getD D m 0) (forcedAt l A a ev b c y g j)) A) long
-      ∙ ap (λ (x : Vector). putRow e x A) (sym (fill-more (take m D) (getD D m 0) (forcedAt l A a ev b c y g) (A e) (before-place D m (distinct-last l a od) n)))
+      ∙ ap (λ (x : Vector). putRow e x A) (sym (fill-more (take m D) (getD D m 0) (forcedAt l A a ev b c y g) (A e)
+      (before-place D m (distinct-last l a od) n)))
       ∙ ap (λ (x : List ℕ). putRow e (fill x (forcedAt l A a ev b c y g) (A e)) A) (sym (ap (λ (j : ℕ). take j D) step ∙ take-suc D m 0 n)))
 
-  pub forced-all : {o t : List ℕ} → i ≡ length l → Grid o t rows w (putRow e (fill (take (i - a) (drop a l)) (forcedAt l A a ev b c y g) (A e)) A) → Grid o t rows w (putRow e (fill (drop a l) (forcedAt l A a ev b c y g) (A e)) A)
+  pub forced-all : {o t : List ℕ} → i ≡ length l → Grid o t rows w (putRow e (fill (take (i - a) (drop a l)) (forcedAt l A a ev b c y g) (A e)) A)
+      → Grid o t rows w (putRow e (fill (drop a l) (forcedAt l A a ev b c y g) (A e)) A)
   forced-all f k =
       grid-to k (ap (λ (x : List ℕ). putRow e (fill x (forcedAt l A a ev b c y g) (A e)) A) (take-all (i - a) (drop a l) (omega (arith, length-drop a l))))

@@ -10,7 +10,8 @@ ghost use Rattle.matrix.specs.Linear.{times, fill};
 ghost use Rattle.grid.specs.Steps.{Grid, putRow};
 ghost use Rattle.draw_reduce.specs.Steps.{isNext, taken, passed};
 ghost use Rattle.scheme.specs.Draw.{forcedBy};
-ghost use Rattle.draw_walk.specs.Steps.{ForIsNext, ForSupplyPlace, ForSupply, ForForcedTrit, ForForcePlace, ForSupplyForced, ForSolvePlace, ForSolvePivots};
+ghost use Rattle.draw_walk.specs.Steps.{ForIsNext, ForSupplyPlace, ForSupply, ForForcedTrit, ForForcePlace, ForSupplyForced, ForSolvePlace};
+ghost use Rattle.draw_walk.specs.Steps.{ForSolvePivots};
 
 // Whether place q has the next pivot, c of the r rows having theirs.
 pub fn is_next(
@@ -49,7 +50,8 @@ pub fn supply_place(
     ensures { λ n. ⌜ n ≡ cond (isNext r (matrixAt w (now (ones .entry)) (now (twos .entry))) c q) (suc c) c ⌝ }
     ensures { λ _. ⌜ Grid (now (ones .exit)) (now (twos .exit)) rows w
         (putRow e (cond (isNext r (matrixAt w (now (ones .entry)) (now (twos .entry))) c q) (matrixAt w (now (ones .entry)) (now (twos .entry)) e)
-        (putV (matrixAt w (now (ones .entry)) (now (twos .entry)) e) q (tritAt (now (vo .entry)) (now (vt .entry)) j))) (matrixAt w (now (ones .entry)) (now (twos .entry)))) ⌝ }
+        (putV (matrixAt w (now (ones .entry)) (now (twos .entry)) e) q (tritAt (now (vo .entry)) (now (vt .entry)) j)))
+        (matrixAt w (now (ones .entry)) (now (twos .entry)))) ⌝ }
 {
     if is_next(ones, twos, rows, w, r, c, q) {
         return c + 1;
@@ -73,7 +75,8 @@ pub fn supply(
 )
     requires { ⌜ ForSupply (now ones) (now twos) rows w r (now order) m (now vo) (now vt) e ⌝ }
     ensures { λ _. ⌜ Grid (now (ones .exit)) (now (twos .exit)) rows w
-        (putRow e (fill (passed r (matrixAt w (now (ones .entry)) (now (twos .entry))) 0 (take m (now (order .entry)))) (tritAt (now (vo .entry)) (now (vt .entry)))
+        (putRow e (fill (passed r (matrixAt w (now (ones .entry)) (now (twos .entry))) 0 (take m (now (order .entry))))
+        (tritAt (now (vo .entry)) (now (vt .entry)))
         (matrixAt w (now (ones .entry)) (now (twos .entry)) e)) (matrixAt w (now (ones .entry)) (now (twos .entry)))) ⌝ }
 {
     let mut c = 0;
@@ -113,7 +116,8 @@ pub fn force_place(
     requires { ⌜ ForForcePlace (now ones) (now twos) rows w q (now bo) (now bt) (now co) (now ct) (now uo) (now ut) j ev e ⌝ }
     ensures { λ _. ⌜ Grid (now (ones .exit)) (now (twos .exit)) rows w
         (putRow e (putV (matrixAt w (now (ones .entry)) (now (twos .entry)) e) q
-        (forcedBy (tritAt (now (bo .entry)) (now (bt .entry))) (tritAt (now (co .entry)) (now (ct .entry))) (matrixAt w (now (ones .entry)) (now (twos .entry)) ev) q
+        (forcedBy (tritAt (now (bo .entry)) (now (bt .entry))) (tritAt (now (co .entry)) (now (ct .entry)))
+        (matrixAt w (now (ones .entry)) (now (twos .entry)) ev) q
         (tritAt (now (uo .entry)) (now (ut .entry)) j))) (matrixAt w (now (ones .entry)) (now (twos .entry)))) ⌝ }
 {
     let v = planes::places::trit_at(ones, twos, 64 * (ev * w) + q);
@@ -148,7 +152,8 @@ pub fn supply_forced(
     requires { ⌜ ForSupplyForced (now ones) (now twos) rows w (now order) from (now bo) (now bt) (now co) (now ct) (now uo) (now ut) g ev e ⌝ }
     ensures { λ _. ⌜ Grid (now (ones .exit)) (now (twos .exit)) rows w
         (putRow e (fill (drop from (now (order .entry)))
-        (λ j. forcedBy (tritAt (now (bo .entry)) (now (bt .entry))) (tritAt (now (co .entry)) (now (ct .entry))) (matrixAt w (now (ones .entry)) (now (twos .entry)) ev)
+        (λ j. forcedBy (tritAt (now (bo .entry)) (now (bt .entry))) (tritAt (now (co .entry)) (now (ct .entry)))
+        (matrixAt w (now (ones .entry)) (now (twos .entry)) ev)
         (getD (drop from (now (order .entry))) j 0) (tritAt (now (uo .entry)) (now (ut .entry)) (g + j)))
         (matrixAt w (now (ones .entry)) (now (twos .entry)) e)) (matrixAt w (now (ones .entry)) (now (twos .entry)))) ⌝ }
 {

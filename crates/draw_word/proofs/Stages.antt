@@ -50,10 +50,12 @@ module _ {o t : List ℕ} (n k r w : ℕ) (e : o ≡ zeroWords n) (f : t ≡ zer
 -- ---- placed and parted
 
 module _ (z : Sizes) (l : ℕ) (s : Secret) (x : Vector) (w : ℕ) (o₀ t₀ o₁ t₁ o₂ t₂ : List ℕ) {r : ℕ} where
-  pub word-parted : ((i : ℕ) → matrixAt w o₀ t₀ i ≡ zeros) → Grid o₁ t₁ r w (placedRows l (half z) x (matrixAt w o₀ t₀)) → Grid o₂ t₂ r w (partedRows l (s .b) (s .c) (matrixAt w o₁ t₁))
+  pub word-parted : ((i : ℕ) → matrixAt w o₀ t₀ i ≡ zeros) → Grid o₁ t₁ r w (placedRows l (half z) x (matrixAt w o₀ t₀))
+      → Grid o₂ t₂ r w (partedRows l (s .b) (s .c) (matrixAt w o₁ t₁))
       → Parted z l s x (matrixAt w o₂ t₂)
   word-parted e g h =
-      let c : matrixAt w o₂ t₂ ≡ partedRows l (s .b) (s .c) (placedRows l (half z) x (matrixAt w o₀ t₀)) = h .cells ∙ ap (partedRows l (s .b) (s .c)) (g .cells) in
+      let c : matrixAt w o₂ t₂ ≡ partedRows l (s .b) (s .c) (placedRows l (half z) x (matrixAt w o₀ t₀)) = h .cells
+      ∙ ap (partedRows l (s .b) (s .c)) (g .cells) in
       let p = placed-parted z s x l (matrixAt w o₀ t₀) in
       record {
         left = ap (λ (A : Matrix). A l) c ∙ p .left;
@@ -73,14 +75,17 @@ ends-to {n} e h = subst (Ends n) (sym e) h
 -- ---- e_V, then e_U
 
 module _ (z : Sizes) (l : ℕ) (s : Secret) (ch : Choices) where
-  pub test-v : length (ch .orderV) ≡ half z → eqb (rank (rv z) (length (ch .orderV)) (s .hv) (firstV z ch)) (rv z) ≡ eqb (rank (rv z) (half z) (s .hv) (firstV z ch)) (rv z)
+  pub test-v : length (ch .orderV) ≡ half z
+      → eqb (rank (rv z) (length (ch .orderV)) (s .hv) (firstV z ch)) (rv z) ≡ eqb (rank (rv z) (half z) (s .hv) (firstV z ch)) (rv z)
   test-v e = ap (λ (n : ℕ). eqb (rank (rv z) n (s .hv) (firstV z ch)) (rv z)) e
 
-  pub test-u : length (ch .orderU) ≡ half z → eqb (rank (ru z) (length (ch .orderU)) (s .hu) (firstU z ch)) (ru z) ≡ eqb (rank (ru z) (half z) (s .hu) (firstU z ch)) (ru z)
+  pub test-u : length (ch .orderU) ≡ half z
+      → eqb (rank (ru z) (length (ch .orderU)) (s .hu) (firstU z ch)) (ru z) ≡ eqb (rank (ru z) (half z) (s .hu) (firstU z ch)) (ru z)
   test-u e = ap (λ (n : ℕ). eqb (rank (ru z) n (s .hu) (firstU z ch)) (ru z)) e
 
   module _ {A B : Matrix} (e : length (ch .orderV) ≡ half z)
-      (h : Solved (rv z) (l + 1) (l + 3) A B (Rattle.draw_half.specs.Steps.wordV (rv z) (length (ch .orderV)) (s .hv) (ch .orderV) (gapV z) (ch .tritsV) (A (l + 1)))) where
+      (h : Solved (rv z) (l + 1) (l + 3) A B (Rattle.draw_half.specs.Steps.wordV (rv z) (length (ch .orderV)) (s .hv) (ch .orderV) (gapV z) (ch .tritsV)
+      (A (l + 1)))) where
     pub row-v : B (l + 3) ≡ drawV z s (A (l + 1)) ch
     row-v =
         h .word ∙ ap (λ (n : ℕ). Rattle.draw_half.specs.Steps.wordV (rv z) n (s .hv) (ch .orderV) (gapV z) (ch .tritsV) (A (l + 1))) e
@@ -94,7 +99,8 @@ module _ (z : Sizes) (l : ℕ) (s : Secret) (ch : Choices) where
       kept-u = h .kept (l + 4) (omega arith) (λ y. omega arith) (λ y. omega arith)
 
       module _ {C : Matrix} (f : length (ch .orderU) ≡ half z) (m : ru z ≤ l)
-          (k : Solved (ru z) l (l + 4) B C (Rattle.draw_half.specs.Steps.wordU (ru z) (length (ch .orderU)) (s .hu) (s .b) (s .c) (ch .orderU) (gapU z) (ch .valuesU) (B (l + 3)) (B l))) where
+          (k : Solved (ru z) l (l + 4) B C (Rattle.draw_half.specs.Steps.wordU (ru z) (length (ch .orderU)) (s .hu) (s .b) (s .c) (ch .orderU) (gapU z)
+          (ch .valuesU) (B (l + 3)) (B l))) where
         row-u : C (l + 4) ≡ drawU z s (A l) (drawV z s (A (l + 1)) ch) ch
         row-u =
             k .word ∙ ap (λ (n : ℕ). Rattle.draw_half.specs.Steps.wordU (ru z) n (s .hu) (s .b) (s .c) (ch .orderU) (gapU z) (ch .valuesU) (B (l + 3)) (B l)) f
@@ -114,7 +120,8 @@ upto-row {n} {u} v e = ends-to e (upto-ends n v)
 module _ (l : ℕ) (s : Secret) (w : ℕ) (o₁ t₁ o₂ t₂ : List ℕ) {r : ℕ} where
   pub word-joined : Grid o₂ t₂ r w (joinedRows (l + 4) (l + 3) (l + 2) (s .b) (s .c) (matrixAt w o₁ t₁)) → Joined l s (matrixAt w o₁ t₁) (matrixAt w o₂ t₂)
   word-joined g =
-      let p = joined-halves s (l + 4) (l + 3) (l + 2) (matrixAt w o₁ t₁) (matrixAt w o₁ t₁ (l + 4)) (matrixAt w o₁ t₁ (l + 3)) (λ y. omega arith) (λ y. omega arith) (λ y. omega arith) refl refl in
+      let p = joined-halves s (l + 4) (l + 3) (l + 2) (matrixAt w o₁ t₁) (matrixAt w o₁ t₁ (l + 4)) (matrixAt w o₁ t₁ (l + 3)) (λ y. omega arith)
+      (λ y. omega arith) (λ y. omega arith) refl refl in
       record { left = ap (λ (A : Matrix). A (l + 4)) (g .cells) ∙ p .left; right = ap (λ (A : Matrix). A (l + 3)) (g .cells) ∙ p .right }
 
 -- ---- the whole
@@ -167,19 +174,23 @@ module _ (z : Sizes) (i : DrawCall) where
   module _ (e : ranksRefusal z S (choicesOf i) 0 ≡ 0) where
     ending-weight : {t : Bool} → eqb (weightV (drawn z S (i .p) (syndromeOf i) (choicesOf i)) (places z)) (z .w) ≡ t → demand t 14 0 ≡ ending z i
     unfolding drawRefusal
-    ending-weight f = sym (ranks-go z S (choicesOf i) e (demand (eqb (weightV (drawn z S (i .p) (syndromeOf i) (choicesOf i)) (places z)) (z .w)) 14 0) ∙ ap (λ (t : Bool). demand t 14 0) f)
+    ending-weight f =
+        sym (ranks-go z S (choicesOf i) e (demand (eqb (weightV (drawn z S (i .p) (syndromeOf i) (choicesOf i)) (places z)) (z .w)) 14 0)
+        ∙ ap (λ (t : Bool). demand t 14 0) f)
 
     abbrev P : Secret
     P = pairsOf (i .secret .b .ones) (i .secret .b .twos) (i .secret .c .ones) (i .secret .c .twos)
 
-    module _ (l : ℕ) {A B C : Matrix} (r : Ready z i) (a : Parted z l P (startWord z (i .p) (syndromeOf i)) A) {n : ℕ} (n0 : n ≡ 0) (h : SolvedWhere n z l S (choicesOf i) (A l) (A (l + 1)) B) (j : Joined l P B C) where
+    module _ (l : ℕ) {A B C : Matrix} (r : Ready z i) (a : Parted z l P (startWord z (i .p) (syndromeOf i)) A) {n : ℕ} (n0 : n ≡ 0)
+        (h : SolvedWhere n z l S (choicesOf i) (A l) (A (l + 1)) B) (j : Joined l P B C) where
       row-eV : B (l + 3) ≡ eVOf z i
       row-eV = h .eV n0 ∙ ap (λ (x : Vector). drawV z S x (choicesOf i)) (a .right) ∙ drawV-half z S (vOf z S (startWord z (i .p) (syndromeOf i))) (choicesOf i)
 
       row-eU : B (l + 4) ≡ eUOf z i
       row-eU =
           h .eU n0
-          ∙ ap₂ (λ (x y : Vector). drawU z S x y (choicesOf i)) (a .left) (ap (λ (x : Vector). drawV z S x (choicesOf i)) (a .right) ∙ drawV-half z S (vOf z S (startWord z (i .p) (syndromeOf i))) (choicesOf i))
+          ∙ ap₂ (λ (x y : Vector). drawU z S x y (choicesOf i)) (a .left)
+          (ap (λ (x : Vector). drawV z S x (choicesOf i)) (a .right) ∙ drawV-half z S (vOf z S (startWord z (i .p) (syndromeOf i))) (choicesOf i))
           ∙ drawU-half z S (uOf z S (startWord z (i .p) (syndromeOf i))) (eVOf z i) (choicesOf i)
 
       row-left : C (l + 4) ≡ leftOf S (eUOf z i) (eVOf z i)
@@ -196,7 +207,8 @@ module _ (z : Sizes) (i : DrawCall) where
 
       weighs : (m : ℕ) → half z ≤ m → weightV (C (l + 4)) m + weightV (C (l + 3)) m ≡ weightV (drawn z S (i .p) (syndromeOf i) (choicesOf i)) (places z)
       weighs m g =
-          drawn-weighs z S (i .p) (syndromeOf i) (choicesOf i) (C (l + 4)) (C (l + 3)) row-left row-right valid (full-v z S (choicesOf i) e) (full-u z S (choicesOf i) e) (r .p) m g
+          drawn-weighs z S (i .p) (syndromeOf i) (choicesOf i) (C (l + 4)) (C (l + 3)) row-left row-right valid (full-v z S (choicesOf i) e)
+          (full-u z S (choicesOf i) e) (r .p) m g
 
       module _ {x : ℕ} (m : ℕ) (g : half z ≤ m) (y : x ≡ weightV (C (l + 4)) m + weightV (C (l + 3)) m) where
         pub ending-fourteen : (x ≡ z .w → ⊥) → 14 ≡ ending z i

@@ -1,4 +1,5 @@
--- The working space of a draw, stage after stage: rows of N places, the matrix under elimination below row l, then x_U, x_V, a row for products, e_V, e_U ("One draw"). No rule of the paper: code is tied to it. Assumes nothing.
+-- The working space of a draw, stage after stage: rows of N places, the matrix under elimination below row l, then x_U, x_V,
+-- a row for products, e_V, e_U ("One draw"). No rule of the paper: code is tied to it. Assumes nothing.
 use mathlib.Core.Path.{_≡_}
 use mathlib.Core.List.{List}
 use Prim.Native.Nat.{ℕ, _+_, _*_, _≤_}
@@ -9,7 +10,8 @@ use Rattle.scheme.specs.declared.sizes.Sizes.{Sizes}
 use Rattle.scheme.specs.Sizes.{half, codim, sizesFit, places, ru, rv}
 use Rattle.scheme.specs.Secret.{Secret, join, uOf, vOf, leftOf, rightOf}
 use Rattle.scheme.specs.Draw.{Choices, placed, drawV, drawU}
-use Rattle.calls.specs.Lent.{secretOf, halfWords, planes, Readable}
+use Rattle.calls.specs.Lent.{secretOf, halfWords, planes}
+use Rattle.calls.specs.Steps.{Readable}
 use Rattle.calls.specs.DrawCall.{DrawCall, syndromeOf, choicesOf}
 use mathlib.Core.Bool.{true}
 use lib.ListN.{length}
@@ -75,7 +77,8 @@ pub record ForPartWord (z : Sizes) (l : ℕ) (bOnes bTwos cOnes cTwos p yOnes yT
   pub work-twos-size : length workTwos ≡ (l + 5) * halfWords z
 
 -- sizes that fit, a secret that was tested, both orders and their values, and the halves of the word in the working space
-pub record ForSolveHalves (z : Sizes) (l : ℕ) (huOnes huTwos hvOnes hvTwos bOnes bTwos cOnes cTwos vOrder vOnes vTwos uOrder uOnes uTwos workOnes workTwos : List ℕ) : Type 0 where
+pub record ForSolveHalves (z : Sizes) (l : ℕ) (huOnes huTwos hvOnes hvTwos bOnes bTwos cOnes cTwos vOrder vOnes vTwos uOrder uOnes uTwos workOnes
+    workTwos : List ℕ) : Type 0 where
   pub sizes : sizesFit z ≡ true
   pub secret : Readable z (planes huOnes huTwos hvOnes hvTwos bOnes bTwos cOnes cTwos)
   pub v-is-order : Order (half z) vOrder
@@ -104,7 +107,8 @@ pub record ForJoinWord (z : Sizes) (l : ℕ) (bOnes bTwos cOnes cTwos workOnes w
   pub grid : Rows workOnes workTwos (l + 5) (halfWords z)
 
 -- sizes that fit, all that a draw is given, tested, and working space
-pub record ForMakeWord (z : Sizes) (l : ℕ) (huOnes huTwos hvOnes hvTwos bOnes bTwos cOnes cTwos p yOnes yTwos vOrder vOnes vTwos uOrder uOnes uTwos workOnes workTwos : List ℕ) : Type 0 where
+pub record ForMakeWord (z : Sizes) (l : ℕ) (huOnes huTwos hvOnes hvTwos bOnes bTwos cOnes cTwos p yOnes yTwos vOrder vOnes vTwos uOrder uOnes uTwos workOnes
+    workTwos : List ℕ) : Type 0 where
   pub sizes : sizesFit z ≡ true
   pub ready : Ready z (given (planes huOnes huTwos hvOnes hvTwos bOnes bTwos cOnes cTwos) p yOnes yTwos vOrder vOnes vTwos uOrder uOnes uTwos)
   pub u-few : ru z ≤ l

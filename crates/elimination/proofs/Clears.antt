@@ -72,7 +72,8 @@ module _ (j q : ℕ) (A : Matrix) where
     taken-low h = rw (lt-leb a k h)
 
     pub taken-high : b ≤ k → takenOut a b j q A k t ≡ A k t
-    taken-high h = ap (λ (s : Bool). cond (leb a k && s) (takeOut j q A k t) (A k t)) (le-ltb k b h) ∙ ap (λ (s : Bool). cond s (takeOut j q A k t) (A k t)) (and-false (leb a k))
+    taken-high h = ap (λ (s : Bool). cond (leb a k && s) (takeOut j q A k t) (A k t)) (le-ltb k b h)
+        ∙ ap (λ (s : Bool). cond s (takeOut j q A k t) (A k t)) (and-false (leb a k))
 
   pub taken-none : (a : ℕ) → A ≡ takenOut a a j q A
   taken-none a = fun-ext (λ k. fun-ext (λ t. by k t (decLt k a)))
@@ -96,12 +97,14 @@ module _ (j q : ℕ) (A : Matrix) where
       by k t (yes e) =
           let o : (t : ℕ) → takenOut a i j q A k t ≡ A k t = λ t. taken-high a i k t (omega arith) in
           let m : k ≡ j → ⊥ = λ z. n (sym e ∙ z) in
-          ap (λ (s : Bool). cond s (subT (takenOut a i j q A k t) (mulT (takenOut a i j q A k q) (takenOut a i j q A j t))) (takenOut a i j q A k t)) (eq-eqb k i e)
+          ap (λ (s : Bool). cond s (subT (takenOut a i j q A k t) (mulT (takenOut a i j q A k q) (takenOut a i j q A j t))) (takenOut a i j q A k t))
+          (eq-eqb k i e)
           ∙ ap₂ subT (o t) (ap₂ mulT (o q) (taken-pivot a i t))
           ∙ sym (taken-in a (i + 1) k t (omega arith) (omega arith)
           ∙ ap (λ (s : Bool). cond s (A k t) (subT (A k t) (mulT (A k q) (A j t)))) (ne-eqb k j m))
       by k t (no f) =
-          ap (λ (s : Bool). cond s (subT (takenOut a i j q A k t) (mulT (takenOut a i j q A k q) (takenOut a i j q A j t))) (takenOut a i j q A k t)) (ne-eqb k i f)
+          ap (λ (s : Bool). cond s (subT (takenOut a i j q A k t) (mulT (takenOut a i j q A k q) (takenOut a i j q A j t))) (takenOut a i j q A k t))
+          (ne-eqb k i f)
           ∙ else k t f (decLt k a) (decLt k i)
 
   -- the rows before j, then those after it, of r rows past which there is 0

@@ -40,7 +40,8 @@ went-turn {r} {w} {H} {ps} {ps′} {count} {n} {ones} {twos} {o} {t} c g e en eg
     next : eliminate r ps′ (begun H) ≡ tried r c (eliminate r ps (begun H))
     next = ap (λ (l : List ℕ). eliminate r l (begun H)) e ∙ eliminate-more r ps c (begun H)
 
-pub went-count : {r w : ℕ} {H : Matrix} {ps : List ℕ} {count : ℕ} {ones twos : List ℕ} (n : ℕ) → Went r w H ps count ones twos → Below n ps → count ≡ rank r n H ps
+pub went-count : {r w : ℕ} {H : Matrix} {ps : List ℕ} {count : ℕ} {ones twos : List ℕ} (n : ℕ) → Went r w H ps count ones twos → Below n ps
+    → count ≡ rank r n H ps
 went-count {r} {w} {H} {ps} n g b = g .counted ∙ eliminate-rank r n H ps b
 
 pub went-grid : {r w : ℕ} {H : Matrix} {ps : List ℕ} {count : ℕ} {ones twos : List ℕ} → Went r w H ps count ones twos → Grid ones twos r w (eliminated r H ps)

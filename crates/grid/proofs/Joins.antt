@@ -35,7 +35,8 @@ drop-trit o t a q =
     ∙ sym (tritAt-word o t (64 * a + q) (a + q / 64) (q % 64) (omega arith) (omega arith))
 
 -- a turn that stores in row i reads in row j what was there at first
-pub patch-source : {f : ℕ → ℕ} (w i j : ℕ) {k : ℕ} {l₀ l : List ℕ} → Patched f (i * w) k l₀ l → (i ≡ j → ⊥) → k < w → getD l (j * w + k) 0 ≡ getD (drop (j * w) l₀) k 0
+pub patch-source : {f : ℕ → ℕ} (w i j : ℕ) {k : ℕ} {l₀ l : List ℕ} → Patched f (i * w) k l₀ l → (i ≡ j → ⊥) → k < w
+    → getD l (j * w + k) 0 ≡ getD (drop (j * w) l₀) k 0
 patch-source w i j {k} {l₀} {l} p f h = by (rows-apart i j w f) ∙ sym (getD-drop (j * w) l₀ k 0)
   where
     by : (i * w + w ≤ j * w) ⊎ (j * w + w ≤ i * w) → getD l (j * w + k) 0 ≡ getD l₀ (j * w + k) 0

@@ -115,7 +115,8 @@ module _ (j : ℕ) (v : Vector) (A : Matrix) (k : ℕ) where
 module _ {o₀ t₀ o t : List ℕ} {r w : ℕ} (i p : ℕ) (x : Trit) (g : Rows o₀ t₀ r w) (l : p < 64 * w) where
   pub put-cell : Reads o t (length o₀) (putV (tritAt o₀ t₀) (64 * (i * w) + p) x) → Grid o t r w (putRow i (putV (matrixAt w o₀ t₀ i) p x) (matrixAt w o₀ t₀))
   put-cell d =
-      grid-by (record { row = d .row; size = d .size ∙ g .size }) (λ k q h. ap (λ (u : Vector). u (64 * (k * w) + q)) (d .trits) ∙ at k q h (ℕ-discrete k i) (ℕ-discrete q p))
+      grid-by (record { row = d .row; size = d .size ∙ g .size })
+      (λ k q h. ap (λ (u : Vector). u (64 * (k * w) + q)) (d .trits) ∙ at k q h (ℕ-discrete k i) (ℕ-discrete q p))
       (λ k q h. past k q h (ℕ-discrete k i))
     where
       A : Matrix
@@ -142,7 +143,8 @@ module _ {o₀ t₀ o t : List ℕ} {r w : ℕ} (i p : ℕ) (x : Trit) (g : Rows
 
       past : (k q : ℕ) → 64 * w ≤ q → Dec (k ≡ i) → t0 ≡ putRow i (putV (A i) p x) A k q
       past k q h (yes e) =
-          sym (ap (λ (u : Vector). u q) (put-here i (putV (A i) p x) A k e) ∙ ap (λ (b : Bool). cond b x (A i q)) (ne-eqb q p (λ z. omega arith)) ∙ cell-past w o₀ t₀ i q h)
+          sym (ap (λ (u : Vector). u q) (put-here i (putV (A i) p x) A k e) ∙ ap (λ (b : Bool). cond b x (A i q)) (ne-eqb q p (λ z. omega arith))
+          ∙ cell-past w o₀ t₀ i q h)
       past k q h (no f) = sym (ap (λ (u : Vector). u q) (put-else i (putV (A i) p x) A k f) ∙ cell-past w o₀ t₀ k q h)
 
 -- ---- trits that are read and put one after another
@@ -152,7 +154,8 @@ pub read-trit : (t : Trit) (x : ℕ) → x ≡ number t → tritOf x ≡ t
 read-trit t x e = ap tritOf e ∙ trit-number t
 
 -- a trit known by its number, put in row e
-pub put-number : {o t : List ℕ} {r w : ℕ} (A : Matrix) (e q n : ℕ) (x : Trit) → n ≡ number x → Grid o t r w (putRow e (putV (A e) q (tritOf n)) A) → Grid o t r w (putRow e (putV (A e) q x) A)
+pub put-number : {o t : List ℕ} {r w : ℕ} (A : Matrix) (e q n : ℕ) (x : Trit) → n ≡ number x → Grid o t r w (putRow e (putV (A e) q (tritOf n)) A)
+    → Grid o t r w (putRow e (putV (A e) q x) A)
 put-number A e q n x d g = grid-to g (ap (λ (y : Trit). putRow e (putV (A e) q y) A) (read-trit x n d))
 
 pub trit-lt : (t : Trit) (x : ℕ) → x ≡ number t → x < 3
@@ -164,7 +167,8 @@ read-lt o t p x e = trit-lt (tritAt o t p) x e
 pub read-column : (w : ℕ) (o t : List ℕ) (i q x : ℕ) → q < 64 * w → x ≡ number (tritAt o t (64 * (i * w) + q)) → tritOf x ≡ matrixAt w o t i q
 read-column w o t i q x h e = read-trit (tritAt o t (64 * (i * w) + q)) x e ∙ sym (cell w o t i q h)
 
-pub column-turn : {os ts o t : List ℕ} {n : ℕ} (v : Vector) (i x : ℕ) → Reads os ts n (upTo i v) → tritOf x ≡ v i → Reads o t (length os) (putV (tritAt os ts) i (tritOf x))
+pub column-turn : {os ts o t : List ℕ} {n : ℕ} (v : Vector) (i x : ℕ) → Reads os ts n (upTo i v) → tritOf x ≡ v i
+    → Reads o t (length os) (putV (tritAt os ts) i (tritOf x))
     → Reads o t n (upTo (i + 1) v)
 column-turn v i x r e g = record {
   row = g .row;

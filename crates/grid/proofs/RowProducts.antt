@@ -63,7 +63,8 @@ module _ (op : Trit → Trit → Trit) (a i t : ℕ) (v : Vector) (A : Matrix) w
       by : (k : ℕ) → Dec (k ≡ a) → joinRow op a t B k ≡ putRow a (zipV op (A a) P) B k
       by k (yes e) =
           fun-ext (λ q.
-          ap (λ (b : Bool). cond b (op (B k q) (B t q)) (B k q)) (eq-eqb k a e) ∙ ap₂ (λ (x y : Vector). op (x q) (y q)) (ap B e ∙ put-else t P A a f) (put-here t P A t refl))
+          ap (λ (b : Bool). cond b (op (B k q) (B t q)) (B k q)) (eq-eqb k a e)
+          ∙ ap₂ (λ (x y : Vector). op (x q) (y q)) (ap B e ∙ put-else t P A a f) (put-here t P A t refl))
           ∙ sym (put-here a (zipV op (A a) P) B k e)
       by k (no g) = fun-ext (λ q. ap (λ (b : Bool). cond b (op (B k q) (B t q)) (B k q)) (ne-eqb k a g)) ∙ sym (put-else a (zipV op (A a) P) B k g)
 
@@ -78,11 +79,14 @@ module _ (op : Trit → Trit → Trit) (a i t : ℕ) (v : Vector) (A : Matrix) w
 -- ---- calls one after another
 
 module _ (w : ℕ) (o₀ t₀ : List ℕ) {o₁ t₁ o₂ t₂ : List ℕ} {r : ℕ} where
-  pub made-grid : {o₃ t₃ : List ℕ} (t i : ℕ) (v : Vector) → (t ≡ i → ⊥) → Grid o₁ t₁ r w (putRow t zeros (matrixAt w o₀ t₀)) → Grid o₂ t₂ r w (joinRow addT t i (matrixAt w o₁ t₁))
-      → Grid o₃ t₃ r w (putRow t (zipV mulT (matrixAt w o₂ t₂ t) v) (matrixAt w o₂ t₂)) → Grid o₃ t₃ r w (putRow t (zipV mulT (matrixAt w o₀ t₀ i) v) (matrixAt w o₀ t₀))
+  pub made-grid : {o₃ t₃ : List ℕ} (t i : ℕ) (v : Vector) → (t ≡ i → ⊥) → Grid o₁ t₁ r w (putRow t zeros (matrixAt w o₀ t₀))
+      → Grid o₂ t₂ r w (joinRow addT t i (matrixAt w o₁ t₁))
+      → Grid o₃ t₃ r w (putRow t (zipV mulT (matrixAt w o₂ t₂ t) v) (matrixAt w o₂ t₂))
+      → Grid o₃ t₃ r w (putRow t (zipV mulT (matrixAt w o₀ t₀ i) v) (matrixAt w o₀ t₀))
   made-grid t i v f a b c =
       grid-to c (ap (λ (B : Matrix). putRow t (zipV mulT (B t) v) B) (b .cells ∙ ap (joinRow addT t i) (a .cells)) ∙ product-made t i f v (matrixAt w o₀ t₀))
 
-  pub joined-grid : (op : Trit → Trit → Trit) (a i t : ℕ) (v : Vector) → (a ≡ t → ⊥) → Grid o₁ t₁ r w (putRow t (zipV mulT (matrixAt w o₀ t₀ i) v) (matrixAt w o₀ t₀))
+  pub joined-grid : (op : Trit → Trit → Trit) (a i t : ℕ) (v : Vector) → (a ≡ t → ⊥)
+      → Grid o₁ t₁ r w (putRow t (zipV mulT (matrixAt w o₀ t₀ i) v) (matrixAt w o₀ t₀))
       → Grid o₂ t₂ r w (joinRow op a t (matrixAt w o₁ t₁)) → Grid o₂ t₂ r w (joinProduct op a i t v (matrixAt w o₀ t₀))
   joined-grid op a i t v f g h = grid-to h (ap (joinRow op a t) (g .cells) ∙ product-joined op a i t v (matrixAt w o₀ t₀) f)

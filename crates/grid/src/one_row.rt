@@ -30,7 +30,8 @@ pub fn put_copy(
     ht: &[u64],
 )
     requires { ⌜ ForPutCopy (now ones) (now twos) rows w j (now ho) (now ht) ⌝ }
-    ensures { λ _. ⌜ Grid (now (ones .exit)) (now (twos .exit)) rows w (putRow j (tritAt (now (ho .entry)) (now (ht .entry))) (matrixAt w (now (ones .entry)) (now (twos .entry)))) ⌝ }
+    ensures { λ _. ⌜ Grid (now (ones .exit)) (now (twos .exit)) rows w
+        (putRow j (tritAt (now (ho .entry)) (now (ht .entry))) (matrixAt w (now (ones .entry)) (now (twos .entry)))) ⌝ }
 {
     let a = j * w;
     let e = a + w;

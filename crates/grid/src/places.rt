@@ -28,7 +28,8 @@ pub fn put_from(
 )
     requires { ⌜ ForPutFrom (now ones) (now twos) rows w e q (now vo) (now vt) j ⌝ }
     ensures { λ _. ⌜ Grid (now (ones .exit)) (now (twos .exit)) rows w
-        (putRow e (putV (matrixAt w (now (ones .entry)) (now (twos .entry)) e) q (tritAt (now (vo .entry)) (now (vt .entry)) j)) (matrixAt w (now (ones .entry)) (now (twos .entry)))) ⌝ }
+        (putRow e (putV (matrixAt w (now (ones .entry)) (now (twos .entry)) e) q (tritAt (now (vo .entry)) (now (vt .entry)) j))
+        (matrixAt w (now (ones .entry)) (now (twos .entry)))) ⌝ }
 {
     let t = planes::places::trit_at(vo, vt, j);
     put_at(ones, twos, rows, w, e, q, t);

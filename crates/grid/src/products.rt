@@ -18,7 +18,8 @@ pub fn mul_by(
 )
     requires { ⌜ ForMulBy (now ones) (now twos) rows w i (now so) (now st) ⌝ }
     ensures { λ _. ⌜ Grid (now (ones .exit)) (now (twos .exit)) rows w
-        (putRow i (zipV mulT (matrixAt w (now (ones .entry)) (now (twos .entry)) i) (tritAt (now (so .entry)) (now (st .entry)))) (matrixAt w (now (ones .entry)) (now (twos .entry)))) ⌝ }
+        (putRow i (zipV mulT (matrixAt w (now (ones .entry)) (now (twos .entry)) i) (tritAt (now (so .entry)) (now (st .entry))))
+        (matrixAt w (now (ones .entry)) (now (twos .entry)))) ⌝ }
 {
     let a = i * w;
     let e = a + w;
@@ -38,7 +39,8 @@ pub fn put_product(
 )
     requires { ⌜ ForPutProduct (now ones) (now twos) rows w t i (now so) (now st) ⌝ }
     ensures { λ _. ⌜ Grid (now (ones .exit)) (now (twos .exit)) rows w
-        (putRow t (zipV mulT (matrixAt w (now (ones .entry)) (now (twos .entry)) i) (tritAt (now (so .entry)) (now (st .entry)))) (matrixAt w (now (ones .entry)) (now (twos .entry)))) ⌝ }
+        (putRow t (zipV mulT (matrixAt w (now (ones .entry)) (now (twos .entry)) i) (tritAt (now (so .entry)) (now (st .entry))))
+        (matrixAt w (now (ones .entry)) (now (twos .entry)))) ⌝ }
 {
     one_row::zero_row(ones, twos, rows, w, t);
     two_rows::add_rows(ones, twos, rows, w, t, i);

@@ -81,7 +81,8 @@ pub fn sub_rows(ones: &mut [u64], twos: &mut [u64], rows: usize, w: usize, i: us
 // The dot product of rows i and j.
 pub fn row_dot(ones: &[u64], twos: &[u64], rows: usize, w: usize, i: usize, j: usize) -> u8
     requires { ⌜ ForRowDot (now ones) (now twos) rows w i j ⌝ }
-    ensures { λ t. ⌜ t ≡ number (dotV (matrixAt w (now (ones .entry)) (now (twos .entry)) i) (matrixAt w (now (ones .entry)) (now (twos .entry)) j) (64 * w)) ⌝ }
+    ensures { λ t. ⌜ t ≡ number (dotV (matrixAt w (now (ones .entry)) (now (twos .entry)) i) (matrixAt w (now (ones .entry)) (now (twos .entry)) j)
+        (64 * w)) ⌝ }
 {
     let a = i * w;
     let b = a + w;

@@ -18,7 +18,8 @@ pub fn row_weight(ones: &[u64], twos: &[u64], rows: usize, w: usize, i: usize) -
 // The weight of rows u and v together.
 pub fn pair_weight(ones: &[u64], twos: &[u64], rows: usize, w: usize, u: usize, v: usize) -> u64
     requires { ⌜ ForPairWeight (now ones) (now twos) rows w u v ⌝ }
-    ensures { λ r. ⌜ r ≡ weightV (matrixAt w (now (ones .entry)) (now (twos .entry)) u) (64 * w) + weightV (matrixAt w (now (ones .entry)) (now (twos .entry)) v) (64 * w) ⌝ }
+    ensures { λ r. ⌜ r ≡ weightV (matrixAt w (now (ones .entry)) (now (twos .entry)) u) (64 * w) + weightV
+        (matrixAt w (now (ones .entry)) (now (twos .entry)) v) (64 * w) ⌝ }
 {
     let a = row_weight(ones, twos, rows, w, u);
     let b = row_weight(ones, twos, rows, w, v);

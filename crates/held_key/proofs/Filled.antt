@@ -45,24 +45,32 @@ pub filled-none : (h : Held) (ones twos : List ℕ) (K : Key) → h .rows ≡ 0 
 filled-none h ones twos K e = record { reads = λ i l. absurd (omega arith); tested = λ i l. absurd (omega arith) }
 
 -- one row more
-module _ {h : Held} {ones twos : List ℕ} (f : Room h (length ones) (length twos)) (newOnes newTwos : List ℕ) (lo : length newOnes ≡ rowWords h) (lt : length newTwos ≡ rowWords h)
+module _ {h : Held} {ones twos : List ℕ} (f : Room h (length ones) (length twos)) (newOnes newTwos : List ℕ) (lo : length newOnes ≡ rowWords h)
+    (lt : length newTwos ≡ rowWords h)
     (K : Key) (r : tritAt newOnes newTwos ≡ K (h .rows)) (t : Tested (rowTrits h) newOnes newTwos) (g : Filled h ones twos K) where
   filled-put : Filled (nextHeld h) (putWords (h .rows * rowWords h) ones newOnes) (putWords (h .rows * rowWords h) twos newTwos) K
   unfolding nextHeld heldKey
   filled-put = record { reads = λ i l. rd i (ℕ-discrete i (h .rows)) l; tested = λ i l. ts i (ℕ-discrete i (h .rows)) l }
     where
-      rd : (i : ℕ) → Dec (i ≡ h .rows) → i < h .rows + 1 → tritAt (heldRow (nextHeld h) (putWords (h .rows * rowWords h) ones newOnes) i) (heldRow (nextHeld h) (putWords (h .rows * rowWords h) twos newTwos) i) ≡ K i
+      rd : (i : ℕ) → Dec (i ≡ h .rows) → i < h .rows + 1
+          → tritAt (heldRow (nextHeld h) (putWords (h .rows * rowWords h) ones newOnes) i)
+          (heldRow (nextHeld h) (putWords (h .rows * rowWords h) twos newTwos) i) ≡ K i
       rd i (yes q) l =
-          ap (λ (x : ℕ). tritAt (heldRow (nextHeld h) (putWords (h .rows * rowWords h) ones newOnes) x) (heldRow (nextHeld h) (putWords (h .rows * rowWords h) twos newTwos) x)) q
+          ap (λ (x : ℕ). tritAt (heldRow (nextHeld h) (putWords (h .rows * rowWords h) ones newOnes) x)
+          (heldRow (nextHeld h) (putWords (h .rows * rowWords h) twos newTwos) x)) q
           ∙ ap₂ tritAt (put-new f ones newOnes (f .ones-are) lo) (put-new f twos newTwos (f .twos-are) lt) ∙ r ∙ ap K (sym q)
-      rd i (no m) l = ap₂ tritAt (put-old f ones newOnes (f .ones-are) lo i (omega arith)) (put-old f twos newTwos (f .twos-are) lt i (omega arith)) ∙ g .reads i (omega arith)
+      rd i (no m) l = ap₂ tritAt (put-old f ones newOnes (f .ones-are) lo i (omega arith)) (put-old f twos newTwos (f .twos-are) lt i (omega arith))
+          ∙ g .reads i (omega arith)
 
-      ts : (i : ℕ) → Dec (i ≡ h .rows) → i < h .rows + 1 → Tested (rowTrits h) (heldRow (nextHeld h) (putWords (h .rows * rowWords h) ones newOnes) i) (heldRow (nextHeld h) (putWords (h .rows * rowWords h) twos newTwos) i)
+      ts : (i : ℕ) → Dec (i ≡ h .rows) → i < h .rows + 1
+          → Tested (rowTrits h) (heldRow (nextHeld h) (putWords (h .rows * rowWords h) ones newOnes) i)
+          (heldRow (nextHeld h) (putWords (h .rows * rowWords h) twos newTwos) i)
       ts i (yes q) l =
           subst₂ (Tested (rowTrits h))
           (sym (ap (heldRow (nextHeld h) (putWords (h .rows * rowWords h) ones newOnes)) q ∙ put-new f ones newOnes (f .ones-are) lo))
           (sym (ap (heldRow (nextHeld h) (putWords (h .rows * rowWords h) twos newTwos)) q ∙ put-new f twos newTwos (f .twos-are) lt)) t
-      ts i (no m) l = subst₂ (Tested (rowTrits h)) (sym (put-old f ones newOnes (f .ones-are) lo i (omega arith))) (sym (put-old f twos newTwos (f .twos-are) lt i (omega arith))) (g .tested i (omega arith))
+      ts i (no m) l = subst₂ (Tested (rowTrits h)) (sym (put-old f ones newOnes (f .ones-are) lo i (omega arith)))
+          (sym (put-old f twos newTwos (f .twos-are) lt i (omega arith))) (g .tested i (omega arith))
 
 -- a row in planes
 pub filled-more : (c : Store) (K : Key) → storeRefusal c ≡ 0 → tritAt (c .rowOnes) (c .rowTwos) ≡ K (c .held .rows) → Filled (c .held) (c .ones) (c .twos) K
@@ -107,7 +115,8 @@ module _ {h : Held} {ones twos : List ℕ} (w : Whole h ones twos) (K : Key) (g 
       (λ i l. ap₂ (λ (x y : List ℕ). pastEnd x y (rowTrits h)) (ones-row w i l) (twos-row w i l) ∙ g .tested i (omega (arith, w .all-rows)) .ended)
 
   -- a word of the plane is a word of a row
-  word : (plane : List ℕ) → length plane ≡ keyWords h → (i j : ℕ) → i < h .k → j < rowWords h → getD plane (i * rowWords h + j) 0 ≡ getD (rowPart plane (h .k) (rowWords h) i) j 0
+  word : (plane : List ℕ) → length plane ≡ keyWords h → (i j : ℕ) → i < h .k → j < rowWords h
+      → getD plane (i * rowWords h + j) 0 ≡ getD (rowPart plane (h .k) (rowWords h) i) j 0
   word plane e i j l b =
       sym (getD-mid (i * rowWords h) (rowWords h) plane (omega (arith, e, row-le (rowWords h) {i = i} {m = h .k} l)) j b)
       ∙ ap (λ (x : List ℕ). getD x j 0) (part-there plane (h .k) (rowWords h) i e l)
@@ -125,9 +134,12 @@ module _ {h : Held} {ones twos : List ℕ} (w : Whole h ones twos) (K : Key) (g 
       let jl : j < m = mod-lt c pos in
       let il : i < h .k = div-lt-iff-lt-mul pos .1 (omega arith) in
       let e : c ≡ i * m + j = sym (div-add-mod c m) ∙ ap (λ (x : ℕ). x + j) (mul-comm m i) in
-      let a : getD ones c 0 ≡ getD (heldRow h ones i) j 0 = ap (λ (x : ℕ). getD ones x 0) e ∙ word ones (w .ones-size) i j il jl ∙ ap (λ (x : List ℕ). getD x j 0) (ones-row w i il) in
-      let d : getD twos c 0 ≡ getD (heldRow h twos i) j 0 = ap (λ (x : ℕ). getD twos x 0) e ∙ word twos (w .twos-size) i j il jl ∙ ap (λ (x : List ℕ). getD x j 0) (twos-row w i il) in
-      let q = any-none (64 * length (heldRow h ones i)) (bothAt (heldRow h ones i) (heldRow h twos i)) (g .tested i (omega (arith, w .all-rows)) .apart) (64 * j + b) (omega (arith, ones-length w i il)) in
+      let a : getD ones c 0 ≡ getD (heldRow h ones i) j 0 = ap (λ (x : ℕ). getD ones x 0) e ∙ word ones (w .ones-size) i j il jl
+      ∙ ap (λ (x : List ℕ). getD x j 0) (ones-row w i il) in
+      let d : getD twos c 0 ≡ getD (heldRow h twos i) j 0 = ap (λ (x : ℕ). getD twos x 0) e ∙ word twos (w .twos-size) i j il jl
+      ∙ ap (λ (x : List ℕ). getD x j 0) (twos-row w i il) in
+      let q = any-none (64 * length (heldRow h ones i)) (bothAt (heldRow h ones i) (heldRow h twos i)) (g .tested i (omega (arith, w .all-rows)) .apart)
+      (64 * j + b) (omega (arith, ones-length w i il)) in
       ap₂ (λ (x y : ℕ). eqb (bit b x) 1 && eqb (bit b y) 1) a d
       ∙ sym (ap₂ (λ (x y : ℕ). eqb x 1 && eqb y 1) (bitAt-place j b (omega arith) (heldRow h ones i)) (bitAt-place j b (omega arith) (heldRow h twos i)))
       ∙ q

@@ -49,7 +49,8 @@ module _ (w r : ℕ) (plane new : List ℕ) (h : r * w + w ≤ length plane) (e 
   pub back-old : (i : ℕ) → i < r → midOf (i * w) w (putMid (r * w) w plane new) ≡ midOf (i * w) w plane
   back-old i l =
       let g = row-le w {i = i} {m = r} l in
-      same-list w (midOf (i * w) w back) (midOf (i * w) w plane) (length-mid (i * w) w back (omega (arith, back-length))) (length-mid (i * w) w plane (omega arith))
+      same-list w (midOf (i * w) w back) (midOf (i * w) w plane) (length-mid (i * w) w back (omega (arith, back-length)))
+      (length-mid (i * w) w plane (omega arith))
       (λ j b. getD-mid (i * w) w back (omega (arith, back-length)) j b ∙ p .below (i * w + j) (omega arith) ∙ sym (getD-mid (i * w) w plane (omega arith) j b))
 
 -- one row more is counted, and the state is still sound

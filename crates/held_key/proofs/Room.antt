@@ -35,7 +35,14 @@ room h ones twos e =
     let s = sizes h (b .0) in
     let ne : h .rows ≢ h .k = eqb-false _ _ (c .0) in
     let l : h .rows < h .k = omega (arith, s .counted) in
-    record { is-sound = b .0; all = s; more = l; ones-are = eqb-true _ _ (d .0); twos-are = eqb-true _ _ (f .0); within = row-le (rowWords h) {i = h .rows} {m = h .k} l }
+    record {
+      is-sound = b .0;
+      all = s;
+      more = l;
+      ones-are = eqb-true _ _ (d .0);
+      twos-are = eqb-true _ _ (f .0);
+      within = row-le (rowWords h) {i = h .rows} {m = h .k} l;
+    }
 
 -- a row in planes passed
 pub stored-passed : (c : Store) → storeRefusal c ≡ 0 → let h = c .held in

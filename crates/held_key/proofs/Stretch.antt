@@ -28,7 +28,8 @@ module _ (h : Held) (plane : List ℕ) (i : ℕ) where
   unfolding heldRow
   row-stored e l = rw (e, lt-ltb i (h .rows) l)
 
-  pub row-there : sound h ≡ true → length plane ≡ keyWords h → i < h .rows → h .rows ≤ h .k → take (rowWords h) (drop (i * rowWords h) plane) ≡ heldRow h plane i
+  pub row-there : sound h ≡ true → length plane ≡ keyWords h → i < h .rows → h .rows ≤ h .k
+      → take (rowWords h) (drop (i * rowWords h) plane) ≡ heldRow h plane i
   row-there e f l b = part-there plane (h .k) (rowWords h) i f (omega arith) ∙ row-stored e l
 
 -- a row of a whole key
@@ -54,4 +55,5 @@ module _ {h : Held} {ones twos : List ℕ} (w : Whole h ones twos) (i : ℕ) (l 
   unfolding rowsPastEnd heldKey
   row-past e q a =
       let p = any-none (h .k) (λ i. pastEnd (rowPart ones (h .k) (rowWords h) i) (rowPart twos (h .k) (rowWords h) i) (rowTrits h)) e i l in
-      past-zero (heldRow h ones i) (heldRow h twos i) (rowTrits h) (twos-length ∙ sym ones-length) (subst₂ (λ (x y : List ℕ). pastEnd x y (rowTrits h) ≡ false) ones-row twos-row p) q a
+      past-zero (heldRow h ones i) (heldRow h twos i) (rowTrits h) (twos-length ∙ sym ones-length)
+      (subst₂ (λ (x y : List ℕ). pastEnd x y (rowTrits h) ≡ false) ones-row twos-row p) q a

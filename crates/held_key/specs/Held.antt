@@ -1,4 +1,5 @@
--- The module's state, and the rows of the key that it holds in the caller's words ("The two halves", "Trits in words and bytes", "Held key and lines of text"). Assumes nothing.
+-- The module's state, and the rows of the key that it holds in the caller's words ("The two halves",
+-- "Trits in words and bytes", "Held key and lines of text"). Assumes nothing.
 use mathlib.Core.Bool.{Bool, _&&_, cond}
 use mathlib.Core.List.{List, []}
 use Prim.Native.Nat.{ℕ, _-_, _*_, _%_}

@@ -1,4 +1,5 @@
--- A host that loads a key: what it keeps while it offers packed rows one after another ("Held key and lines of text"). For the laws of the loader. Assumes nothing.
+-- A host that loads a key: what it keeps while it offers packed rows one after another ("Held
+-- key and lines of text"). For the laws of the loader. Assumes nothing.
 use mathlib.Core.List.{List}
 use Prim.Native.Nat.{ℕ, zero, suc}
 use Rattle.held_key.specs.declared.state.Held.{Held}

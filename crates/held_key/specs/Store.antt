@@ -1,4 +1,5 @@
--- Beginning a key and storing a row: the refusals in the paper's order, the state and the lent planes at exit ("Held key and lines of text", both sections "Turned back"). Assumes nothing.
+-- Beginning a key and storing a row: the refusals in the paper's order, the state and the lent planes at
+-- exit ("Held key and lines of text", both sections "Turned back"). Assumes nothing.
 use mathlib.Core.List.{List}
 use Prim.Native.Nat.{ℕ, _+_, _*_}
 use lib.Dec.{eqb}

@@ -68,7 +68,8 @@ module _ (qs : List ℕ) where
   without-in [] q m n = absurd (true≢false (sym m))
   without-in (p ∷ ps) q m n = go (without-in ps q) (bool-cases (elem p qs)) (or-cases (eqb q p) (elem q ps) m)
     where
-      go : (elem q ps ≡ true → elem q qs ≡ false → elem q (without qs ps) ≡ true) → (elem p qs ≡ true) ⊎ (elem p qs ≡ false) → (eqb q p ≡ true) ⊎ (elem q ps ≡ true)
+      go : (elem q ps ≡ true → elem q qs ≡ false → elem q (without qs ps) ≡ true) → (elem p qs ≡ true) ⊎ (elem p qs ≡ false) → (eqb q p ≡ true)
+          ⊎ (elem q ps ≡ true)
           → elem q (without qs (p ∷ ps)) ≡ true
       go ih (inl e) (inl k) = absurd (true≢false (sym e ∙ (rw (eqb-true q p k) at n)))
       go ih (inl e) (inr k) = rw (without-skip p ps e) (ih k n)
@@ -80,7 +81,8 @@ module _ (qs : List ℕ) where
   without-out [] q m = absurd (true≢false (sym m))
   without-out (p ∷ ps) q m = go (without-out ps q) (bool-cases (elem p qs))
     where
-      go : (elem q (without qs ps) ≡ true → (elem q ps ≡ true) × (elem q qs ≡ false)) → (elem p qs ≡ true) ⊎ (elem p qs ≡ false) → (elem q (p ∷ ps) ≡ true) × (elem q qs ≡ false)
+      go : (elem q (without qs ps) ≡ true → (elem q ps ≡ true) × (elem q qs ≡ false)) → (elem p qs ≡ true) ⊎ (elem p qs ≡ false) → (elem q (p ∷ ps) ≡ true)
+          × (elem q qs ≡ false)
       go ih (inl e) = let k = ih (rw (without-skip p ps e) at m) in (or-true-right (eqb q p) (elem q ps) (k .0), k .1)
       go ih (inr e) = at (or-cases (eqb q p) (elem q (without qs ps)) (rw (without-take p ps e) at m))
         where
@@ -96,7 +98,8 @@ module _ (qs : List ℕ) where
   without-distinct [] d = tt
   without-distinct (p ∷ ps) d = go (without-distinct ps (d .1)) (bool-cases (elem p qs)) (bool-cases (elem p (without qs ps)))
     where
-      go : Distinct (without qs ps) → (elem p qs ≡ true) ⊎ (elem p qs ≡ false) → (elem p (without qs ps) ≡ true) ⊎ (elem p (without qs ps) ≡ false) → Distinct (without qs (p ∷ ps))
+      go : Distinct (without qs ps) → (elem p qs ≡ true) ⊎ (elem p qs ≡ false) → (elem p (without qs ps) ≡ true) ⊎ (elem p (without qs ps) ≡ false)
+          → Distinct (without qs (p ∷ ps))
       go ih (inl e) k = rw (without-skip p ps e) ih
       go ih (inr e) (inl k) = absurd (true≢false (sym (without-out ps p k .0) ∙ d .0))
       go ih (inr e) (inr k) = rw (without-take p ps e) (k, ih)
@@ -154,7 +157,8 @@ distinct-order n ps e d b = record { size = e; every = λ q h. go q h (bool-case
   where
     go : (q : ℕ) → q < n → (elem q ps ≡ true) ⊎ (elem q ps ≡ false) → elem q ps ≡ true
     go q h (inl m) = m
-    go q h (inr m) = absurd (omega (arith, range-length n, length-within (q ∷ ps) (range n) (m, d) (λ x k. range-elem n x (low x (or-cases (eqb x q) (elem x ps) k)))))
+    go q h (inr m) =
+        absurd (omega (arith, range-length n, length-within (q ∷ ps) (range n) (m, d) (λ x k. range-elem n x (low x (or-cases (eqb x q) (elem x ps) k)))))
       where
         low : (x : ℕ) → (eqb x q ≡ true) ⊎ (elem x ps ≡ true) → x < n
         low x (inl k) = rw (eqb-true x q k) h

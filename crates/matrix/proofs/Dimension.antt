@@ -1,4 +1,5 @@
--- Dimension: more columns than rows are dependent; r independent columns of r rows reach everything; columns that reach everything are as many as the rows, or more. Assumes nothing.
+-- Dimension: more columns than rows are dependent; r independent columns of r rows reach everything;
+-- columns that reach everything are as many as the rows, or more. Assumes nothing.
 use mathlib.Core.Path.{_≡_, refl, sym, ap, ap₂, _∙_}
 use mathlib.Core.Bool.{Bool, true, false, cond}
 use mathlib.Core.Logic.{_⊎_, inl, inr}
@@ -106,7 +107,8 @@ dependent (suc m) r A h = go (dependent m) (set-below r (column A m))
 pub times-column : (m : ℕ) (A : Matrix) (v w : Vector) (i : ℕ) → times (suc m) (λ i. putV (A i) m (v i)) w i ≡ addT (times m A w i) (mulT (v i) (w m))
 unfolding dotV
 times-column m A v w i =
-    ap₂ addT (dot-left m (putV (A i) m (v i)) (A i) w (λ p h. put-other (A i) m (v i) p (λ z. omega arith))) (ap (λ (x : Trit). mulT x (w m)) (put-same (A i) m (v i)))
+    ap₂ addT (dot-left m (putV (A i) m (v i)) (A i) w (λ p h. put-other (A i) m (v i) p (λ z. omega arith)))
+    (ap (λ (x : Trit). mulT x (w m)) (put-same (A i) m (v i)))
 
 -- only the vector of zeros is taken to 0 by the first r rows
 abbrev pub Injective : ℕ → ℕ → Matrix → Type 0
@@ -144,7 +146,11 @@ injective-reaches r A a v = go (zero-or (d .w r))
     go (inl e) =
         let low : (j : ℕ) → j < r → d .w j ≡ t0 = a (d .w) (λ i h. short (times r A (d .w) i) (v i) (sums i h) e) in
         absurd (set-not (d .nonzero) (last low (d .place) (d .below) e (eqb (d .place) r) refl))
-    go (inr e) = ((λ j. mulT (negT (d .w r)) (d .w j)), λ i h. dot-mul r (negT (d .w r)) (A i) (d .w) ∙ solved (times r A (d .w) i) (d .w r) (v i) (square (d .w r) e) (add-comm (mulT (v i) (d .w r)) (times r A (d .w) i) ∙ sums i h))
+    go (inr e) = (
+      (λ j. mulT (negT (d .w r)) (d .w j)),
+      λ i h. dot-mul r (negT (d .w r)) (A i) (d .w)
+          ∙ solved (times r A (d .w) i) (d .w r) (v i) (square (d .w r) e) (add-comm (mulT (v i) (d .w r)) (times r A (d .w) i) ∙ sums i h),
+    )
 
 pub reaches-many : (r m : ℕ) (A : Matrix) → Reaches r m A → r ≤ m
 reaches-many r m A s = go (leb r m) refl
@@ -154,7 +160,8 @@ reaches-many r m A s = go (leb r m) refl
 
     -- A takes B u to u
     back : (u : Vector) (i : ℕ) → i < r → dotV (A i) (times r B u) m ≡ u i
-    back u i h = dot-swap m r (A i) u B ∙ dot-left r (λ k. dotV (A i) (λ j. B j k) m) (λ k. putV zeros k t1 i) u (λ k l. s (putV zeros k t1) .1 i h) ∙ dot-unit r i u h
+    back u i h = dot-swap m r (A i) u B ∙ dot-left r (λ k. dotV (A i) (λ j. B j k) m) (λ k. putV zeros k t1 i) u (λ k l. s (putV zeros k t1) .1 i h)
+        ∙ dot-unit r i u h
 
     go : (t : Bool) → leb r m ≡ t → r ≤ m
     go true e = leb-true r m e

@@ -83,7 +83,8 @@ pub dot-past : (n m : ℕ) (u v : Vector) → n ≤ m → ((i : ℕ) → n ≤ i
 dot-past n m u v h z =
     let e : m ≡ n + (m - n) = omega arith in
     ap (dotV u v) e ∙ dot-split n (m - n) u v
-    ∙ ap (addT (dotV u v n)) (dot-zero (m - n) (λ i. u (n + i)) (λ i. v (n + i)) (λ i l. ap (mulT (u (n + i))) (z (n + i) (omega arith)) ∙ mul-zero (u (n + i))))
+    ∙ ap (addT (dotV u v n)) (dot-zero (m - n) (λ i. u (n + i)) (λ i. v (n + i))
+    (λ i l. ap (mulT (u (n + i))) (z (n + i) (omega arith)) ∙ mul-zero (u (n + i))))
     ∙ add-zero-r (dotV u v n)
 
 -- the place q apart

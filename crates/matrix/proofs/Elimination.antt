@@ -1,4 +1,5 @@
--- Elimination: rows that are changed without changing which vectors are taken alike, until the kept columns are unit columns, show what is in the span and what the solutions are. Assumes nothing.
+-- Elimination: rows that are changed without changing which vectors are taken alike, until the kept columns
+-- are unit columns, show what is in the span and what the solutions are. Assumes nothing.
 use mathlib.Core.Path.{_≡_, refl, sym, ap, ap₂, _∙_, subst}
 use mathlib.Core.Bool.{Bool, true, false, cond}
 use mathlib.Core.Logic.{_⊎_, inl, inr, _↔_}
@@ -135,7 +136,8 @@ module _ (a b : ℕ) where
 module _ (n j q : ℕ) (A : Matrix) where
   clear-pivot : (u : Vector) → times n (clearRows j q A) u j ≡ mulT (A j q) (times n A u j)
   clear-pivot u =
-      dot-cong n (clearRows j q A j) u (A j) (λ p. mulT (A j q) (u p)) (λ p h. rw (eq-eqb j j refl) (mul-assoc (A j q) (A j p) (u p) ∙ mul-left-comm (A j q) (A j p) (u p)))
+      dot-cong n (clearRows j q A j) u (A j) (λ p. mulT (A j q) (u p))
+      (λ p h. rw (eq-eqb j j refl) (mul-assoc (A j q) (A j p) (u p) ∙ mul-left-comm (A j q) (A j p) (u p)))
       ∙ dot-mul n (A j q) (A j) u
 
   clear-other : (u : Vector) (i : ℕ) → eqb i j ≡ false → times n (clearRows j q A) u i ≡ subT (times n A u i) (mulT (mulT (A i q) (A j q)) (times n A u j))
@@ -211,7 +213,8 @@ module _ (r n : ℕ) (H A : Matrix) (ps : List ℕ) (d : Reduced r n H A ps) (q 
   stepped-reduced =
       record {
         alike = alike-trans r n H A stepped (d .alike)
-            (alike-trans r n A (swapRows (length ps) a A) stepped (alike-swap (length ps) a r n A (omega arith) ha) (alike-clear n (length ps) q (swapRows (length ps) a A) r (omega arith) moved));
+            (alike-trans r n A (swapRows (length ps) a A) stepped (alike-swap (length ps) a r n A (omega arith) ha)
+            (alike-clear n (length ps) q (swapRows (length ps) a A) r (omega arith) moved));
         unit = λ c i h l. go c i l (eqb c (length ps)) refl (omega (arith, h, length-append ps (q ∷ [])));
       }
     where
@@ -223,7 +226,8 @@ module _ (r n : ℕ) (H A : Matrix) (ps : List ℕ) (d : Reduced r n H A ps) (q 
       go c i l false e h =
           let b : c < length ps = omega (arith, eqb-false c (length ps) e) in
           ap (stepped i) (List·getD-append ps (q ∷ []) 0 c b)
-          ∙ clear-keep n (length ps) q (swapRows (length ps) a A) (getD ps c 0) (swap-unit c (length ps) b (omega arith) ∙ put-other zeros c t1 (length ps) (λ z. omega arith)) i
+          ∙ clear-keep n (length ps) q (swapRows (length ps) a A) (getD ps c 0)
+          (swap-unit c (length ps) b (omega arith) ∙ put-other zeros c t1 (length ps) (λ z. omega arith)) i
           ∙ swap-unit c i b l
 
 -- nothing is reduced at first

@@ -8,7 +8,8 @@ use Rattle.trits.specs.Trit.{Trit, number, t0, t1, t2, addT, negT, mulT, subT, 
 use Rattle.trits.proofs.Arithmetic.{at, every, eqT, law1, law2, law3, add-zero-r, add-comm, add-assoc, mul-comm, mul-assoc, mul-add, mul-zero}
 
 -- an equation in four trits
-pub law4 : (f g : Trit → Trit → Trit → Trit → Trit) → T (every (λ a. every (λ x. every (λ y. every (λ z. eqT (f a x y z) (g a x y z)))))) → (a x y z : Trit) → f a x y z ≡ g a x y z
+pub law4 : (f g : Trit → Trit → Trit → Trit → Trit) → T (every (λ a. every (λ x. every (λ y. every (λ z. eqT (f a x y z) (g a x y z)))))) → (a x y z : Trit)
+    → f a x y z ≡ g a x y z
 law4 f g h a = law3 (f a) (g a) (at (λ a. every (λ x. every (λ y. every (λ z. eqT (f a x y z) (g a x y z))))) h a)
 
 -- a test of four trits
@@ -126,4 +127,20 @@ solved s x y e h =
     ∙ ap (λ (z : Trit). mulT z y) e
 
 -- the laws that bring a sum of products to a normal form
-pub ruleset ring = (add-zero-r, add-comm, add-assoc, add-left-comm, mul-zero, mul-one, mul-comm, mul-assoc, mul-left-comm, mul-add, add-mul, mul-neg, neg-mul, neg-add, neg-neg)
+pub ruleset ring = (
+  add-zero-r,
+  add-comm,
+  add-assoc,
+  add-left-comm,
+  mul-zero,
+  mul-one,
+  mul-comm,
+  mul-assoc,
+  mul-left-comm,
+  mul-add,
+  add-mul,
+  mul-neg,
+  neg-mul,
+  neg-add,
+  neg-neg,
+)

@@ -1,4 +1,5 @@
--- The columns kept are independent and reach what all those tried reach; so the rank is full exactly when everything is reached, in whatever order. Assumes nothing.
+-- The columns kept are independent and reach what all those tried reach; so the rank is full
+-- exactly when everything is reached, in whatever order. Assumes nothing.
 use mathlib.Core.Path.{_≡_, refl, sym, ap, ap₂, _∙_}
 use mathlib.Core.Bool.{Bool, true, false, _||_, true≢false}
 use mathlib.Core.Logic.{_⊎_, inl, inr, _↔_}
@@ -16,7 +17,8 @@ use Rattle.matrix.specs.Orders.{Distinct}
 use Rattle.matrix.proofs.Field.{mul-one, square, solved, zero-or, refuted}
 use Rattle.matrix.proofs.Dots.{put-same, put-other, dot-put, dot-add, dot-mul}
 use Rattle.matrix.proofs.Dimension.{Injective, injective-few, injective-reaches, reaches-many}
-use Rattle.matrix.proofs.Places.{Below, Supported, or-false-left, or-false-right, or-true-right, or-cases, false-or-false, elem-append, elem-here, picked, times-places, times-fill, fill-at, fill-off}
+use Rattle.matrix.proofs.Places.{Below, Supported, or-false-left, or-false-right, or-true-right, or-cases, false-or-false, elem-append, elem-here}
+use Rattle.matrix.proofs.Places.{picked, times-places, times-fill, fill-at, fill-off}
 use Rattle.matrix.proofs.Search.{Spans, inSpan-iff}
 
 pub bool-cases : (b : Bool) → (b ≡ true) ⊎ (b ≡ false)
@@ -29,7 +31,8 @@ times-remove n H w p i h = dot-put n (H i) w p h
 pub times-unit : (n : ℕ) (H : Matrix) (p i : ℕ) → p < n → times n H (putV zeros p t1) i ≡ H i p
 times-unit n H p i h =
     times-remove n H (putV zeros p t1) p i h
-    ∙ ap₂ addT (ap (mulT (H i p)) (put-same zeros p t1) ∙ mul-one (H i p)) (dot-zero n (H i) (putV (putV zeros p t1) p t0) (λ q k. ap (mulT (H i q)) (none q (eqb q p) refl) ∙ mul-zero (H i q)))
+    ∙ ap₂ addT (ap (mulT (H i p)) (put-same zeros p t1) ∙ mul-one (H i p))
+    (dot-zero n (H i) (putV (putV zeros p t1) p t0) (λ q k. ap (mulT (H i q)) (none q (eqb q p) refl) ∙ mul-zero (H i q)))
     ∙ add-zero-r (H i p)
   where
     none : (q : ℕ) (t : Bool) → eqb q p ≡ t → putV (putV zeros p t1) p t0 q ≡ t0
@@ -48,7 +51,8 @@ pub record Kept (r n : ℕ) (H : Matrix) (ps : List ℕ) : Type 0 where
 distinct-snoc : (ps : List ℕ) (p : ℕ) → Distinct ps → elem p ps ≡ false → Distinct (ps ++ (p ∷ []))
 distinct-snoc [] p d e = (refl, tt)
 distinct-snoc (q ∷ ps) p d e = (
-  elem-append q ps (p ∷ []) ∙ false-or-false (elem q ps) (elem q (p ∷ [])) (d .0) (false-or-false (eqb q p) false (ne-eqb q p (λ z. eqb-false p q (or-false-left (eqb p q) (elem p ps) e) (sym z))) refl),
+  elem-append q ps (p ∷ []) ∙ false-or-false (elem q ps) (elem q (p ∷ [])) (d .0)
+      (false-or-false (eqb q p) false (ne-eqb q p (λ z. eqb-false p q (or-false-left (eqb p q) (elem p ps) e) (sym z))) refl),
   distinct-snoc ps p (d .1) (or-false-right (eqb p q) (elem p ps) e),
 )
 
@@ -65,7 +69,8 @@ module _ (r n : ℕ) (H : Matrix) where
     where
       go : (t : Bool) → eqb q p ≡ t → putV w p t0 q ≡ t0
       go true k = rw k
-      go false k = put-other w p t0 q (eqb-false q p k) ∙ z q (elem-append q kept (p ∷ []) ∙ false-or-false (elem q kept) (elem q (p ∷ [])) e (false-or-false (eqb q p) false k refl))
+      go false k = put-other w p t0 q (eqb-false q p k)
+          ∙ z q (elem-append q kept (p ∷ []) ∙ false-or-false (elem q kept) (elem q (p ∷ [])) e (false-or-false (eqb q p) false k refl))
 
   pub grow : (kept : List ℕ) (p : ℕ) → p < n → Kept r n H kept → inSpan r n H kept (column H p) ≡ false → Kept r n H (kept ++ (p ∷ []))
   grow kept p h k e =
@@ -102,7 +107,8 @@ module _ (r n : ℕ) (H : Matrix) where
       go w z v (inr a) = absurd (outside (
         (λ q. mulT (negT (w p)) (putV w p t0 q)),
         (λ q m. ap (mulT (negT (w p))) (over kept p w z q m) ∙ mul-zero (negT (w p))),
-        λ i l. dot-mul n (negT (w p)) (H i) (putV w p t0) ∙ solved (times n H (putV w p t0) i) (w p) (H i p) (square (w p) a) (sym (times-remove n H w p i h) ∙ v i l),
+        λ i l. dot-mul n (negT (w p)) (H i) (putV w p t0)
+            ∙ solved (times n H (putV w p t0) i) (w p) (H i p) (square (w p) a) (sym (times-remove n H w p i h) ∙ v i l),
       ))
 
   pub keep-in : (kept : List ℕ) (p : ℕ) (ps : List ℕ) → inSpan r n H kept (column H p) ≡ true → keep r n H kept (p ∷ ps) ≡ keep r n H kept ps
@@ -152,7 +158,8 @@ module _ (r n : ℕ) (H : Matrix) where
       rest : Below n ps
       rest q e = b q (or-true-right (eqb q p) (elem q ps) e)
 
-      go : ((kept : List ℕ) → Below n ps → (w : Vector) → Supported (kept ++ ps) w → (u : Vector) × Supported (keep r n H kept ps) u × ((i : ℕ) → i < r → times n H u i ≡ times n H w i))
+      go : ((kept : List ℕ) → Below n ps → (w : Vector) → Supported (kept ++ ps) w → (u : Vector) × Supported (keep r n H kept ps) u
+          × ((i : ℕ) → i < r → times n H u i ≡ times n H w i))
           → (inSpan r n H kept (column H p) ≡ true) ⊎ (inSpan r n H kept (column H p) ≡ false)
           → (u : Vector) × Supported (keep r n H kept (p ∷ ps)) u × ((i : ℕ) → i < r → times n H u i ≡ times n H w i)
       go ih (inl e) =

@@ -23,12 +23,21 @@ module _ (r n : ℕ) (H : Matrix) where
 
   module _ (q : ℕ) (todo kept all : List ℕ) (A : Matrix) (h : q < n) (t : Pivoting (q ∷ todo) kept A all) where
     pub passed-over : ((i : ℕ) → length kept ≤ i → i < r → A i q ≡ t0) → Pivoting todo kept A all
-    passed-over z = record { result = t .result ∙ keep-in r n H kept q todo (test-in r n H A kept (t .good) (t .reduced) q h z); good = t .good; reduced = t .reduced }
+    passed-over z = record {
+      result = t .result ∙ keep-in r n H kept q todo (test-in r n H A kept (t .good) (t .reduced) q h z);
+      good = t .good;
+      reduced = t .reduced;
+    }
 
-    pub pivoted : (a : ℕ) → length kept ≤ a → a < r → isSet (A a q) ≡ true → Pivoting todo (kept ++ (q ∷ [])) (clearRows (length kept) q (swapRows (length kept) a A)) all
+    pub pivoted : (a : ℕ) → length kept ≤ a → a < r → isSet (A a q) ≡ true
+        → Pivoting todo (kept ++ (q ∷ [])) (clearRows (length kept) q (swapRows (length kept) a A)) all
     pivoted a la ha z =
         let out = test-out r n H A kept (t .good) (t .reduced) q h a la ha z in
-        record { result = t .result ∙ keep-out r n H kept q todo out; good = grow r n H kept q h (t .good) out; reduced = stepped-reduced r n H A kept (t .reduced) q a la ha z }
+        record {
+          result = t .result ∙ keep-out r n H kept q todo out;
+          good = grow r n H kept q h (t .good) out;
+          reduced = stepped-reduced r n H A kept (t .reduced) q a la ha z;
+        }
 
 -- the laws of a try
 module _ (r q : ℕ) (s : Stage) where
@@ -64,7 +73,8 @@ module _ (r n : ℕ) (H : Matrix) (all : List ℕ) where
       at = length (s .kept)
 
       by : (b : Bool) → hasPivot r (length (s .kept)) q (s .cells) ≡ b
-          → Pivoting r n H todo (cond (hasPivot r (length (s .kept)) q (s .cells)) (s .kept ++ (q ∷ [])) (s .kept)) (stepOf r (length (s .kept)) q (s .cells)) all
+          → Pivoting r n H todo (cond (hasPivot r (length (s .kept)) q (s .cells)) (s .kept ++ (q ∷ [])) (s .kept)) (stepOf r (length (s .kept)) q (s .cells))
+          all
       by true e =
           let f = has-row r (length (s .kept)) q (s .cells) e in
           rw (step-has r (length (s .kept)) q (s .cells) e, e)
@@ -77,7 +87,8 @@ module _ (r n : ℕ) (H : Matrix) (all : List ℕ) where
       → Pivoting r n H [] (eliminate r todo s .kept) (eliminate r todo s .cells) all
   unfolding eliminate
   pivoting-all [] s b t = t
-  pivoting-all (q ∷ qs) s b t = pivoting-all qs (tried r q s) (λ x m. b x (or-true-right (eqb x q) (elem x qs) m)) (pivoting-try q qs s (b q (elem-here q qs)) t)
+  pivoting-all (q ∷ qs) s b t = pivoting-all qs (tried r q s) (λ x m. b x (or-true-right (eqb x q) (elem x qs) m))
+      (pivoting-try q qs s (b q (elem-here q qs)) t)
 
 module _ (r n : ℕ) (H : Matrix) (ps : List ℕ) (b : Below n ps) where
   ended : Pivoting r n H [] (eliminate r ps (begun H) .kept) (eliminate r ps (begun H) .cells) ps

@@ -3,8 +3,10 @@
 -- kept columns are independent, `pivots-kept` (Greedy), reach what all tried columns reach, `pivots-reach` (Rank), and are at most r, `rank-most` (Rank)
 -- rank r exactly when every right-hand side is reached: `rank-iff` (Greedy); the rank in any order is the same: `rank-order` (Rank)
 -- one solution for each right-hand side, whatever stands at the other places: `solve-exists`, `solve-unique` (Solutions)
--- elimination: same solutions after each row operation, `alike-swap`, `alike-clear`; kept columns are unit columns, `stepped-reduced`; the span test, `reduced-span`;
--- the coefficients of a column, `reduced-column` (Elimination); it keeps the pivots, `eliminate-pivots` (Kept); the value at each pivot, `solve-by-rows` (Values)
+-- elimination: same solutions after each row operation, `alike-swap`, `alike-clear`; kept
+-- columns are unit columns, `stepped-reduced`; the span test, `reduced-span`;
+-- the coefficients of a column, `reduced-column` (Elimination); it keeps the pivots,
+-- `eliminate-pivots` (Kept); the value at each pivot, `solve-by-rows` (Values)
 pub mod Cases
 pub mod Field
 pub mod Dots

@@ -23,7 +23,8 @@ pub drop-one-length : (q : ℕ) (ps : List ℕ) → elem q ps ≡ true → lengt
 drop-one-length q [] h = absurd (true≢false (sym h))
 drop-one-length q (p ∷ ps) h = go (drop-one-length q ps) (eqb q p) refl
   where
-    go : (elem q ps ≡ true → length ps ≡ suc (length (drop-one q ps))) → (t : Bool) → eqb q p ≡ t → suc (length ps) ≡ suc (length (cond (eqb q p) ps (p ∷ drop-one q ps)))
+    go : (elem q ps ≡ true → length ps ≡ suc (length (drop-one q ps))) → (t : Bool) → eqb q p ≡ t
+        → suc (length ps) ≡ suc (length (cond (eqb q p) ps (p ∷ drop-one q ps)))
     go ih true e = rw e
     go ih false e = rw e (ap suc (ih (rw e at h)))
 
@@ -76,13 +77,15 @@ order-good (suc n) ps o = go (order-good n (drop-one n ps) (order-less n ps o))
 pub dot-order : (n : ℕ) (ps : List ℕ) (u v : Vector) → Order n ps → dotV u v n ≡ dotV (λ j. u (getD ps j 0)) (λ j. v (getD ps j 0)) n
 dot-order n ps u v o =
     let g = order-good n ps o in
-    dot-places n ps u v (g .0) (g .1) (λ q h e. absurd (true≢false (sym (o .every q h) ∙ e))) ∙ ap (dotV (λ j. u (getD ps j 0)) (λ j. v (getD ps j 0))) (o .size)
+    dot-places n ps u v (g .0) (g .1) (λ q h e. absurd (true≢false (sym (o .every q h) ∙ e)))
+    ∙ ap (dotV (λ j. u (getD ps j 0)) (λ j. v (getD ps j 0))) (o .size)
 
 pub elem-index : (q : ℕ) (ps : List ℕ) → elem q ps ≡ true → (j : ℕ) × (j < length ps) × (getD ps j 0 ≡ q)
 elem-index q [] h = absurd (true≢false (sym h))
 elem-index q (p ∷ ps) h = go (elem-index q ps) (or-cases (eqb q p) (elem q ps) h)
   where
-    go : (elem q ps ≡ true → (j : ℕ) × (j < length ps) × (getD ps j 0 ≡ q)) → (eqb q p ≡ true) ⊎ (elem q ps ≡ true) → (j : ℕ) × (j < suc (length ps)) × (getD (p ∷ ps) j 0 ≡ q)
+    go : (elem q ps ≡ true → (j : ℕ) × (j < length ps) × (getD ps j 0 ≡ q)) → (eqb q p ≡ true) ⊎ (elem q ps ≡ true) → (j : ℕ) × (j < suc (length ps))
+        × (getD (p ∷ ps) j 0 ≡ q)
     go ih (inl e) = (0, omega arith, sym (eqb-true q p e))
     go ih (inr m) = let k = ih m in (suc (k .0), omega (arith, k .1), k .2)
 
@@ -102,7 +105,10 @@ order-test n ps h =
 pub test-order : (n : ℕ) (ps : List ℕ) → Order n ps → isOrder n ps ≡ true
 unfolding isOrder
 test-order n ps o =
-    and-eq-true-iff (eqb (length ps) n) (not (anyTo (λ q. not (elem q ps)) n)) .1 (eq-eqb (length ps) n (o .size), ap not (none-any n (λ q. not (elem q ps)) (λ q l. ap not (o .every q l))))
+    and-eq-true-iff (eqb (length ps) n) (not (anyTo (λ q. not (elem q ps)) n)) .1 (
+      eq-eqb (length ps) n (o .size),
+      ap not (none-any n (λ q. not (elem q ps)) (λ q l. ap not (o .every q l))),
+    )
 
 -- an order is one of as many places as it has
 pub order-own : {n : ℕ} {l : List ℕ} → Order n l → Order (length l) l

@@ -72,7 +72,8 @@ dot-places n [] u v d b z = dot-zero n u v (λ i h. ap (mulT (u i)) (z i h refl)
 dot-places n (p ∷ ps) u v d b z =
     dot-put n u v p (b p (elem-here p ps))
     ∙ ap (addT (mulT (u p) (v p))) (dot-places n ps u (putV v p t0) (d .1) (λ q h. b q (or-true-right (eqb q p) (elem q ps) h)) off
-    ∙ dot-right (length ps) (λ j. u (getD ps j 0)) (λ j. putV v p t0 (getD ps j 0)) (λ j. v (getD ps j 0)) (λ j h. put-other v p t0 (getD ps j 0) (not-elem-at ps p j (d .0) h)))
+    ∙ dot-right (length ps) (λ j. u (getD ps j 0)) (λ j. putV v p t0 (getD ps j 0)) (λ j. v (getD ps j 0))
+    (λ j h. put-other v p t0 (getD ps j 0) (not-elem-at ps p j (d .0) h)))
     ∙ sym (dot-first (length ps) (λ j. u (getD (p ∷ ps) j 0)) (λ j. v (getD (p ∷ ps) j 0)))
   where
     off : (q : ℕ) → q < n → elem q ps ≡ false → putV v p t0 q ≡ t0

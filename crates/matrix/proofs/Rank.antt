@@ -57,7 +57,8 @@ module _ (r n : ℕ) (H : Matrix) where
           absurd (set-not (d .nonzero) (kept-injective r n H ps k (d .w) (λ x h.
           dot-left (length ps) (picked H ps x) (λ i. dotV (picked H qs x) (λ j. X j i) (length qs)) (d .w) (λ i b. sym (reached x i h b))
           ∙ sym (dot-swap (length qs) (length ps) (picked H qs x) (d .w) X)
-          ∙ dot-zero (length qs) (picked H qs x) (times (length ps) X (d .w)) (λ j b. ap (mulT (picked H qs x j)) (d .vanishes j b) ∙ mul-zero (picked H qs x j)))
+          ∙ dot-zero (length qs) (picked H qs x) (times (length ps) X (d .w))
+          (λ j b. ap (mulT (picked H qs x j)) (d .vanishes j b) ∙ mul-zero (picked H qs x j)))
           (d .place) (d .below)))
 
   -- more places, no smaller rank

@@ -17,7 +17,9 @@ use Rattle.matrix.proofs.Places.{Supported, or-false-left, or-false-rig
 
 pub agree-eq : (r : ℕ) (u v : Vector) → agree r u v ≡ true → (i : ℕ) → i < r → u i ≡ v i
 unfolding agree
-agree-eq r u v h i k = sub-zero-eq (u i) (v i) (unset-zero (subT (u i) (v i)) (any-none r (λ i. isSet (subT (u i) (v i))) (not-true (anyTo (λ i. isSet (subT (u i) (v i))) r) h) i k))
+agree-eq r u v h i k =
+    sub-zero-eq (u i) (v i) (unset-zero (subT (u i) (v i)) (any-none r (λ i. isSet (subT (u i) (v i))) (not-true (anyTo (λ i. isSet (subT (u i) (v i))) r) h) i
+    k))
 
 pub eq-agree : (r : ℕ) (u v : Vector) → ((i : ℕ) → i < r → u i ≡ v i) → agree r u v ≡ true
 unfolding agree
@@ -89,7 +91,8 @@ found-some (some u) h = (u, refl)
 abbrev pub Spans : ℕ → ℕ → Matrix → List ℕ → Vector → Type 0
 Spans r n H ps v = (w : Vector) × Supported ps w × ((i : ℕ) → i < r → times n H w i ≡ v i)
 
-pub solve-sound : (r n : ℕ) (H : Matrix) (s : Vector) (ps : List ℕ) (w u : Vector) → solve r n H s ps w ≡ some u → Off ps u w × ((i : ℕ) → i < r → times n H u i ≡ s i)
+pub solve-sound : (r n : ℕ) (H : Matrix) (s : Vector) (ps : List ℕ) (w u : Vector) → solve r n H s ps w ≡ some u → Off ps u w
+    × ((i : ℕ) → i < r → times n H u i ≡ s i)
 unfolding solve
 solve-sound r n H s ps w u h =
     let k = find-sound (λ u. agree r (times n H u) s) ps w u h in
@@ -103,7 +106,11 @@ solve-complete r n H s ps w u h k =
 
 pub inSpan-iff : (r n : ℕ) (H : Matrix) (ps : List ℕ) (v : Vector) → (inSpan r n H ps v ≡ true) ↔ Spans r n H ps v
 unfolding inSpan
-inSpan-iff r n H ps v = (
-  (λ h. let f = found-some (solve r n H v ps zeros) h in let k = solve-sound r n H v ps zeros (f .0) (f .1) in (f .0, k .0, k .1)),
-  λ s. rw (solve-complete r n H v ps zeros (s .0) (s .1) (s .2) .1),
-)
+inSpan-iff r n H ps v = (found, λ s. rw (solve-complete r n H v ps zeros (s .0) (s .1) (s .2) .1))
+  where
+    found : inSpan r n H ps v ≡ true → Spans r n H ps v
+    unfolding inSpan
+    found h =
+        let f = found-some (solve r n H v ps zeros) h in
+        let k = solve-sound r n H v ps zeros (f .0) (f .1) in
+        (f .0, k .0, k .1)

@@ -30,5 +30,6 @@ module _ (r n : ℕ) (H : Matrix) (ps : List ℕ) (k : Kept r n H ps) where
       let z = kept-spans r n H ps k full (λ i. subT (s i) (times n H w i)) in
       let u : Vector = λ q. addT (w q) (z .0 q) in
       let off : Off ps u w = λ q m. ap (addT (w q)) (z .1 q m) ∙ add-zero-r (w q) in
-      let fits : (i : ℕ) → i < r → times n H u i ≡ s i = λ i h. dot-add n (H i) w (z .0) ∙ ap (addT (times n H w i)) (z .2 i h) ∙ add-sub (s i) (times n H w i) in
+      let fits : (i : ℕ) → i < r → times n H u i ≡ s i = λ i h. dot-add n (H i) w (z .0) ∙ ap (addT (times n H w i)) (z .2 i h)
+      ∙ add-sub (s i) (times n H w i) in
       (u, solve-is s u w off fits, off, fits)

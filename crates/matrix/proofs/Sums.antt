@@ -28,7 +28,8 @@ listed-drop : (f : ℕ → ℕ) (q : ℕ) (ps : List ℕ) → elem q ps ≡ true
 listed-drop f q [] h = absurd (true≢false (sym h))
 listed-drop f q (p ∷ ps) h = go (listed-drop f q ps) (eqb q p) refl
   where
-    go : (elem q ps ≡ true → listed f ps ≡ listed f (drop-one q ps) + f q) → (t : Bool) → eqb q p ≡ t → f p + listed f ps ≡ listed f (cond (eqb q p) ps (p ∷ drop-one q ps)) + f q
+    go : (elem q ps ≡ true → listed f ps ≡ listed f (drop-one q ps) + f q) → (t : Bool) → eqb q p ≡ t
+        → f p + listed f ps ≡ listed f (cond (eqb q p) ps (p ∷ drop-one q ps)) + f q
     go ih true e = rw e (omega (arith, ap f (eqb-true q p e)))
     go ih false e = rw e (omega (arith, ih (rw e at h)))
 

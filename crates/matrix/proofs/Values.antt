@@ -16,7 +16,8 @@ use Rattle.matrix.proofs.Elimination.{Reduced, reduced-solve}
 pub times-sub : (n : ℕ) (A : Matrix) (x w : Vector) (c : ℕ) → times n A (λ q. subT (x q) (w q)) c ≡ subT (times n A x c) (times n A w c)
 times-sub n A x w c = dot-add n (A c) x (λ q. mulT t2 (w q)) ∙ ap (addT (times n A x c)) (dot-mul n t2 (A c) w)
 
-pub solve-by-rows : (r n : ℕ) (H A : Matrix) (ps : List ℕ) → Kept r n H ps → Reduced r n H A ps → length ps ≡ r → (x w : Vector) → ((q : ℕ) → elem q ps ≡ true → w q ≡ t0)
+pub solve-by-rows : (r n : ℕ) (H A : Matrix) (ps : List ℕ) → Kept r n H ps → Reduced r n H A ps → length ps ≡ r → (x w : Vector)
+    → ((q : ℕ) → elem q ps ≡ true → w q ≡ t0)
     → solve r n H (times n H x) ps w ≡ some (fill ps (λ c. times n A (λ q. subT (x q) (w q)) c) w)
 solve-by-rows r n H A ps k d full x w z =
     reduced-solve r n H A ps k d full x w z ∙ ap {B = Option Vector} (λ (v : Vector). some (fill ps v w)) (fun-ext (λ c. sym (times-sub n A x w c)))

@@ -1,4 +1,5 @@
--- Matrices over the trits: solving, independence and rank, by trying every value. The paper uses these terms ("The secret pairs", "Building a key", "One draw") without defining them. Assumes nothing.
+-- Matrices over the trits: solving, independence and rank, by trying every value. The paper uses these terms
+-- ("The secret pairs", "Building a key", "One draw") without defining them. Assumes nothing.
 use mathlib.Core.Bool.{Bool, true, false, cond, not, _||_}
 use mathlib.Core.List.{List, [], _∷_, _++_}
 use mathlib.Core.Option.{Option, none, some}

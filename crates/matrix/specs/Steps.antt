@@ -1,4 +1,5 @@
--- Elimination by row operations, as it is run: the matrix after it, and the places whose columns were kept. No rule of the paper: code is tied to it, and its laws to `pivots` and `solve`. Assumes nothing.
+-- Elimination by row operations, as it is run: the matrix after it, and the places whose columns were kept. No
+-- rule of the paper: code is tied to it, and its laws to `pivots` and `solve`. Assumes nothing.
 use mathlib.Core.Bool.{Bool, cond}
 use mathlib.Core.List.{List, [], _∷_, _++_}
 use Prim.Native.Nat.{ℕ, zero, suc, _+_, _-_}

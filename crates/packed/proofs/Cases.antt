@@ -26,7 +26,8 @@ unfolding packExit packRefusal planesRefusal bothSet rowsPastEnd rowPart pastEnd
 five-call = refl
 
 -- ★ 242 reads 2,2,2,2,2
-pub five-read : (packedAt (242 ∷ []) 0 ≡ t2) × (packedAt (242 ∷ []) 1 ≡ t2) × (packedAt (242 ∷ []) 2 ≡ t2) × (packedAt (242 ∷ []) 3 ≡ t2) × (packedAt (242 ∷ []) 4 ≡ t2)
+pub five-read : (packedAt (242 ∷ []) 0 ≡ t2) × (packedAt (242 ∷ []) 1 ≡ t2) × (packedAt (242 ∷ []) 2 ≡ t2) × (packedAt (242 ∷ []) 3 ≡ t2)
+    × (packedAt (242 ∷ []) 4 ≡ t2)
 unfolding packedAt digitOf
 five-read = (refl, refl, refl, refl, refl)
 

@@ -44,10 +44,14 @@ with-more u b at k = fun-ext (λ p. by p (ℕ-discrete p (at + k)) (decLt p at) 
   where
     by : (p : ℕ) → Dec (p ≡ at + k) → Dec (p < at) → Dec (p < at + k) → putV (withByte u b at k) (at + k) (tritOf (digitOf b k)) p ≡ withByte u b at (k + 1) p
     by p (yes e) d c =
-        ap (λ (t : Bool). cond t (tritOf (digitOf b k)) (withByte u b at k p)) (eq-eqb p (at + k) e) ∙ ap (λ (q : ℕ). tritOf (digitOf b q)) (omega arith) ∙ sym (with-in u b at (k + 1) p (omega arith) (omega arith))
-    by p (no f) (yes l) c = ap (λ (t : Bool). cond t (tritOf (digitOf b k)) (withByte u b at k p)) (ne-eqb p (at + k) f) ∙ with-below u b at k p l ∙ sym (with-below u b at (k + 1) p l)
-    by p (no f) (no l) (yes h) = ap (λ (t : Bool). cond t (tritOf (digitOf b k)) (withByte u b at k p)) (ne-eqb p (at + k) f) ∙ with-in u b at k p (omega arith) h ∙ sym (with-in u b at (k + 1) p (omega arith) (omega arith))
-    by p (no f) (no l) (no h) = ap (λ (t : Bool). cond t (tritOf (digitOf b k)) (withByte u b at k p)) (ne-eqb p (at + k) f) ∙ with-above u b at k p (omega arith) ∙ sym (with-above u b at (k + 1) p (omega arith))
+        ap (λ (t : Bool). cond t (tritOf (digitOf b k)) (withByte u b at k p)) (eq-eqb p (at + k) e) ∙ ap (λ (q : ℕ). tritOf (digitOf b q)) (omega arith)
+        ∙ sym (with-in u b at (k + 1) p (omega arith) (omega arith))
+    by p (no f) (yes l) c = ap (λ (t : Bool). cond t (tritOf (digitOf b k)) (withByte u b at k p)) (ne-eqb p (at + k) f) ∙ with-below u b at k p l
+        ∙ sym (with-below u b at (k + 1) p l)
+    by p (no f) (no l) (yes h) = ap (λ (t : Bool). cond t (tritOf (digitOf b k)) (withByte u b at k p)) (ne-eqb p (at + k) f)
+        ∙ with-in u b at k p (omega arith) h ∙ sym (with-in u b at (k + 1) p (omega arith) (omega arith))
+    by p (no f) (no l) (no h) = ap (λ (t : Bool). cond t (tritOf (digitOf b k)) (withByte u b at k p)) (ne-eqb p (at + k) f)
+        ∙ with-above u b at k p (omega arith) ∙ sym (with-above u b at (k + 1) p (omega arith))
 
 -- ---- how many trits a byte gives
 
@@ -150,7 +154,8 @@ module _ {m : ℕ} {bytes : List ℕ} {at i : ℕ} (s : Stands m bytes at i) (l 
         by (no g) =
             let z = gives-none m at b (omega arith) in
             let e : at ≡ at + gives m at b = omega arith in
-            ap (withByte (upTo at (packedAt (kept bytes))) b at) z ∙ sym (with-none (upTo at (packedAt (kept bytes))) b at) ∙ ap (λ (n : ℕ). upTo n (packedAt (kept bytes))) e
+            ap (withByte (upTo at (packedAt (kept bytes))) b at) z ∙ sym (with-none (upTo at (packedAt (kept bytes))) b at)
+            ∙ ap (λ (n : ℕ). upTo n (packedAt (kept bytes))) e
 
     -- the planes after byte i
     pub reads-next : {o t p q : List ℕ} {n new : ℕ} → Reads o t n (streamRow at bytes) → new ≡ at + gives m at (getD bytes i 0)

@@ -13,7 +13,8 @@ use super::table::trit;
 // The first `count` trits of a byte are put at the places from `at` on.
 fn put_byte(table: &[u8; 1215], b: u8, ones: &mut [u64], twos: &mut [u64], at: usize, count: usize)
     requires { ⌜ ForPutByte (now table) b (now ones) (now twos) at count ⌝ }
-    ensures { λ _. ⌜ Reads (now (ones .exit)) (now (twos .exit)) (length (now (ones .entry))) (withByte (tritAt (now (ones .entry)) (now (twos .entry))) b at count) ⌝ }
+    ensures { λ _. ⌜ Reads (now (ones .exit)) (now (twos .exit)) (length (now (ones .entry)))
+        (withByte (tritAt (now (ones .entry)) (now (twos .entry))) b at count) ⌝ }
 {
     let mut k = 0;
     while k < count {
@@ -33,7 +34,8 @@ fn put_next(
 ) -> usize
     requires { ⌜ ForPutNext (now table) m (now ones) (now twos) at ⌝ }
     ensures { λ r. ⌜ r ≡ at + gives m at b ⌝ }
-    ensures { λ _. ⌜ Reads (now (ones .exit)) (now (twos .exit)) (length (now (ones .entry))) (withByte (tritAt (now (ones .entry)) (now (twos .entry))) b at (gives m at b)) ⌝ }
+    ensures { λ _. ⌜ Reads (now (ones .exit)) (now (twos .exit)) (length (now (ones .entry)))
+        (withByte (tritAt (now (ones .entry)) (now (twos .entry))) b at (gives m at b)) ⌝ }
 {
     if b > 242 {
         return at;

@@ -36,7 +36,8 @@ pub fn with_bit(w: u64, b: usize, on: bool) -> u64
 // The trit t is put at a place.
 pub fn put_trit(ones: &mut [u64], twos: &mut [u64], i: usize, t: u8)
     requires { ⌜ ForPutTrit (now ones) (now twos) i t ⌝ }
-    ensures { λ _. ⌜ Reads (now (ones .exit)) (now (twos .exit)) (length (now (ones .entry))) (putV (tritAt (now (ones .entry)) (now (twos .entry))) i (tritOf t)) ⌝ }
+    ensures { λ _. ⌜ Reads (now (ones .exit)) (now (twos .exit)) (length (now (ones .entry)))
+        (putV (tritAt (now (ones .entry)) (now (twos .entry))) i (tritOf t)) ⌝ }
 {
     let j = i / 64;
     let b = i % 64;

@@ -1,4 +1,5 @@
--- Worked cases of the build and the draw that the paper's examples leave open, by computation over the definitions; their values were worked out apart from them. Assumes nothing.
+-- Worked cases of the build and the draw that the paper's examples leave open, by computation over
+-- the definitions; their values were worked out apart from them. Assumes nothing.
 use mathlib.Core.Path.{_≡_, refl}
 use mathlib.Core.List.{List, [], _∷_}
 use mathlib.Core.Bool.{true, false}
@@ -51,7 +52,8 @@ pub record Cases6 : Type 0 where
   pub released-gap : drawRefusal (sizes6 1 5) secret6 order6 (vector (1 ∷ 2 ∷ 0 ∷ [])) choices6 ≡ 0
 
 pub cases6 : Cases6
-unfolding dotV anyTo sumTo tabulate agree find solve inSpan keep pivots rank without fill range isOrder digitRows sizesFit noZero hasZero secretMatrix arrange arranged rowOfR buildFits buildRefusal choicesFit pivotsV suppliedV drawV pivotsU suppliedU drawU drawn drawRefusal
+unfolding dotV anyTo sumTo tabulate agree find solve inSpan keep pivots rank without fill range isOrder digitRows sizesFit noZero hasZero secretMatrix arrange
+    arranged rowOfR buildFits buildRefusal choicesFit pivotsV suppliedV drawV pivotsU suppliedU drawU drawn drawRefusal
 cases6 = record { given = refl; passed = refl; order = refl; rows = refl; fits = refl; draw = refl; released = refl; draw-gap = refl; released-gap = refl }
 
 -- ---- n = 8 with k = 3 and n-k = 5, and draws at g = 1
@@ -106,7 +108,8 @@ pub record Cases8 : Type 0 where
   pub draw-narrow : digits 8 (drawn (sizes8 0 7) secret8 order8 (vector y8) (choose goodV (2 ∷ []) goodU (1 ∷ 2 ∷ []))) ≡ 2 ∷ 1 ∷ 2 ∷ 0 ∷ 0 ∷ 2 ∷ 1 ∷ 2 ∷ []
 
 pub cases8 : Cases8
-unfolding dotV anyTo sumTo tabulate agree find solve inSpan keep pivots rank without fill range isOrder digitRows sizesFit noZero hasZero secretMatrix arrange arranged rowOfR buildFits buildRefusal choicesFit pivotsV suppliedV drawV pivotsU suppliedU drawU drawn drawRefusal
+unfolding dotV anyTo sumTo tabulate agree find solve inSpan keep pivots rank without fill range isOrder digitRows sizesFit noZero hasZero secretMatrix arrange
+    arranged rowOfR buildFits buildRefusal choicesFit pivotsV suppliedV drawV pivotsU suppliedU drawU drawn drawRefusal
 cases8 = record {
   given = refl;
   passed = refl;
@@ -132,7 +135,12 @@ abbrev sizes4 : ℕ → Sizes
 sizes4 n = record { n = n; ku = 1; kv = 1; g = 0; w = 4 }
 
 -- the last column is tried, at j = l = 1: H_U = (2 0), H_V = (2 2), b = (1,2), c = (2,2)
-pub last-tried : arranged 2 4 (secretMatrix (sizes4 4) (record { hu = matrix ((2 ∷ 0 ∷ []) ∷ []); hv = matrix ((2 ∷ 2 ∷ []) ∷ []); b = vector (1 ∷ 2 ∷ []); c = vector (2 ∷ 2 ∷ []) })) (0 ∷ 3 ∷ 2 ∷ 1 ∷ [])
+pub last-tried : arranged 2 4 (secretMatrix (sizes4 4) (record {
+  hu = matrix ((2 ∷ 0 ∷ []) ∷ []);
+  hv = matrix ((2 ∷ 2 ∷ []) ∷ []);
+  b = vector (1 ∷ 2 ∷ []);
+  c = vector (2 ∷ 2 ∷ []);
+})) (0 ∷ 3 ∷ 2 ∷ 1 ∷ [])
     ≡ record { kept = 2; order = 0 ∷ 2 ∷ 1 ∷ 3 ∷ [] }
 unfolding dotV anyTo agree find solve inSpan arranged arrange secretMatrix
 last-tried = refl

@@ -67,7 +67,8 @@ module _ (r n : ℕ) (H : Matrix) where
           let c = s m h in (
             (λ q. addT (t .0 q) (mulT (w m) (c .0 q))),
             (λ q k. ap₂ addT (t .1 q k) (ap (mulT (w m)) (c .1 q k) ∙ mul-zero (w m))),
-            λ i k. dot-add n (H i) (t .0) (λ q. mulT (w m) (c .0 q)) ∙ ap₂ addT (t .2 i k) (dot-mul n (w m) (H i) (c .0) ∙ ap (mulT (w m)) (c .2 i k) ∙ mul-comm (w m) (H i m)),
+            λ i k. dot-add n (H i) (t .0) (λ q. mulT (w m) (c .0 q))
+                ∙ ap₂ addT (t .2 i k) (dot-mul n (w m) (H i) (c .0) ∙ ap (mulT (w m)) (c .2 i k) ∙ mul-comm (w m) (H i m)),
           )
 
   -- r columns are kept, and stand first in the order
@@ -100,10 +101,16 @@ module _ (r n : ℕ) (H : Matrix) where
               side false t = rw e at (s i (omega (arith, ltb-false i j t)) (omega (arith, o .size)))
 
       full : j ≡ r
-      full = omega (arith, size, kept-few r n H (take j ps) k, spans-many r n H (take j ps) (k .distinct) (k .below) (λ v. spans-all (take j ps) each (a v .0) v (a v .1)))
+      full = omega (
+        arith,
+        size,
+        kept-few r n H (take j ps) k,
+        spans-many r n H (take j ps) (k .distinct) (k .below) (λ v. spans-all (take j ps) each (a v .0) v (a v .1)),
+      )
 
   -- the column at j is kept
-  pub next : (f j : ℕ) (ps : List ℕ) → Order n ps → Kept r n H (take j ps) → j + suc f ≤ n → Rest (suc f) j ps → inSpan r n H (take j ps) (column H (getD ps j 0)) ≡ false
+  pub next : (f j : ℕ) (ps : List ℕ) → Order n ps → Kept r n H (take j ps) → j + suc f ≤ n → Rest (suc f) j ps
+      → inSpan r n H (take j ps) (column H (getD ps j 0)) ≡ false
       → Kept r n H (take (suc j) ps) × Rest f (suc j) ps
   next f j ps o k h s e =
       let shape = take-suc ps j 0 (omega (arith, o .size)) in (
@@ -115,7 +122,8 @@ module _ (r n : ℕ) (H : Matrix) where
       more q m = rw (elem-append, m)
 
   -- the column at j goes to the place l = j + f
-  pub back : (f j : ℕ) (ps : List ℕ) → Order n ps → Kept r n H (take j ps) → j + suc f ≤ n → Rest (suc f) j ps → inSpan r n H (take j ps) (column H (getD ps j 0)) ≡ true
+  pub back : (f j : ℕ) (ps : List ℕ) → Order n ps → Kept r n H (take j ps) → j + suc f ≤ n → Rest (suc f) j ps
+      → inSpan r n H (take j ps) (column H (getD ps j 0)) ≡ true
       → Order n (swap j (j + f) ps) × Kept r n H (take j (swap j (j + f) ps)) × Rest f j (swap j (j + f) ps)
   back f j ps o k h s e = (
     swap-order ps j (j + f) hj hl n o,
@@ -147,7 +155,13 @@ module _ (r n : ℕ) (H : Matrix) where
     where
       go : ((j : ℕ) (ps : List ℕ) → Reaches r n H → Order n ps → Kept r n H (take j ps) → j + f ≤ n → Rest f j ps → Arranged (arrange r n H f j ps))
           → (t : Bool) → eqb j r ≡ t → (u : Bool) → inSpan r n H (take j ps) (column H (getD ps j 0)) ≡ u → Arranged (arrange r n H (suc f) j ps)
-      go ih true e u d = rw (e, arrange) (record { count = eqb-true j r e; order = o; kept = subst (λ x. Kept r n H (take x ps)) (eqb-true j r e) k; fits = omega (arith, eqb-true j r e) })
+      go ih true e u d =
+          rw (e, arrange) (record {
+            count = eqb-true j r e;
+            order = o;
+            kept = subst (λ x. Kept r n H (take x ps)) (eqb-true j r e) k;
+            fits = omega (arith, eqb-true j r e);
+          })
       go ih false e true d = let b = back f j ps o k h s d in rw (e, d, arrange) (ih j (swap j (j + f) ps) a (b .0) (b .1) (omega arith) (b .2))
       go ih false e false d = let b = next f j ps o k h s d in rw (e, d, arrange) (ih (suc j) ps a o (b .0) (omega arith) (b .1))
 
@@ -158,7 +172,8 @@ module _ (r n : ℕ) (H : Matrix) where
 -- ---- the rows of R
 
 -- column i of R, after r kept columns
-pub reduced-key : (r n : ℕ) (H A : Matrix) (p : List ℕ) → Kept r n H (take r p) → Reduced r n H A (take r p) → r ≤ length p → (i j : ℕ) → j < r → getD p (r + i) 0 < n
+pub reduced-key : (r n : ℕ) (H A : Matrix) (p : List ℕ) → Kept r n H (take r p) → Reduced r n H A (take r p) → r ≤ length p → (i j : ℕ) → j < r
+    → getD p (r + i) 0 < n
     → rowOfR r n H p i j ≡ A j (getD p (r + i) 0)
 unfolding rowOfR
 reduced-key r n H A p k d f i j h l =
@@ -192,7 +207,8 @@ module _ (r n : ℕ) (H : Matrix) (f j : ℕ) (order : List ℕ) where
       go zero = refl
       go (suc f) = rw (eq-eqb j r e, arrange)
 
-  arrange-back : (j ≡ r → ⊥) → inSpan r n H (take j order) (column H (getD order j 0)) ≡ true → arrange r n H (suc f) j order ≡ arrange r n H f j (swap j (j + f) order)
+  arrange-back : (j ≡ r → ⊥) → inSpan r n H (take j order) (column H (getD order j 0)) ≡ true
+      → arrange r n H (suc f) j order ≡ arrange r n H f j (swap j (j + f) order)
   unfolding arrange
   arrange-back m e = rw (ne-eqb j r m, e, arrange)
 
@@ -212,7 +228,14 @@ module _ (r n : ℕ) (H : Matrix) (start : List ℕ) where
 
   pub begin : Order n start → State n 0 start H
   unfolding arranged
-  begin o = record { todo = refl; order-ok = o; kept = empty-kept r n H; reduced = start-reduced r n H; room = omega arith; rest = λ i h l. absurd (omega arith) }
+  begin o = record {
+    todo = refl;
+    order-ok = o;
+    kept = empty-kept r n H;
+    reduced = start-reduced r n H;
+    room = omega arith;
+    rest = λ i h l. absurd (omega arith);
+  }
 
   module _ (f j : ℕ) (order : List ℕ) (A : Matrix) (t : State (suc f) j order A) (more : j ≡ r → ⊥) where
     size : length (take j order) ≡ j
@@ -224,8 +247,14 @@ module _ (r n : ℕ) (H : Matrix) (start : List ℕ) where
     -- the column at j is 0 in the rows from j on: it changes places with the column at j + f
     pub turned : ((i : ℕ) → j ≤ i → i < r → A i (getD order j 0) ≡ t0) → State f j (swap j (j + f) order) A
     turned z =
-        record
-        { todo = t .todo ∙ step; order-ok = b .0; kept = b .1; reduced = subst (λ l. Reduced r n H A l) (sym same) (t .reduced); room = omega (arith, t .room); rest = b .2 }
+        record {
+          todo = t .todo ∙ step;
+          order-ok = b .0;
+          kept = b .1;
+          reduced = subst (λ l. Reduced r n H A l) (sym same) (t .reduced);
+          room = omega (arith, t .room);
+          rest = b .2;
+        }
       where
         «in» : inSpan r n H (take j order) (column H (getD order j 0)) ≡ true
         «in» = test-in r n H A (take j order) (t .kept) (t .reduced) (getD order j 0) low (λ i h l. z i (omega (arith, size)) l)
@@ -237,14 +266,21 @@ module _ (r n : ℕ) (H : Matrix) (start : List ℕ) where
         b = back r n H f j order (t .order-ok) (t .kept) (t .room) (t .rest) «in»
 
         same : take j (swap j (j + f) order) ≡ take j order
-        same = take-set-le j (set order j (getD order (j + f) 0)) (j + f) (getD order j 0) (omega arith) ∙ take-set-le j order j (getD order (j + f) 0) (omega arith)
+        same = take-set-le j (set order j (getD order (j + f) 0)) (j + f) (getD order j 0) (omega arith)
+            ∙ take-set-le j order j (getD order (j + f) 0) (omega arith)
 
     -- it has a trit in row a that is not 0: rows j and a change places and the column is cleared
     pub taken : (a : ℕ) → j ≤ a → a < r → isSet (A a (getD order j 0)) ≡ true → State f (suc j) order (clearRows j (getD order j 0) (swapRows j a A))
     taken a la ha z =
         let b = next r n H f j order (t .order-ok) (t .kept) (t .room) (t .rest) out in
-        record
-        { todo = t .todo ∙ arrange-next r n H f j order more out; order-ok = t .order-ok; kept = b .0; reduced = cleared; room = omega (arith, t .room); rest = b .1 }
+        record {
+          todo = t .todo ∙ arrange-next r n H f j order more out;
+          order-ok = t .order-ok;
+          kept = b .0;
+          reduced = cleared;
+          room = omega (arith, t .room);
+          rest = b .1;
+        }
       where
         out : inSpan r n H (take j order) (column H (getD order j 0)) ≡ false
         out = test-out r n H A (take j order) (t .kept) (t .reduced) (getD order j 0) low a (omega (arith, size)) ha z

@@ -38,14 +38,16 @@ module _ (n a : ℕ) (ps : List ℕ) (o : Order n ps) where
   first-in q m = subst (λ (l : List ℕ). elem q l ≡ true) (take-append-drop a ps) (elem-append q (take a ps) (drop a ps) ∙ (rw m))
 
   pub last-in : Within (drop a ps) ps
-  last-in q m = subst (λ (l : List ℕ). elem q l ≡ true) (take-append-drop a ps) (elem-append q (take a ps) (drop a ps) ∙ or-true-right (elem q (take a ps)) (elem q (drop a ps)) m)
+  last-in q m = subst (λ (l : List ℕ). elem q l ≡ true) (take-append-drop a ps)
+      (elem-append q (take a ps) (drop a ps) ∙ or-true-right (elem q (take a ps)) (elem q (drop a ps)) m)
 
   pub first-below : Below n (take a ps)
   first-below q m = order-good n ps o .1 q (first-in q m)
 
   -- a place of the order is in its first or its last part
   pub either-part : (q : ℕ) → q < n → (elem q (take a ps) ≡ true) ⊎ (elem q (drop a ps) ≡ true)
-  either-part q h = or-cases (elem q (take a ps)) (elem q (drop a ps)) (sym (elem-append q (take a ps) (drop a ps)) ∙ subst (λ (l : List ℕ). elem q l ≡ true) (sym (take-append-drop a ps)) (o .every q h))
+  either-part q h = or-cases (elem q (take a ps)) (elem q (drop a ps))
+      (sym (elem-append q (take a ps) (drop a ps)) ∙ subst (λ (l : List ℕ). elem q l ≡ true) (sym (take-append-drop a ps)) (o .every q h))
 
 -- ---- what is supplied
 
@@ -68,7 +70,13 @@ choices-valid z ch h =
 pub valid-choices : (z : Sizes) (ch : Choices) → Valid z ch → choicesFit z ch ≡ true
 unfolding choicesFit
 valid-choices z ch v =
-    and-eq-true-iff (isOrder (half z) (ch .orderV)) _ .1 (test-order (half z) (ch .orderV) (v .orderV), and-eq-true-iff (isOrder (half z) (ch .orderU)) _ .1 (test-order (half z) (ch .orderU) (v .orderU), zero-no (z .ku - gapU z) (λ j. ch .valuesU (gapU z + j)) (v .values)))
+    and-eq-true-iff (isOrder (half z) (ch .orderV)) _ .1 (
+      test-order (half z) (ch .orderV) (v .orderV),
+      and-eq-true-iff (isOrder (half z) (ch .orderU)) _ .1 (
+        test-order (half z) (ch .orderU) (v .orderU),
+        zero-no (z .ku - gapU z) (λ j. ch .valuesU (gapU z + j)) (v .values),
+      ),
+    )
 
 -- ---- a draw that releases has passed three tests
 
@@ -80,7 +88,11 @@ pub record Passes (z : Sizes) (s : Secret) (p : List ℕ) (y : Vector) (ch : Cho
 module _ (z : Sizes) (s : Secret) (p : List ℕ) (y : Vector) (ch : Choices) where
   pub passes-released : Passes z s p y ch → drawRefusal z s p y ch ≡ 0
   unfolding drawRefusal rank pivotsV pivotsU
-  passes-released a = rw (eq-eqb (length (pivotsV z s ch)) (rv z) (a .fullV), eq-eqb (length (pivotsU z s ch)) (ru z) (a .fullU), eq-eqb (weightV (drawn z s p y ch) (places z)) (z .w) (a .weighs))
+  passes-released a = rw (
+    eq-eqb (length (pivotsV z s ch)) (rv z) (a .fullV),
+    eq-eqb (length (pivotsU z s ch)) (ru z) (a .fullU),
+    eq-eqb (weightV (drawn z s p y ch) (places z)) (z .w) (a .weighs),
+  )
 
   pub released-passes : drawRefusal z s p y ch ≡ 0 → Passes z s p y ch
   unfolding drawRefusal rank pivotsV pivotsU
@@ -113,7 +125,8 @@ module _ (z : Sizes) (s : Secret) (ch : Choices) (va : Valid z ch) where
       rw (t .1) (t .2, t .3)
 
   pub drawU-good : length (pivotsU z s ch) ≡ ru z → (x eV : Vector)
-      → Off (pivotsU z s ch) (drawU z s x eV ch) (suppliedU z s eV ch) × ((i : ℕ) → i < ru z → times (half z) (s .hu) (drawU z s x eV ch) i ≡ times (half z) (s .hu) x i)
+      → Off (pivotsU z s ch) (drawU z s x eV ch) (suppliedU z s eV ch)
+      × ((i : ℕ) → i < ru z → times (half z) (s .hu) (drawU z s x eV ch) i ≡ times (half z) (s .hu) x i)
   unfolding drawU
   drawU-good full x eV =
       let t = solve-exists (ru z) (half z) (s .hu) (pivotsU z s ch) keptU full (times (half z) (s .hu) x) (suppliedU z s eV ch) in
@@ -136,11 +149,13 @@ module _ (z : Sizes) (s : Secret) (ch : Choices) (va : Valid z ch) where
           va .values (k .0) (omega (arith, k .1, length-drop (ru z + gapU z) (ch .orderU), va .orderU .size, ra .ku-low)),
           drawU-good full x eV .0 q (refuted (elem q (pivotsU z s ch)) (λ e. true≢false (sym m ∙ last-apart q e)))
               ∙ ap (suppliedU z s eV ch) (sym (k .2))
-              ∙ fill-at (lastU z ch) (λ j. forced s eV (getD (lastU z ch) j 0) (ch .valuesU (gapU z + j))) _ (k .0) (parts (half z) (ru z + gapU z) (ch .orderU) (va .orderU) .1) (k .1)
+              ∙ fill-at (lastU z ch) (λ j. forced s eV (getD (lastU z ch) j 0) (ch .valuesU (gapU z + j))) _ (k .0)
+              (parts (half z) (ru z + gapU z) (ch .orderU) (va .orderU) .1) (k .1)
               ∙ ap (λ (t : ℕ). forced s eV t (ch .valuesU (gapU z + k .0))) (k .2),
         )
 
-    pub last-pair : (q : ℕ) → elem q (lastU z ch) ≡ true → (isSet (leftOf s (drawU z s x eV ch) eV q) ≡ true) × (isSet (rightOf s (drawU z s x eV ch) eV q) ≡ true)
+    pub last-pair : (q : ℕ) → elem q (lastU z ch) ≡ true → (isSet (leftOf s (drawU z s x eV ch) eV q) ≡ true)
+        × (isSet (rightOf s (drawU z s x eV ch) eV q) ≡ true)
     last-pair q m = let t = last-value q m in forced-pair s (drawU z s x eV ch) eV q (t .0) (unit q (last-below q m)) (t .1) (t .2)
 
 -- ---- what elimination computes for it
@@ -156,7 +171,8 @@ module _ (z : Sizes) (s : Secret) (ch : Choices) (va : Valid z ch) where
   unfolding drawV suppliedV
   drawV-rows A x d full =
       ap orZeros
-      (solve-by-rows (rv z) (half z) (s .hv) A (pivotsV z s ch) (keptV z s ch va) d full x (suppliedV z s ch) (λ q m. skipped (pivotsV z s ch) (ch .orderV) (ch .tritsV) zeros q m))
+      (solve-by-rows (rv z) (half z) (s .hv) A (pivotsV z s ch) (keptV z s ch va) d full x (suppliedV z s ch)
+      (λ q m. skipped (pivotsV z s ch) (ch .orderV) (ch .tritsV) zeros q m))
 
   pub drawU-rows : (A : Matrix) (x eV : Vector) → Reduced (ru z) (half z) (s .hu) A (pivotsU z s ch) → length (pivotsU z s ch) ≡ ru z
       → drawU z s x eV ch ≡ fill (pivotsU z s ch) (times (half z) A (λ q. Rattle.trits.specs.Trit.subT (x q) (suppliedU z s eV ch q))) (suppliedU z s eV ch)
@@ -164,4 +180,5 @@ module _ (z : Sizes) (s : Secret) (ch : Choices) (va : Valid z ch) where
   drawU-rows A x eV d full =
       ap orZeros
       (solve-by-rows (ru z) (half z) (s .hu) A (pivotsU z s ch) (keptU z s ch va) d full x (suppliedU z s eV ch)
-      (λ q m. fill-off (lastU z ch) (λ j. forced s eV (getD (lastU z ch) j 0) (ch .valuesU (gapU z + j))) _ q (last-apart z s ch va q m) ∙ skipped (pivotsU z s ch) (firstU z ch) (ch .valuesU) zeros q m))
+      (λ q m. fill-off (lastU z ch) (λ j. forced s eV (getD (lastU z ch) j 0) (ch .valuesU (gapU z + j))) _ q (last-apart z s ch va q m)
+      ∙ skipped (pivotsU z s ch) (firstU z ch) (ch .valuesU) zeros q m))

@@ -44,7 +44,8 @@ build-passed z s start h e =
     }
 
 -- once both ranks are full, the build ends with n-k columns kept
-pub build-ends : (z : Sizes) (s : Secret) (start : List ℕ) → Builds z s start → Arranged (codim z) (places z) (secretMatrix z s) (arranged (codim z) (places z) (secretMatrix z s) start)
+pub build-ends : (z : Sizes) (s : Secret) (start : List ℕ) → Builds z s start
+    → Arranged (codim z) (places z) (secretMatrix z s) (arranged (codim z) (places z) (secretMatrix z s) start)
 build-ends z s start b =
     arranged-good (codim z) (places z) (secretMatrix z s) start
     (secret-reaches z s (full-reaches (ru z) (half z) (s .hu) .0 (b .full-u)) (full-reaches (rv z) (half z) (s .hv) .0 (b .full-v))) (b .order)

@@ -77,7 +77,8 @@ module _ (s : Secret) where
   pub pair-forced : (u v : Vector) (q : ℕ) → isSet (s .c q) ≡ true → isSet (leftOf s u v q) ≡ true → isSet (rightOf s u v q) ≡ true
       → (forced s v q (u q) ≡ u q) × (v q ≡ t0 → isSet (u q) ≡ true)
   pair-forced u v q h k l =
-      let t = and-eq-true-iff (not (isSet (subT (forced s v q (u q)) (u q)))) (isSet (v q) || isSet (u q)) .0 (implied (isSet (s .c q) && (isSet (leftOf s u v q) && isSet (rightOf s u v q))) _
+      let t = and-eq-true-iff (not (isSet (subT (forced s v q (u q)) (u q)))) (isSet (v q) || isSet (u q)) .0
+      (implied (isSet (s .c q) && (isSet (leftOf s u v q) && isSet (rightOf s u v q))) _
       (test4 (λ b c v u. not (isSet c && (isSet (addT u (mulT b v)) && isSet (addT (mulT c (addT u (mulT b v))) v)))
       || (not (isSet (subT (cond (isSet v) (mulT (subT c b) v) u) u)) && (isSet v || isSet u)))
       tt (s .b q) (s .c q) (v q) (u q))
@@ -142,6 +143,8 @@ module _ (z : Sizes) (s : Secret) where
       let w = b (λ i. v (ru z + i)) in (
         whole z s (u .0) (w .0),
         by-rows (λ i. times (places z) (secretMatrix z s) (whole z s (u .0) (w .0)) i ≡ v i)
-            (λ i h. secret-u (whole z s (u .0) (w .0)) i h ∙ dot-right (half z) (s .hu i) (uOf z s (whole z s (u .0) (w .0))) (u .0) (whole-u z s (u .0) (w .0)) ∙ u .1 i h)
-            (λ i h. secret-v (whole z s (u .0) (w .0)) i ∙ dot-right (half z) (s .hv i) (vOf z s (whole z s (u .0) (w .0))) (w .0) (whole-v z s (u .0) (w .0)) ∙ w .1 i h),
+            (λ i h. secret-u (whole z s (u .0) (w .0)) i h
+            ∙ dot-right (half z) (s .hu i) (uOf z s (whole z s (u .0) (w .0))) (u .0) (whole-u z s (u .0) (w .0)) ∙ u .1 i h)
+            (λ i h. secret-v (whole z s (u .0) (w .0)) i ∙ dot-right (half z) (s .hv i) (vOf z s (whole z s (u .0) (w .0))) (w .0) (whole-v z s (u .0) (w .0))
+            ∙ w .1 i h),
       )

@@ -56,7 +56,9 @@ module _ (l : List ℕ) (i : ℕ) where
 pub all-at : (low high : ℕ) (l : List ℕ) (i : ℕ) → i < length l → allBetween low high l ≡ true → (low ≤ getD l i 0) × (getD l i 0 ≤ high)
 unfolding allBetween
 all-at low high [] i h e = absurd (not-suc-le-zero h)
-all-at low high (b ∷ l) zero h e = let p = and-eq-true-iff (leb low b) (leb b high) .0 (and-eq-true-iff (leb low b && leb b high) (allBetween low high l) .0 e .0) in (leb-true low b (p .0), leb-true b high (p .1))
+all-at low high (b ∷ l) zero h e =
+    let p = and-eq-true-iff (leb low b) (leb b high) .0 (and-eq-true-iff (leb low b && leb b high) (allBetween low high l) .0 e .0) in
+    (leb-true low b (p .0), leb-true b high (p .1))
 all-at low high (b ∷ l) (suc i) h e = all-at low high l i (le-of-suc-le-suc h) (and-eq-true-iff (leb low b && leb b high) (allBetween low high l) .0 e .1)
 
 -- ---- the parts between marks
@@ -78,7 +80,8 @@ split-more mark (b ∷ l) h = by (eqb b mark) h (split-more mark l)
   where
     by : (t : Bool) → cond t 0 (suc (before mark l)) < suc (length l)
         → (before mark l < length l → split mark l ≡ take (before mark l) l ∷ split mark (drop (suc (before mark l)) l))
-        → cond t ([] ∷ split mark l) (onto b (split mark l)) ≡ take (cond t 0 (suc (before mark l))) (b ∷ l) ∷ split mark (drop (suc (cond t 0 (suc (before mark l)))) (b ∷ l))
+        → cond t ([] ∷ split mark l) (onto b (split mark l)) ≡ take (cond t 0 (suc (before mark l))) (b ∷ l) ∷ split mark
+        (drop (suc (cond t 0 (suc (before mark l)))) (b ∷ l))
     by true h f = refl
     by false h f = ap (onto b) (f (le-of-suc-le-suc h))
 
@@ -115,7 +118,8 @@ module _ (line : List ℕ) (a e : ℕ) (h : e ≡ a + before 9 (drop a line)) wh
       let g : e - a ≡ before 9 (drop a line) = omega arith in
       let n : a + suc (before 9 (drop a line)) ≡ e + 1 = omega arith in
       split-more 9 (drop a line) (omega (arith, before-le 9 (drop a line), length-drop a line))
-      ∙ ap (λ (x : List ℕ). take (before 9 (drop a line)) (drop a line) ∷ fields x) (drop-drop (suc (before 9 (drop a line))) a line ∙ ap (λ (j : ℕ). drop j line) n)
+      ∙ ap (λ (x : List ℕ). take (before 9 (drop a line)) (drop a line) ∷ fields x)
+      (drop-drop (suc (before 9 (drop a line))) a line ∙ ap (λ (j : ℕ). drop j line) n)
       ∙ ap (λ (j : ℕ). take j (drop a line) ∷ fields (drop (e + 1) line)) (sym g)
 
   pub field-last : a ≤ length line → e ≡ length line → fields (drop a line) ≡ part a (length line) line ∷ []

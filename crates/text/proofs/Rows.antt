@@ -19,7 +19,8 @@ module _ (f : List ℕ) where
   unfolding isDigits
   digit-range e i h = all-at 48 50 f i h (and-eq-true-iff (ltb 0 (length f)) (allBetween 48 50 f) .0 e .1)
 
-  pub digit-put : {o t p q : List ℕ} {n k : ℕ} (i : ℕ) → Reads o t n (upTo i (digitAt f)) → k ≡ n → Reads p q k (putV (tritAt o t) i (tritOf (getD f i 0 - 48))) → Reads p q n (upTo (i + 1) (digitAt f))
+  pub digit-put : {o t p q : List ℕ} {n k : ℕ} (i : ℕ) → Reads o t n (upTo i (digitAt f)) → k ≡ n
+      → Reads p q k (putV (tritAt o t) i (tritOf (getD f i 0 - 48))) → Reads p q n (upTo (i + 1) (digitAt f))
   unfolding digitAt
   digit-put i r e g = record {
     row = g .row;

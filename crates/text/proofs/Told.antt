@@ -68,7 +68,9 @@ module _ (line : List ℕ) (b c d e : ℕ) (h : 2 ≤ length line) (hb : b ≡ 2
   module _ (nb : b ≡ length line → ⊥) (hc : c ≡ b + 1 + before 9 (drop (b + 1) line)) where
     pub two-fields : c ≡ length line → NotFour line
     unfolding fourFields
-    two-fields z = λ f. ap (fourFields f) (field-more line 2 b hb h nb ∙ ap (λ (x : List (List ℕ)). part 2 b line ∷ x) (field-last line (b + 1) c hc (field-room line 2 b hb h nb) z))
+    two-fields z =
+        λ f. ap (fourFields f) (field-more line 2 b hb h nb
+        ∙ ap (λ (x : List (List ℕ)). part 2 b line ∷ x) (field-last line (b + 1) c hc (field-room line 2 b hb h nb) z))
 
     module _ (nc : c ≡ length line → ⊥) (hd : d ≡ c + 1 + before 9 (drop (c + 1) line)) where
       pub three-fields : d ≡ length line → NotFour line
@@ -76,24 +78,30 @@ module _ (line : List ℕ) (b c d e : ℕ) (h : 2 ≤ length line) (hb : b ≡ 2
       three-fields z = λ f. ap (fourFields f) (
           field-more line 2 b hb h nb
           ∙ ap (λ (x : List (List ℕ)). part 2 b line ∷ x) (
-          field-more line (b + 1) c hc (field-room line 2 b hb h nb) nc ∙ ap (λ (x : List (List ℕ)). part (b + 1) c line ∷ x) (field-last line (c + 1) d hd (field-room line (b + 1) c hc (field-room line 2 b hb h nb) nc) z)
+          field-more line (b + 1) c hc (field-room line 2 b hb h nb) nc
+          ∙ ap (λ (x : List (List ℕ)). part (b + 1) c line ∷ x) (field-last line (c + 1) d hd (field-room line (b + 1) c hc (field-room line 2 b hb h nb) nc) z)
           )
           )
 
       module _ (nd : d ≡ length line → ⊥) (he : e ≡ d + 1 + before 9 (drop (d + 1) line)) where
-        front : {rest : List (List ℕ)} → fields (drop (d + 1) line) ≡ rest → fields (drop 2 line) ≡ part 2 b line ∷ part (b + 1) c line ∷ part (c + 1) d line ∷ rest
+        front : {rest : List (List ℕ)} → fields (drop (d + 1) line) ≡ rest
+            → fields (drop 2 line) ≡ part 2 b line ∷ part (b + 1) c line ∷ part (c + 1) d line ∷ rest
         front q =
             field-more line 2 b hb h nb
             ∙ ap (λ (x : List (List ℕ)). part 2 b line ∷ x) (
             field-more line (b + 1) c hc (field-room line 2 b hb h nb) nc
-            ∙ ap (λ (x : List (List ℕ)). part (b + 1) c line ∷ x) (field-more line (c + 1) d hd (field-room line (b + 1) c hc (field-room line 2 b hb h nb) nc) nd ∙ ap (λ (x : List (List ℕ)). part (c + 1) d line ∷ x) q)
+            ∙ ap (λ (x : List (List ℕ)). part (b + 1) c line ∷ x)
+            (field-more line (c + 1) d hd (field-room line (b + 1) c hc (field-room line 2 b hb h nb) nc) nd
+            ∙ ap (λ (x : List (List ℕ)). part (c + 1) d line ∷ x) q)
             )
 
         pub more-fields : (e ≡ length line → ⊥) → NotFour line
         unfolding fourFields
         more-fields ne = λ f.
             let q = some-part 9 (drop (e + 1) line) in
-            ap (fourFields f) (front (field-more line (d + 1) e he (field-room line (c + 1) d hd (field-room line (b + 1) c hc (field-room line 2 b hb h nb) nc) nd) ne ∙ ap (λ (x : List (List ℕ)). part (d + 1) e line ∷ x) (q .2)))
+            ap (fourFields f) (front (field-more line (d + 1) e he
+            (field-room line (c + 1) d hd (field-room line (b + 1) c hc (field-room line 2 b hb h nb) nc) nd) ne
+            ∙ ap (λ (x : List (List ℕ)). part (d + 1) e line ∷ x) (q .2)))
 
         pub four-fields : e ≡ length line → Four line b c d
         four-fields z = record {
@@ -131,7 +139,8 @@ module _ {line : List ℕ} {b c d : ℕ} (f : Four line b c d) (most : ℕ) wher
         unfolding fourFields keyOf bounded
         key-not-4 t = rw (f .are, q, r, s, t)
 
-        pub key-told : {number n k w : ℕ} → isNumber (part (d + 1) (length line) line) ≡ true → number ≡ value (part 2 b line) → n ≡ atMostLarge (value (part (b + 1) c line))
+        pub key-told : {number n k w : ℕ} → isNumber (part (d + 1) (length line) line) ≡ true → number ≡ value (part 2 b line)
+            → n ≡ atMostLarge (value (part (b + 1) c line))
             → k ≡ atMostLarge (value (part (c + 1) d line)) → w ≡ atMostLarge (value (part (d + 1) (length line) line))
             → keyLine number n k w ≡ bounded (fourFields (keyOf most) (fields (drop 2 line)))
         unfolding fourFields keyOf bounded
@@ -175,7 +184,8 @@ module _ (line : List ℕ) (b : ℕ) (h : 2 ≤ length line) (hb : b ≡ 2 + bef
       let q = some-part 9 (drop (b + 1) line) in
       sym (ap (λ (x : List (List ℕ)). bounded (oneField rowOf x)) (field-more line 2 b hb h nb ∙ ap (λ (x : List (List ℕ)). part 2 b line ∷ x) (q .2)))
 
-  pub row-told : b ≡ length line → isDigits (part 2 (length line) line) ≡ true → rowLine (part 2 (length line) line) ≡ bounded (oneField rowOf (fields (drop 2 line)))
+  pub row-told : b ≡ length line → isDigits (part 2 (length line) line) ≡ true
+      → rowLine (part 2 (length line) line) ≡ bounded (oneField rowOf (fields (drop 2 line)))
   unfolding oneField rowOf bounded
   row-told z q = rw (field-last line 2 b hb h z, q)
 
@@ -201,9 +211,11 @@ module _ (most : ℕ) (line : List ℕ) (e : ℕ) (he : e ≡ 0 + before 9 (drop
       out x rest f q = rw (q, other-length 80 x f, other-length 75 x f, other-length 83 x f)
 
       by : Dec (e ≡ length line) → noForm ≡ bounded (formOf most (fields line))
-      by (yes z) = out (part 0 (length line) line) [] (λ q. h (omega (arith, z, q, length-take-le (length line - 0) line (omega arith)))) (field-last line 0 e he (omega arith) z)
+      by (yes z) = out (part 0 (length line) line) [] (λ q. h (omega (arith, z, q, length-take-le (length line - 0) line (omega arith))))
+          (field-last line 0 e he (omega arith) z)
       by (no z) =
-          out (part 0 e line) (fields (drop (e + 1) line)) (λ q. h (omega (arith, q, length-take-le (e - 0) line (omega (arith, field-within line 0 e he (omega arith)))))) (field-more line 0 e he (omega arith) z)
+          out (part 0 e line) (fields (drop (e + 1) line)) (λ q. h
+          (omega (arith, q, length-take-le (e - 0) line (omega (arith, field-within line 0 e he (omega arith)))))) (field-more line 0 e he (omega arith) z)
 
   module _ (one : e ≡ 1) where
     pub form-alone : length line ≡ 1 → noForm ≡ bounded (formOf most (fields line))
@@ -231,7 +243,8 @@ module _ (most : ℕ) (line : List ℕ) (e : ℕ) (he : e ≡ 0 + before 9 (drop
           let q : e - 0 ≡ 1 = omega arith in
           let t : e + 1 ≡ 2 = omega arith in
           field-more line 0 e he (omega arith) (λ z. h (omega arith))
-          ∙ ap (λ (j : ℕ). take j line ∷ fields (drop (e + 1) line)) q ∙ ap (λ (x : List ℕ). x ∷ fields (drop (e + 1) line)) (front-letter line (omega (arith, within)))
+          ∙ ap (λ (j : ℕ). take j line ∷ fields (drop (e + 1) line)) q
+          ∙ ap (λ (x : List ℕ). x ∷ fields (drop (e + 1) line)) (front-letter line (omega (arith, within)))
           ∙ ap (λ (j : ℕ). (getD line 0 0 ∷ []) ∷ fields (drop j line)) t
 
       pub long : 2 ≤ length line

@@ -48,7 +48,8 @@ module _ (l : List ℕ) (a : ℕ) (x : List ℕ) where
 abbrev pub Wrote : List ℕ → ℕ → List ℕ → ℕ → List ℕ → Type 0
 Wrote l a x r m = (r ≡ a + length x) × (m ≡ putWords a l x)
 
-pub wrote-then : (l : List ℕ) (a : ℕ) (x y : List ℕ) {b r : ℕ} {m k : List ℕ} → a + (length x + length y) ≤ length l → Wrote l a x b m → Wrote m b y r k → Wrote l a (x ++ y) r k
+pub wrote-then : (l : List ℕ) (a : ℕ) (x y : List ℕ) {b r : ℕ} {m k : List ℕ} → a + (length x + length y) ≤ length l → Wrote l a x b m → Wrote m b y r k
+    → Wrote l a (x ++ y) r k
 wrote-then l a x y h f g = (omega (arith, f .0, g .0, length-append x y), put-then l a x _ y h (f .0) (f .1) (g .1))
 
 pub wrote-as : (l : List ℕ) (a : ℕ) {m x y : List ℕ} {r : ℕ} → x ≡ y → Wrote l a x r m → Wrote l a y r m
@@ -72,7 +73,8 @@ enough (suc f) zero n h k = absurd (not-suc-le-zero k)
 enough (suc f) (suc g) n h k = by (decLt n 10) (λ l. enough f g (n / 10) (omega arith) (omega arith))
   where
     by : Dec (n < 10) → (10 ≤ n → decimalTo f (n / 10) ≡ decimalTo g (n / 10))
-        → cond (ltb n 10) ((48 + n) ∷ []) (decimalTo f (n / 10) ++ ((48 + n % 10) ∷ [])) ≡ cond (ltb n 10) ((48 + n) ∷ []) (decimalTo g (n / 10) ++ ((48 + n % 10) ∷ []))
+        → cond (ltb n 10) ((48 + n) ∷ []) (decimalTo f (n / 10) ++ ((48 + n % 10) ∷ [])) ≡ cond (ltb n 10) ((48 + n) ∷ [])
+        (decimalTo g (n / 10) ++ ((48 + n % 10) ∷ []))
     by (yes l) e = rw (lt-ltb n 10 l)
     by (no l) e = ap (λ (u : List ℕ). cond (ltb n 10) ((48 + n) ∷ []) (u ++ ((48 + n % 10) ∷ []))) (e (omega arith))
 
@@ -121,7 +123,8 @@ pair-length key formula =
     omega (arith, length-append (decimal key) (9 ∷ decimal formula ++ (9 ∷ [])), length-append (decimal formula) (9 ∷ []))
 
 module _ (l : List ℕ) (key formula : ℕ) (h : 42 ≤ length l) (hk : length (decimal key) ≤ 20) (hf : length (decimal formula) ≤ 20) where
-  pub pair-wrote : {a b c r : ℕ} {m n o p : List ℕ} → Wrote l 0 (decimal key) a m → Wrote m a (9 ∷ []) b n → Wrote n b (decimal formula) c o → Wrote o c (9 ∷ []) r p
+  pub pair-wrote : {a b c r : ℕ} {m n o p : List ℕ} → Wrote l 0 (decimal key) a m → Wrote m a (9 ∷ []) b n → Wrote n b (decimal formula) c o
+      → Wrote o c (9 ∷ []) r p
       → ((r ≡ length (pair key formula)) × (r ≤ 42)) × (p ≡ putWords 0 l (pair key formula))
   unfolding pair
   pair-wrote f g i j =
@@ -134,7 +137,8 @@ module _ (l : List ℕ) (key formula : ℕ) (h : 42 ≤ length l) (hk : length (
       let z = wrote-front l (pair key formula) (wrote-as l 0 e w) in
       ((z .0, omega (arith, z .0, pair-length key formula)), z .1)
 
-pub refused-wrote : (l : List ℕ) (at refusal : ℕ) → at + 24 ≤ length l → length (decimal refusal) ≤ 20 → {a b r : ℕ} {m n p : List ℕ} → Wrote l at (45 ∷ 9 ∷ 114 ∷ []) a m
+pub refused-wrote : (l : List ℕ) (at refusal : ℕ) → at + 24 ≤ length l → length (decimal refusal) ≤ 20 → {a b r : ℕ} {m n p : List ℕ}
+    → Wrote l at (45 ∷ 9 ∷ 114 ∷ []) a m
     → Wrote m a (decimal refusal) b n → Wrote n b (10 ∷ []) r p → Wrote l at (refusedEnd refusal) r p
 unfolding refusedEnd refusedWord
 refused-wrote l at refusal h hr f g i =
@@ -147,13 +151,16 @@ unfolding refusedEnd refusedWord
 refused-length refusal = omega (arith, length-append (decimal refusal) (10 ∷ []))
 
 module _ (l : List ℕ) (h : 96 ≤ length l) where
-  pub line-wrote : (refusal : ℕ) → length (decimal refusal) ≤ 20 → {a r : ℕ} {m p : List ℕ} → Wrote l 0 (45 ∷ 9 ∷ 45 ∷ 9 ∷ []) a m → Wrote m a (refusedEnd refusal) r p
+  pub line-wrote : (refusal : ℕ) → length (decimal refusal) ≤ 20 → {a r : ℕ} {m p : List ℕ} → Wrote l 0 (45 ∷ 9 ∷ 45 ∷ 9 ∷ []) a m
+      → Wrote m a (refusedEnd refusal) r p
       → (r ≡ length (lineRefused refusal)) × (p ≡ putWords 0 l (lineRefused refusal))
   unfolding lineRefused printed refusedEnd
-  line-wrote refusal hr f g = wrote-front l (lineRefused refusal) (wrote-then l 0 (45 ∷ 9 ∷ 45 ∷ 9 ∷ []) (refusedEnd refusal) (omega (arith, refused-length refusal)) f g)
+  line-wrote refusal hr f g = wrote-front l (lineRefused refusal)
+      (wrote-then l 0 (45 ∷ 9 ∷ 45 ∷ 9 ∷ []) (refusedEnd refusal) (omega (arith, refused-length refusal)) f g)
 
   module _ (key formula : ℕ) where
-    pub sign-wrote : (refusal : ℕ) → length (decimal refusal) ≤ 20 → {a r : ℕ} {m p : List ℕ} → ((a ≡ length (pair key formula)) × (a ≤ 42)) × (m ≡ putWords 0 l (pair key formula))
+    pub sign-wrote : (refusal : ℕ) → length (decimal refusal) ≤ 20 → {a r : ℕ} {m p : List ℕ} → ((a ≡ length (pair key formula)) × (a ≤ 42))
+        × (m ≡ putWords 0 l (pair key formula))
         → Wrote m a (refusedEnd refusal) r p → (r ≡ length (signRefused key formula refusal)) × (p ≡ putWords 0 l (signRefused key formula refusal))
     unfolding signRefused printed refusedEnd
     sign-wrote refusal hr f g =
@@ -161,7 +168,8 @@ module _ (l : List ℕ) (h : 96 ≤ length l) where
         wrote-then l 0 (pair key formula) (refusedEnd refusal) (omega (arith, f .0, refused-length refusal)) (omega (arith, f .0), f .1) g
         ))
 
-    pub verdict-wrote : (weight : ℕ) (t : Bool) → length (decimal weight) ≤ 20 → {a b c r : ℕ} {m n o p : List ℕ} → ((a ≡ length (pair key formula)) × (a ≤ 42)) × (m ≡ putWords 0 l (pair key formula))
+    pub verdict-wrote : (weight : ℕ) (t : Bool) → length (decimal weight) ≤ 20 → {a b c r : ℕ} {m n o p : List ℕ}
+        → ((a ≡ length (pair key formula)) × (a ≤ 42)) × (m ≡ putWords 0 l (pair key formula))
         → Wrote m a (decimal weight) b n → Wrote n b (9 ∷ []) c o → Wrote o c (yesNo t ++ (10 ∷ [])) r p
         → (r ≡ length (verdictAnswer key formula weight t)) × (p ≡ putWords 0 l (verdictAnswer key formula weight t))
     unfolding verdictAnswer printed

@@ -22,7 +22,8 @@ refusedWord refusal = 114 ∷ decimal refusal
 
 -- the header: "key", "formula", "weight", "verdict"
 unfoldable pub header : List ℕ
-header = printed (107 ∷ 101 ∷ 121 ∷ []) (102 ∷ 111 ∷ 114 ∷ 109 ∷ 117 ∷ 108 ∷ 97 ∷ []) (119 ∷ 101 ∷ 105 ∷ 103 ∷ 104 ∷ 116 ∷ []) (118 ∷ 101 ∷ 114 ∷ 100 ∷ 105 ∷ 99 ∷ 116 ∷ [])
+header = printed (107 ∷ 101 ∷ 121 ∷ []) (102 ∷ 111 ∷ 114 ∷ 109 ∷ 117 ∷ 108 ∷ 97 ∷ []) (119 ∷ 101 ∷ 105 ∷ 103 ∷ 104 ∷ 116 ∷ [])
+    (118 ∷ 101 ∷ 114 ∷ 100 ∷ 105 ∷ 99 ∷ 116 ∷ [])
 
 -- the answer to an S line that is not refused
 unfoldable pub verdictAnswer : ℕ → ℕ → ℕ → Bool → List ℕ

@@ -63,7 +63,8 @@ abbrev pub Placed : List ℕ → Form → Type 0
 Placed line Neither = Unit {0}
 Placed line (Key number n k w) = Unit {0}
 Placed line Row = (2 ≤ length line) × (isDigits (part 2 (length line) line) ≡ true)
-Placed line (Sign number formula c d) = (c < d) × (d < length line) × (isDigits (part (c + 1) d line) ≡ true) × (isDigits (part (d + 1) (length line) line) ≡ true)
+Placed line (Sign number formula c d) = (c < d) × (d < length line) × (isDigits (part (c + 1) d line) ≡ true)
+    × (isDigits (part (d + 1) (length line) line) ≡ true)
 
 -- a line whose sizes, where too large for any range, count as `large`
 unfoldable pub bounded : Line → Line

@@ -56,7 +56,8 @@ module _ (m : ℕ) (digits : List ℕ) where
   unfolding offeredOnes offeredTwos
   offered-none f = (rw (ne-eqb (length digits) m f), rw (ne-eqb (length digits) m f))
 
-  pub offered : {o t : List ℕ} (w : ℕ) → length digits ≡ m → w ≡ wordsFor (length digits) → w ≤ 16 → Reads o t 16 (digitRow digits) → ((j : ℕ) → getD o j 0 < 2 ^ 64) → ((j : ℕ) → getD t j 0 < 2 ^ 64)
+  pub offered : {o t : List ℕ} (w : ℕ) → length digits ≡ m → w ≡ wordsFor (length digits) → w ≤ 16 → Reads o t 16 (digitRow digits)
+      → ((j : ℕ) → getD o j 0 < 2 ^ 64) → ((j : ℕ) → getD t j 0 < 2 ^ 64)
       → (take w o ≡ offeredOnes m digits) × (take w t ≡ offeredTwos m digits)
   unfolding offeredOnes offeredTwos onesOf twosOf
   offered {o} {t} w e q l r ho ht =
@@ -99,7 +100,8 @@ module _ (h : Held) (ones twos : List ℕ) {p q : List ℕ} (ep : p ≡ keyPart 
         (λ i. holding (eg i) (eo i ++ u) (et i ++ v))
         ∙ (λ i. let c = storeOf h (ep i) (eq i) (ex i) (ey i) in holding (storeHeld c) (storeOnes c ++ eu i) (storeTwos c ++ ev i))
 
-  pub sign-answer : (number : ℕ) (y s : List ℕ) {a b c d e f : List ℕ} → a ≡ offeredOnes (rowTrits h) y → b ≡ offeredTwos (rowTrits h) y → c ≡ offeredOnes (h .k) s → d ≡ offeredTwos (h .k) s
+  pub sign-answer : (number : ℕ) (y s : List ℕ) {a b c d e f : List ℕ} → a ≡ offeredOnes (rowTrits h) y → b ≡ offeredTwos (rowTrits h) y
+      → c ≡ offeredOnes (h .k) s → d ≡ offeredTwos (h .k) s
       → e ≡ zeroWords (asked h (rowWords h)) → f ≡ zeroWords (asked h (rowWords h))
       → checkAnswer (checkOf h number p q a b c d e f) ≡ signAnswer (holding h ones twos) number y s
   unfolding signAnswer

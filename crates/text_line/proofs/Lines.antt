@@ -76,7 +76,10 @@ above-same v x h = by (decLt 65535 v)
 module _ (number n k w : ℕ) where
   fit-same : n ≤ 256 → numbersFit number n (atMostLarge k) (atMostLarge w) ≡ numbersFit number n k w
   unfolding numbersFit
-  fit-same l = λ i. leb number mostKeyNumber && (leb 4 n && (leb n 16384 && (eqb (n % 2) 0 && (above-same k 2 (omega arith) i && (below-same k (n - 2) (omega arith) i && (above-same w 1 (omega arith) i && below-same w n (omega arith) i))))))
+  fit-same l =
+      λ i. leb number mostKeyNumber && (leb 4 n && (leb n 16384 &&
+      (eqb (n % 2) 0 && (above-same k 2 (omega arith) i && (below-same k (n - 2) (omega arith) i &&
+      (above-same w 1 (omega arith) i && below-same w n (omega arith) i))))))
 
   pub refusal-same : keyRefusal number (atMostLarge n) (atMostLarge k) (atMostLarge w) ≡ keyRefusal number n k w
   unfolding keyRefusal beginRefusal
@@ -113,7 +116,8 @@ module _ (h : Held) (number n k w : ℕ) where
   held-same = by (ℕ-discrete (keyRefusal number n k w) 0)
     where
       by : Dec (keyRefusal number n k w ≡ 0) → keyHeld h number (atMostLarge n) (atMostLarge k) (atMostLarge w) ≡ keyHeld h number n k w
-      by (yes z) = let s = small number n k w z in λ i. keyHeld h number (sym (value-small n (s .0)) i) (sym (value-small k (s .1)) i) (sym (value-small w (s .2)) i)
+      by (yes z) =
+          let s = small number n k w z in λ i. keyHeld h number (sym (value-small n (s .0)) i) (sym (value-small k (s .1)) i) (sym (value-small w (s .2)) i)
       by (no f) = key-refused h number _ _ _ (λ z. f (sym (refusal-same number n k w) ∙ z)) ∙ sym (key-refused h number n k w f)
 
 -- ---- a line as it is read, with sizes that count as large

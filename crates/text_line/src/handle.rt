@@ -3,7 +3,8 @@ ghost use mathlib.Core.Path.{_≡_};
 ghost use Prim.Native.Nat.{_≤_};
 ghost use lib.ListN.{length, take};
 ghost use Rattle.trits.specs.Rows.{putWords};
-ghost use Rattle.text_line.specs.Answer.{keyRefusal, keyHeld, digitsRefusal, rowKept, signAnswer, signPrints, refusalPrints, linePrints, lineKept, readLine, holding};
+ghost use Rattle.text_line.specs.Answer.{keyRefusal, keyHeld, digitsRefusal, rowKept, signAnswer, signPrints, refusalPrints, linePrints, lineKept};
+ghost use Rattle.text_line.specs.Answer.{readLine, holding};
 ghost use Rattle.text_line.specs.Steps.{ForStoreDigits, ForCheckDigits, ForHandleRow, ForHandleSign, ForHandle, ForHandleFront};
 use super::offer::key_words;
 use super::offer::offer;
@@ -49,7 +50,8 @@ fn begin_key(held: Held, number: u64, n: u64, k: u64, w: u64) -> Changed
 fn store_digits(held: Held, ones: &mut [u64], twos: &mut [u64], digits: &[u8]) -> Changed
     requires { ⌜ ForStoreDigits (now ones) (now twos) (now digits) ⌝ }
     ensures { λ r. ⌜ r .refusal ≡ digitsRefusal (holding held (now (ones .entry)) (now (twos .entry))) (now (digits .entry)) ⌝ }
-    ensures { λ r. ⌜ holding (r .held) (now (ones .exit)) (now (twos .exit)) ≡ rowKept (holding held (now (ones .entry)) (now (twos .entry))) (now (digits .entry)) ⌝ }
+    ensures { λ r. ⌜ holding (r .held) (now (ones .exit)) (now (twos .exit)) ≡ rowKept (holding held (now (ones .entry)) (now (twos .entry)))
+        (now (digits .entry)) ⌝ }
 {
     let mut row_ones = [0u64; 16];
     let mut row_twos = [0u64; 16];
@@ -148,9 +150,11 @@ fn handle_row(
     out: &mut [u8],
 ) -> Handled
     requires { ⌜ ForHandleRow (now digits) (now ones) (now twos) (now out) ⌝ }
-    ensures { λ r. ⌜ holding (r .held) (now (ones .exit)) (now (twos .exit)) ≡ rowKept (holding held (now (ones .entry)) (now (twos .entry))) (now (digits .entry)) ⌝ }
+    ensures { λ r. ⌜ holding (r .held) (now (ones .exit)) (now (twos .exit)) ≡ rowKept (holding held (now (ones .entry)) (now (twos .entry)))
+        (now (digits .entry)) ⌝ }
     ensures { λ r. ⌜ r .count ≡ length (refusalPrints (digitsRefusal (holding held (now (ones .entry)) (now (twos .entry))) (now (digits .entry)))) ⌝ }
-    ensures { λ _. ⌜ now (out .exit) ≡ putWords 0 (now (out .entry)) (refusalPrints (digitsRefusal (holding held (now (ones .entry)) (now (twos .entry))) (now (digits .entry)))) ⌝ }
+    ensures { λ _. ⌜ now (out .exit) ≡ putWords 0 (now (out .entry))
+        (refusalPrints (digitsRefusal (holding held (now (ones .entry)) (now (twos .entry))) (now (digits .entry)))) ⌝ }
 {
     let changed = store_digits(held, ones, twos, digits);
     let after = changed.held;
@@ -172,8 +176,10 @@ fn handle_sign(
     out: &mut [u8],
 ) -> usize
     requires { ⌜ ForHandleSign (now y) (now s) (now ones) (now twos) (now out) ⌝ }
-    ensures { λ r. ⌜ r ≡ length (signPrints number formula (signAnswer (holding held (now (ones .entry)) (now (twos .entry))) number (now (y .entry)) (now (s .entry)))) ⌝ }
-    ensures { λ _. ⌜ now (out .exit) ≡ putWords 0 (now (out .entry)) (signPrints number formula (signAnswer (holding held (now (ones .entry)) (now (twos .entry))) number (now (y .entry)) (now (s .entry)))) ⌝ }
+    ensures { λ r. ⌜ r ≡ length (signPrints number formula (signAnswer (holding held (now (ones .entry)) (now (twos .entry))) number (now (y .entry))
+        (now (s .entry)))) ⌝ }
+    ensures { λ _. ⌜ now (out .exit) ≡ putWords 0 (now (out .entry))
+        (signPrints number formula (signAnswer (holding held (now (ones .entry)) (now (twos .entry))) number (now (y .entry)) (now (s .entry)))) ⌝ }
 {
     let checked = check_digits(held, number, ones, twos, y, s);
     print_sign(number, formula, checked, out)
@@ -188,9 +194,11 @@ pub fn handle(
     out: &mut [u8],
 ) -> Handled
     requires { ⌜ ForHandle (now line) (now ones) (now twos) (now out) ⌝ }
-    ensures { λ r. ⌜ holding (r .held) (now (ones .exit)) (now (twos .exit)) ≡ lineKept (holding held (now (ones .entry)) (now (twos .entry))) (readLine (now (line .entry))) ⌝ }
+    ensures { λ r. ⌜ holding (r .held) (now (ones .exit)) (now (twos .exit)) ≡ lineKept (holding held (now (ones .entry)) (now (twos .entry)))
+        (readLine (now (line .entry))) ⌝ }
     ensures { λ r. ⌜ r .count ≡ length (linePrints (holding held (now (ones .entry)) (now (twos .entry))) (readLine (now (line .entry)))) ⌝ }
-    ensures { λ _. ⌜ now (out .exit) ≡ putWords 0 (now (out .entry)) (linePrints (holding held (now (ones .entry)) (now (twos .entry))) (readLine (now (line .entry)))) ⌝ }
+    ensures { λ _. ⌜ now (out .exit) ≡ putWords 0 (now (out .entry))
+        (linePrints (holding held (now (ones .entry)) (now (twos .entry))) (readLine (now (line .entry)))) ⌝ }
 {
     let form = text::forms::read_line(line, held_key::state::MOST_KEY_NUMBER);
     match form {
@@ -230,9 +238,11 @@ pub fn handle_front(
     out: &mut [u8],
 ) -> Handled
     requires { ⌜ ForHandleFront (now buffer) len (now ones) (now twos) (now out) ⌝ }
-    ensures { λ r. ⌜ holding (r .held) (now (ones .exit)) (now (twos .exit)) ≡ lineKept (holding held (now (ones .entry)) (now (twos .entry))) (readLine (take len (now (buffer .entry)))) ⌝ }
+    ensures { λ r. ⌜ holding (r .held) (now (ones .exit)) (now (twos .exit)) ≡ lineKept (holding held (now (ones .entry)) (now (twos .entry)))
+        (readLine (take len (now (buffer .entry)))) ⌝ }
     ensures { λ r. ⌜ r .count ≡ length (linePrints (holding held (now (ones .entry)) (now (twos .entry))) (readLine (take len (now (buffer .entry))))) ⌝ }
-    ensures { λ _. ⌜ now (out .exit) ≡ putWords 0 (now (out .entry)) (linePrints (holding held (now (ones .entry)) (now (twos .entry))) (readLine (take len (now (buffer .entry))))) ⌝ }
+    ensures { λ _. ⌜ now (out .exit) ≡ putWords 0 (now (out .entry))
+        (linePrints (holding held (now (ones .entry)) (now (twos .entry))) (readLine (take len (now (buffer .entry))))) ⌝ }
 {
     handle(&buffer[0..len], held, ones, twos, out)
 }

@@ -18,7 +18,8 @@ module _ (m : Machine) where
   unfolding gathered
   gathered-short l = rw (le-ltb 1024 (m .len) l)
 
-  pub ended-as : {f : Line} {k : Holding} → f ≡ gathered m → k ≡ lineKept (m .kept) f → _≡_ {A = Machine} (record { len = 0; line = m .line; kept = k }) (ended m)
+  pub ended-as : {f : Line} {k : Holding} → f ≡ gathered m → k ≡ lineKept (m .kept) f
+      → _≡_ {A = Machine} (record { len = 0; line = m .line; kept = k }) (ended m)
   unfolding ended
   ended-as e q = λ i. record { len = 0; line = m .line; kept = (q ∙ ap (lineKept (m .kept)) e) i }
 

@@ -52,7 +52,8 @@ open-last p o = o [] ∙ ap (λ (x : List ℕ). x ∷ []) (append-nil p)
 open-end : (p t : List ℕ) (b : ℕ) → b ≡ 10 → Open p → split 10 (p ++ (b ∷ t)) ≡ p ∷ split 10 t
 unfolding split
 open-end p t b e o =
-    o (b ∷ t) ∙ ap (λ (x : Bool). joined p (cond x ([] ∷ split 10 t) (onto b (split 10 t)))) (eq-eqb b 10 e) ∙ ap (λ (x : List ℕ). x ∷ split 10 t) (append-nil p)
+    o (b ∷ t) ∙ ap (λ (x : Bool). joined p (cond x ([] ∷ split 10 t) (onto b (split 10 t)))) (eq-eqb b 10 e)
+    ∙ ap (λ (x : List ℕ). x ∷ split 10 t) (append-nil p)
 
 -- ---- the buffer has the line so far, or as much of it as tells that it is too long
 
@@ -93,7 +94,8 @@ module _ {m : Machine} {p : List ℕ} (g : Gathers m p) where
           let e = step-more m b f (omega (arith, w .0)) in
           let room : m .len < length (m .line) = omega (arith, w .0, g .size) in
           let t : take (m .len + 1) (set (m .line) (m .len) b) ≡ p ++ (b ∷ []) =
-          ap (λ (j : ℕ). take j (set (m .line) (m .len) b)) (add-one (m .len)) ∙ take-suc-set (m .line) (m .len) b room ∙ ap (λ (x : List ℕ). x ++ (b ∷ [])) (w .1) in
+          ap (λ (j : ℕ). take j (set (m .line) (m .len) b)) (add-one (m .len)) ∙ take-suc-set (m .line) (m .len) b room
+          ∙ ap (λ (x : List ℕ). x ++ (b ∷ [])) (w .1) in
           let g′ : Gathers (record { len = m .len + 1; line = set (m .line) (m .len) b; kept = m .kept }) (p ++ (b ∷ [])) = record {
             size = length-set (m .line) (m .len) b ∙ g .size;
             within = λ h. (omega (arith, w .0, more), t);
@@ -116,9 +118,12 @@ module _ {m : Machine} {p : List ℕ} (g : Gathers m p) where
   gathers-last = by (ℕ-discrete (length p) 0)
     where
       by : Dec (length p ≡ 0) → endPrints m ≡ answers (m .kept) (cond (eqb (length p) 0) [] (p ∷ []))
-      by (yes z) = let w = g .within (omega arith) in sym (end-none m (w .0 ∙ z) .1) ∙ sym (ap (λ (t : Bool). answers (m .kept) (cond t [] (p ∷ []))) (eq-eqb (length p) 0 z))
+      by (yes z) =
+          let w = g .within (omega arith) in
+          sym (end-none m (w .0 ∙ z) .1) ∙ sym (ap (λ (t : Bool). answers (m .kept) (cond t [] (p ∷ []))) (eq-eqb (length p) 0 z))
       by (no f) =
-          sym (end-some m (λ z. f (size (decLt 1025 (length p)) z)) .1) ∙ ap (linePrints (m .kept)) says-line ∙ sym (append-nil (linePrints (m .kept) (readLine p)))
+          sym (end-some m (λ z. f (size (decLt 1025 (length p)) z)) .1) ∙ ap (linePrints (m .kept)) says-line
+          ∙ sym (append-nil (linePrints (m .kept) (readLine p)))
           ∙ sym (ap (λ (t : Bool). answers (m .kept) (cond t [] (p ∷ []))) (ne-eqb (length p) 0 f))
         where
           size : Dec (1025 < length p) → m .len ≡ 0 → length p ≡ 0
@@ -128,7 +133,8 @@ module _ {m : Machine} {p : List ℕ} (g : Gathers m p) where
 -- ---- the whole text
 
 -- a line, and then the others
-next-line : (kept : Holding) (p t : List ℕ) → answers kept (withoutEmptyEnd (p ∷ split 10 t)) ≡ linePrints kept (readLine p) ++ answers (lineKept kept (readLine p)) (withoutEmptyEnd (split 10 t))
+next-line : (kept : Holding) (p t : List ℕ)
+    → answers kept (withoutEmptyEnd (p ∷ split 10 t)) ≡ linePrints kept (readLine p) ++ answers (lineKept kept (readLine p)) (withoutEmptyEnd (split 10 t))
 unfolding withoutEmptyEnd answers
 next-line kept p t =
     let s = some-part 10 t in
@@ -142,7 +148,8 @@ fed-from (b ∷ text) m p g o = by (ℕ-discrete b 10) (λ q. fed-from text (end
   where
     by : Dec (b ≡ 10)
         → (Gathers (ended m) [] → fed (ended m) text ≡ answers (ended m .kept) (withoutEmptyEnd (split 10 text)))
-        → (Gathers (stepped b m) (p ++ (b ∷ [])) → Open (p ++ (b ∷ [])) → fed (stepped b m) text ≡ answers (stepped b m .kept) (withoutEmptyEnd (split 10 (p ++ (b ∷ []) ++ text))))
+        → (Gathers (stepped b m) (p ++ (b ∷ [])) → Open (p ++ (b ∷ []))
+        → fed (stepped b m) text ≡ answers (stepped b m .kept) (withoutEmptyEnd (split 10 (p ++ (b ∷ []) ++ text))))
         → stepPrints b m ++ fed (stepped b m) text ≡ answers (m .kept) (withoutEmptyEnd (split 10 (p ++ (b ∷ text))))
     by (yes e) q r =
         let h = step-end m b e in
@@ -158,7 +165,8 @@ fed-from (b ∷ text) m p g o = by (ℕ-discrete b 10) (λ q. fed-from text (end
         ∙ ap₂ (λ (k : Holding) (x : List ℕ). answers k (withoutEmptyEnd (split 10 x))) (h .1) (append-assoc p (b ∷ []) text)
 
 -- a text fed byte by byte from no line on, whatever is held and whatever the buffer has, prints what its lines print
-pub fed-lines : (kept : Holding) (line text : List ℕ) → length line ≡ 1025 → fed (record { len = 0; line = line; kept = kept }) text ≡ answers kept (linesOf text)
+pub fed-lines : (kept : Holding) (line text : List ℕ) → length line ≡ 1025
+    → fed (record { len = 0; line = line; kept = kept }) text ≡ answers kept (linesOf text)
 unfolding linesOf
 fed-lines kept line text s = fed-from text (record { len = 0; line = line; kept = kept }) [] (gathers-none _ s refl) open-none
 

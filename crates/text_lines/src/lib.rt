@@ -49,9 +49,13 @@ fn end_line(
     twos: &mut [u64; 382],
     out: &mut [u8; 96],
 ) -> Next
-    ensures { λ r. ⌜ machine (r .state) (now (line .entry)) (now (ones .exit)) (now (twos .exit)) ≡ ended (machine state (now (line .entry)) (now (ones .entry)) (now (twos .entry))) ⌝ }
-    ensures { λ r. ⌜ r .count ≡ length (linePrints (machine state (now (line .entry)) (now (ones .entry)) (now (twos .entry)) .kept) (gathered (machine state (now (line .entry)) (now (ones .entry)) (now (twos .entry))))) ⌝ }
-    ensures { λ _. ⌜ now (out .exit) ≡ putWords 0 (now (out .entry)) (linePrints (machine state (now (line .entry)) (now (ones .entry)) (now (twos .entry)) .kept) (gathered (machine state (now (line .entry)) (now (ones .entry)) (now (twos .entry))))) ⌝ }
+    ensures { λ r. ⌜ machine (r .state) (now (line .entry)) (now (ones .exit)) (now (twos .exit)) ≡ ended
+        (machine state (now (line .entry)) (now (ones .entry)) (now (twos .entry))) ⌝ }
+    ensures { λ r. ⌜ r .count ≡ length (linePrints (machine state (now (line .entry)) (now (ones .entry)) (now (twos .entry)) .kept)
+        (gathered (machine state (now (line .entry)) (now (ones .entry)) (now (twos .entry))))) ⌝ }
+    ensures { λ _. ⌜ now (out .exit) ≡ putWords 0 (now (out .entry))
+        (linePrints (machine state (now (line .entry)) (now (ones .entry)) (now (twos .entry)) .kept)
+        (gathered (machine state (now (line .entry)) (now (ones .entry)) (now (twos .entry))))) ⌝ }
 {
     let len = state.len;
     let held = state.held;
@@ -84,9 +88,11 @@ pub fn step(
     twos: &mut [u64; 382],
     out: &mut [u8; 96],
 ) -> Next
-    ensures { λ r. ⌜ machine (r .state) (now (line .exit)) (now (ones .exit)) (now (twos .exit)) ≡ stepped byte (machine state (now (line .entry)) (now (ones .entry)) (now (twos .entry))) ⌝ }
+    ensures { λ r. ⌜ machine (r .state) (now (line .exit)) (now (ones .exit)) (now (twos .exit)) ≡ stepped byte
+        (machine state (now (line .entry)) (now (ones .entry)) (now (twos .entry))) ⌝ }
     ensures { λ r. ⌜ r .count ≡ length (stepPrints byte (machine state (now (line .entry)) (now (ones .entry)) (now (twos .entry)))) ⌝ }
-    ensures { λ _. ⌜ now (out .exit) ≡ putWords 0 (now (out .entry)) (stepPrints byte (machine state (now (line .entry)) (now (ones .entry)) (now (twos .entry)))) ⌝ }
+    ensures { λ _. ⌜ now (out .exit) ≡ putWords 0 (now (out .entry))
+        (stepPrints byte (machine state (now (line .entry)) (now (ones .entry)) (now (twos .entry)))) ⌝ }
 {
     if byte == 10 {
         return end_line(state, line, ones, twos, out);
@@ -118,7 +124,8 @@ pub fn end(
     twos: &mut [u64; 382],
     out: &mut [u8; 96],
 ) -> Next
-    ensures { λ r. ⌜ machine (r .state) (now (line .entry)) (now (ones .exit)) (now (twos .exit)) ≡ finished (machine state (now (line .entry)) (now (ones .entry)) (now (twos .entry))) ⌝ }
+    ensures { λ r. ⌜ machine (r .state) (now (line .entry)) (now (ones .exit)) (now (twos .exit)) ≡ finished
+        (machine state (now (line .entry)) (now (ones .entry)) (now (twos .entry))) ⌝ }
     ensures { λ r. ⌜ r .count ≡ length (endPrints (machine state (now (line .entry)) (now (ones .entry)) (now (twos .entry)))) ⌝ }
     ensures { λ _. ⌜ now (out .exit) ≡ putWords 0 (now (out .entry)) (endPrints (machine state (now (line .entry)) (now (ones .entry)) (now (twos .entry)))) ⌝ }
 {

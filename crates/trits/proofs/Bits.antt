@@ -56,7 +56,8 @@ pub bits-eq : (k x y : ℕ) → x < 2 ^ k → y < 2 ^ k → ((i : ℕ) → i < k
 bits-eq zero x y hx hy h = lt-one hx ∙ sym (lt-one hy)
 bits-eq (suc k) x y hx hy h =
     let low : x % 2 ≡ y % 2 = sym (bit-first x) ∙ h 0 (zero-lt-suc k) ∙ bit-first y in
-    let high : x / 2 ≡ y / 2 = bits-eq k (x / 2) (y / 2) (half-lt k x hx) (half-lt k y hy) (λ i l. sym (bit-next i x) ∙ h (suc i) (suc-le-suc l) ∙ bit-next i y) in
+    let high : x / 2 ≡ y / 2 = bits-eq k (x / 2) (y / 2) (half-lt k x hx) (half-lt k y hy)
+    (λ i l. sym (bit-next i x) ∙ h (suc i) (suc-le-suc l) ∙ bit-next i y) in
     omega arith
 
 -- ---- `fromBits`

@@ -58,7 +58,8 @@ either (suc zero) (suc (suc b)) p q = absurd (omega arith)
 either (suc (suc a)) b p q = absurd (omega arith)
 
 -- one more word: the set bits of a word whose bits are f's at the word's places
-pub count-word : (f : ℕ → ℕ) (j w s : ℕ) → w < 2 ^ 64 → ((b : ℕ) → b < 64 → bit b w ≡ f (64 * j + b)) → s ≡ sumTo f (64 * j) → s + ones w ≡ sumTo f (64 * (j + 1))
+pub count-word : (f : ℕ → ℕ) (j w s : ℕ) → w < 2 ^ 64 → ((b : ℕ) → b < 64 → bit b w ≡ f (64 * j + b)) → s ≡ sumTo f (64 * j)
+    → s + ones w ≡ sumTo f (64 * (j + 1))
 count-word f j w s h e p =
     ap₂ (λ (x y : ℕ). x + y) p (ones-sum 64 w h ∙ sum-cong 64 _ _ e) ∙ sym (sum-add (64 * j) 64 f) ∙ ap (sumTo f) (omega arith)
 

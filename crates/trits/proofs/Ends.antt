@@ -52,7 +52,8 @@ upto-put v i = fun-ext (λ j. by j (ℕ-discrete j i) (decLt j i))
     by : (j : ℕ) → Dec (j ≡ i) → Dec (j < i) → putV (upTo i v) i (v i) j ≡ upTo (i + 1) v j
     by j (yes e) d = ap (λ (t : Bool). cond t (v i) (upTo i v j)) (eq-eqb j i e) ∙ ap v (sym e) ∙ sym (upto-in v (i + 1) j (omega arith))
     by j (no f) (yes l) = ap (λ (t : Bool). cond t (v i) (upTo i v j)) (ne-eqb j i f) ∙ upto-in v i j l ∙ sym (upto-in v (i + 1) j (omega arith))
-    by j (no f) (no l) = ap (λ (t : Bool). cond t (v i) (upTo i v j)) (ne-eqb j i f) ∙ upto-out v i j (omega arith) ∙ sym (upto-out v (i + 1) j (omega (arith, f)))
+    by j (no f) (no l) = ap (λ (t : Bool). cond t (v i) (upTo i v j)) (ne-eqb j i f) ∙ upto-out v i j (omega arith)
+        ∙ sym (upto-out v (i + 1) j (omega (arith, f)))
 
 -- ---- planes of 0
 

@@ -58,7 +58,8 @@ copy-turn src dst i h k e =
     ap (λ (x : List ℕ). set x i (getD src i 0)) e ∙ store src dst i h k ∙ ap (λ (n : ℕ). take n src ++ drop n dst) (sym (add-one i))
 
 pub copy-all : (src dst : List ℕ) {l : List ℕ} (i : ℕ) → i ≡ length src → l ≡ take i src ++ drop i dst → l ≡ src ++ drop (length src) dst
-copy-all src dst i p e = e ∙ ap (λ (n : ℕ). take n src ++ drop n dst) p ∙ ap (λ (x : List ℕ). x ++ drop (length src) dst) (take-all (length src) src (le-refl (length src)))
+copy-all src dst i p e = e ∙ ap (λ (n : ℕ). take n src ++ drop n dst) p
+    ∙ ap (λ (x : List ℕ). x ++ drop (length src) dst) (take-all (length src) src (le-refl (length src)))
 
 -- a row written over a list of its own length
 pub copied : {l : List ℕ} (src dst : List ℕ) → l ≡ src ++ drop (length src) dst → length src ≡ length dst → l ≡ src

@@ -106,7 +106,8 @@ rows-full ones twos rows m e z =
     sym (none-any rows (rowPast ones twos rows m) (λ i l. sym (past-none _ _ m (part-length ones rows (wordsFor m) i e l) z)))
 
 -- a turn that gathers the last words of row i, at q of the planes
-module _ (ones twos : List ℕ) (rows m i : ℕ) (eo : length ones ≡ rows * wordsFor m) (et : length twos ≡ rows * wordsFor m) (h : i < rows) (u : m % 64 ≡ 0 → ⊥) where
+module _ (ones twos : List ℕ) (rows m i : ℕ) (eo : length ones ≡ rows * wordsFor m) (et : length twos ≡ rows * wordsFor m) (h : i < rows)
+    (u : m % 64 ≡ 0 → ⊥) where
   last-word : (plane : List ℕ) → length plane ≡ rows * wordsFor m → getD (rowPart plane rows (wordsFor m) i) (m / 64) 0 ≡ getD plane (i * wordsFor m + m / 64) 0
   last-word plane e =
       let n : m % 64 ≢ 0 = u in

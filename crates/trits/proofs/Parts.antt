@@ -67,9 +67,11 @@ module _ {xs ts : List ℕ} (r : Row xs ts) (a k : ℕ) (hx : a + k ≤ length x
   }
 
   -- when the part is back, the whole has the part's trits in the place of that stretch's
-  pub part-back : {ys zs : List ℕ} {v : ℕ → Trit} → Reads ys zs k v → Reads (putMid a k xs ys) (putMid a k ts zs) (length xs) (zipAt (λ x y. y) (tritAt xs ts) v a k)
+  pub part-back : {ys zs : List ℕ} {v : ℕ → Trit} → Reads ys zs k v
+      → Reads (putMid a k xs ys) (putMid a k ts zs) (length xs) (zipAt (λ x y. y) (tritAt xs ts) v a k)
   part-back {ys} {zs} g =
-      let s = stretch-reads second-op (r .apart) (g .row .apart) (put-patched a k xs hx ys (g .size)) (put-patched a k ts ht zs (g .row .same ∙ g .size)) (r .same) in
+      let s = stretch-reads second-op (r .apart) (g .row .apart) (put-patched a k xs hx ys (g .size)) (put-patched a k ts ht zs (g .row .same ∙ g .size))
+      (r .same) in
       record { row = s .row; size = s .size; trits = s .trits ∙ ap (λ (u : ℕ → Trit). zipAt (λ x y. y) (tritAt xs ts) u a k) (g .trits) }
 
 -- a part's places are those from 64 * a on
@@ -103,7 +105,8 @@ part-zip {xs} {ts} r a k hx op v = fun-ext (λ p. by p (decLt p (64 * a)) (decLt
 
 -- the whole after `f(&mut ones[a..e], &mut twos[a..e], ..)` where f does an operation on its row, with k = e - a
 pub part-done : {xs ts ys zs : List ℕ} {m k′ : ℕ} (op : Trit → Trit → Trit) (v : ℕ → Trit) (r : Row xs ts) (a k : ℕ) (h : a + k ≤ length xs) → m ≡ k → k ≡ k′
-    → Reads ys zs m (zipV op (tritAt (midOf a k xs) (midOf a k ts)) v) → Reads (putMid a k xs ys) (putMid a k ts zs) (length xs) (zipAt op (tritAt xs ts) v a k′)
+    → Reads ys zs m (zipV op (tritAt (midOf a k xs) (midOf a k ts)) v)
+    → Reads (putMid a k xs ys) (putMid a k ts zs) (length xs) (zipAt op (tritAt xs ts) v a k′)
 part-done {xs} {ts} op v r a k h e f g =
     let b = part-back r a k h (record { row = g .row; size = g .size ∙ e; trits = g .trits }) in
     record { row = b .row; size = b .size; trits = b .trits ∙ part-zip r a k h op v ∙ ap (zipAt op (tritAt xs ts) v a) f }

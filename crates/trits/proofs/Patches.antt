@@ -127,7 +127,8 @@ module _ {F G : ℕ → ℕ → ℕ → ℕ → ℕ} {op : Trit → Trit → Tri
   }
 
 module _ {F G : ℕ → ℕ → ℕ → ℕ → ℕ} {op : Trit → Trit → Trit} (w : WordOp F G op) (z : op t0 t0 ≡ t0) {o₀ t₀ so st o t : List ℕ} {n : ℕ}
-    (s : Row o₀ t₀) (r : Row so st) (l : length so ≡ length o₀) (po : Patched (wordsAt F o₀ t₀ so st 0) 0 n o₀ o) (pt : Patched (wordsAt G o₀ t₀ so st 0) 0 n t₀ t) where
+    (s : Row o₀ t₀) (r : Row so st) (l : length so ≡ length o₀) (po : Patched (wordsAt F o₀ t₀ so st 0) 0 n o₀ o)
+    (pt : Patched (wordsAt G o₀ t₀ so st 0) 0 n t₀ t) where
   whole-at : (p : ℕ) → n ≡ length o₀ → Dec (p < 64 * n) → zipAt op (tritAt o₀ t₀) (tritAt so st) 0 n p ≡ op (tritAt o₀ t₀ p) (tritAt so st p)
   whole-at p e (yes h) =
       let same : 64 * 0 + p ≡ p = omega arith in

@@ -99,7 +99,9 @@ module _ (b w : ℕ) (hb : b < 64) (hw : w < 2 ^ 64) where
 
   pub with-on : bitOr w ((1 * 2 ^ b) % 2 ^ 64) ≡ withBit b 1 w
   unfolding withBit
-  with-on = ap (bitOr w) mask ∙ from-bits 64 (bitOr w (2 ^ b)) _ (or-lt 64 w (2 ^ b) hw (pow-lt hb)) (λ k. chosen-lt k b 1 w (lit< tt)) (λ k l. bit-or k w (2 ^ b) ∙ at k (ℕ-discrete k b))
+  with-on = ap (bitOr w) mask
+      ∙ from-bits 64 (bitOr w (2 ^ b)) _ (or-lt 64 w (2 ^ b) hw (pow-lt hb)) (λ k. chosen-lt k b 1 w (lit< tt))
+      (λ k l. bit-or k w (2 ^ b) ∙ at k (ℕ-discrete k b))
     where
       at : (k : ℕ) → Dec (k ≡ b) → bitOr (bit k w) (bit k (2 ^ b)) ≡ cond (eqb k b) 1 (bit k w)
       at k (yes e) = ap (bitOr (bit k w)) (ap (λ (x : ℕ). bit x (2 ^ b)) e ∙ bit-pow-same b) ∙ or-one (bit k w) (bit-lt k w) ∙ sym (chosen-same k b 1 w e)
@@ -143,7 +145,8 @@ with-lt b c w h = from-lt 64 _ (λ n. chosen-lt n b c w h)
 
 -- ---- the vector after a place was written
 
-pub bitAt-put : (ws : List ℕ) (i c j : ℕ) → i < 64 * length ws → c < 2 → bitAt (set ws (i / 64) (withBit (i % 64) c (getD ws (i / 64) 0))) j ≡ cond (eqb j i) c (bitAt ws j)
+pub bitAt-put : (ws : List ℕ) (i c j : ℕ) → i < 64 * length ws → c < 2
+    → bitAt (set ws (i / 64) (withBit (i % 64) c (getD ws (i / 64) 0))) j ≡ cond (eqb j i) c (bitAt ws j)
 unfolding bitAt withBit
 bitAt-put ws i c j l h = by (ℕ-discrete j i) (ℕ-discrete (j / 64) (i / 64))
   where
@@ -153,9 +156,11 @@ bitAt-put ws i c j l h = by (ℕ-discrete j i) (ℕ-discrete (j / 64) (i / 64))
     here : (k : ℕ) → k < 64 → bit k (getD (set ws (i / 64) (withBit (i % 64) c w)) (i / 64) 0) ≡ cond (eqb k (i % 64)) c (bit k w)
     here k m = ap (bit k) (getD-set-same ws (i / 64) (withBit (i % 64) c w) 0 (omega arith)) ∙ bit-from 64 _ (λ n. chosen-lt n (i % 64) c w h) k m
 
-    by : Dec (j ≡ i) → Dec (j / 64 ≡ i / 64) → bit (j % 64) (getD (set ws (i / 64) (withBit (i % 64) c w)) (j / 64) 0) ≡ cond (eqb j i) c (bit (j % 64) (getD ws (j / 64) 0))
+    by : Dec (j ≡ i) → Dec (j / 64 ≡ i / 64)
+        → bit (j % 64) (getD (set ws (i / 64) (withBit (i % 64) c w)) (j / 64) 0) ≡ cond (eqb j i) c (bit (j % 64) (getD ws (j / 64) 0))
     by (yes e) d =
-        ap (λ (n : ℕ). bit (n % 64) (getD (set ws (i / 64) (withBit (i % 64) c w)) (n / 64) 0)) e ∙ here (i % 64) (omega arith) ∙ chosen-same (i % 64) (i % 64) c w refl
+        ap (λ (n : ℕ). bit (n % 64) (getD (set ws (i / 64) (withBit (i % 64) c w)) (n / 64) 0)) e ∙ here (i % 64) (omega arith)
+        ∙ chosen-same (i % 64) (i % 64) c w refl
         ∙ sym (ap (λ (t : Bool). cond t c (bit (j % 64) (getD ws (j / 64) 0))) (eq-eqb j i e))
     by (no f) (yes e) =
         ap (λ (n : ℕ). bit (j % 64) (getD (set ws (i / 64) (withBit (i % 64) c w)) n 0)) e ∙ here (j % 64) (omega arith)
@@ -178,7 +183,8 @@ read-put os ts i x j lo lt =
 
 -- the planes after a place was written can be read
 pub put-reads : {os ts : List ℕ} (i : ℕ) (x : Trit) → Row os ts → i < 64 * length os
-    → Reads (set os (i / 64) (withBit (i % 64) (one x) (getD os (i / 64) 0))) (set ts (i / 64) (withBit (i % 64) (two x) (getD ts (i / 64) 0))) (length os) (putV (tritAt os ts) i x)
+    → Reads (set os (i / 64) (withBit (i % 64) (one x) (getD os (i / 64) 0))) (set ts (i / 64) (withBit (i % 64) (two x) (getD ts (i / 64) 0))) (length os)
+    (putV (tritAt os ts) i x)
 put-reads {os} {ts} i x r lo =
     let lt : i < 64 * length ts = omega (arith, r .same) in
     record {
@@ -203,14 +209,16 @@ put-reads {os} {ts} i x r lo =
         go true = and-one-two x
         go false = sym (bit-and k o t) ∙ ap (bit k) (r .apart .word (i / 64)) ∙ bit-none k
 
-    by : (j : ℕ) → Dec (j ≡ i / 64) → bitAnd (getD (set os (i / 64) (withBit (i % 64) (one x) o)) j 0) (getD (set ts (i / 64) (withBit (i % 64) (two x) t)) j 0) ≡ 0
+    by : (j : ℕ) → Dec (j ≡ i / 64)
+        → bitAnd (getD (set os (i / 64) (withBit (i % 64) (one x) o)) j 0) (getD (set ts (i / 64) (withBit (i % 64) (two x) t)) j 0) ≡ 0
     by j (yes e) =
         let a = withBit (i % 64) (one x) o in
         let b = withBit (i % 64) (two x) t in
         ap₂ bitAnd (ap (λ (k : ℕ). getD (set os (i / 64) a) k 0) e ∙ getD-set-same os (i / 64) a 0 (omega arith))
         (ap (λ (k : ℕ). getD (set ts (i / 64) b) k 0) e ∙ getD-set-same ts (i / 64) b 0 (omega (arith, r .same)))
         ∙ bits-eq 64 (bitAnd a b) 0 (and-lt 64 a b (with-lt (i % 64) (one x) o (one-lt x)) (with-lt (i % 64) (two x) t (two-lt x))) (lit< tt)
-        (λ k h. bit-and k a b ∙ ap₂ bitAnd (with-bit (i % 64) (one x) o k (one-lt x) h) (with-bit (i % 64) (two x) t k (two-lt x) h) ∙ digit k ∙ sym (bit-none k))
+        (λ k h. bit-and k a b ∙ ap₂ bitAnd (with-bit (i % 64) (one x) o k (one-lt x) h) (with-bit (i % 64) (two x) t k (two-lt x) h) ∙ digit k
+        ∙ sym (bit-none k))
     by j (no f) = ap₂ bitAnd (getD-set-other os (i / 64) j _ 0 f) (getD-set-other ts (i / 64) j _ 0 f) ∙ r .apart .word j
 
 -- the planes when both words are stored

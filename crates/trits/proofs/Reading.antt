@@ -1,4 +1,5 @@
--- The two planes of a vector: reading what was written gives it back; the written planes have no bit in both; planes with no bit in both are those of what they read.
+-- The two planes of a vector: reading what was written gives it back; the written planes have
+-- no bit in both; planes with no bit in both are those of what they read.
 -- Assumes nothing.
 use mathlib.Core.Path.{_≡_, refl, sym, ap, ap₂, _∙_, subst, subst₂, fun-ext}
 use mathlib.Core.List.{List}
@@ -116,11 +117,13 @@ written-apart v n = record { word = λ j. by j (decLt j n) }
     by : (j : ℕ) → Dec (j < n) → bitAnd (getD (onesOf v n) j 0) (getD (twosOf v n) j 0) ≡ 0
     by j (yes l) =
         rw (getD-tabulate n _ j 0 l, getD-tabulate n _ j 0 l)
-        (bits-eq 64 (bitAnd (o j) (w j)) 0 (and-lt 64 (o j) (w j) (from-lt 64 _ (λ b. one-lt (v (64 * j + b)))) (from-lt 64 _ (λ b. two-lt (v (64 * j + b))))) (lit< tt)
+        (bits-eq 64 (bitAnd (o j) (w j)) 0 (and-lt 64 (o j) (w j) (from-lt 64 _ (λ b. one-lt (v (64 * j + b)))) (from-lt 64 _ (λ b. two-lt (v (64 * j + b)))))
+        (lit< tt)
         (λ i h. bit-and i (o j) (w j)
         ∙ ap₂ bitAnd (bit-from 64 _ (λ b. one-lt (v (64 * j + b))) i h) (bit-from 64 _ (λ b. two-lt (v (64 * j + b))) i h)
         ∙ and-one-two (v (64 * j + i)) ∙ sym (bit-none i)))
-    by j (no f) = ap (λ (x : ℕ). bitAnd x (getD (twosOf v n) j 0)) (List·getD-eq-default (onesOf v n) 0 (omega (arith, length-tabulate n (λ j. fromBits (λ b. one (v (64 * j + b))) 64))))
+    by j (no f) = ap (λ (x : ℕ). bitAnd x (getD (twosOf v n) j 0))
+        (List·getD-eq-default (onesOf v n) 0 (omega (arith, length-tabulate n (λ j. fromBits (λ b. one (v (64 * j + b))) 64))))
 
 -- ---- the word j of the planes of v, from its bits
 
@@ -151,7 +154,8 @@ read-holds ones twos n r l ho hw = record {
 }
 
 -- planes that read as v are those of v
-pub reads-holds : (ones twos : List ℕ) (n : ℕ) (v : ℕ → Trit) → Reads ones twos n v → ((j : ℕ) → getD ones j 0 < 2 ^ 64) → ((j : ℕ) → getD twos j 0 < 2 ^ 64) → Holds ones twos n v
+pub reads-holds : (ones twos : List ℕ) (n : ℕ) (v : ℕ → Trit) → Reads ones twos n v → ((j : ℕ) → getD ones j 0 < 2 ^ 64) → ((j : ℕ) → getD twos j 0 < 2 ^ 64)
+    → Holds ones twos n v
 reads-holds ones twos n v r ho hw = subst (λ (f : ℕ → Trit). Holds ones twos n f) (r .trits) (read-holds ones twos n (r .row) (r .size) ho hw)
 
 -- planes that read as u read as what equals it
@@ -159,7 +163,8 @@ pub reads-to : {ones twos : List ℕ} {n : ℕ} {u v : ℕ → Trit} → Reads o
 reads-to r e = record { row = r .row; size = r .size; trits = r .trits ∙ e }
 
 -- the words of planes that read as v, where there are n of them
-pub reads-words : {ones twos : List ℕ} {k n : ℕ} {v : ℕ → Trit} → Reads ones twos k v → k ≡ n → ((j : ℕ) → getD ones j 0 < 2 ^ 64) → ((j : ℕ) → getD twos j 0 < 2 ^ 64) → Holds ones twos n v
+pub reads-words : {ones twos : List ℕ} {k n : ℕ} {v : ℕ → Trit} → Reads ones twos k v → k ≡ n → ((j : ℕ) → getD ones j 0 < 2 ^ 64)
+    → ((j : ℕ) → getD twos j 0 < 2 ^ 64) → Holds ones twos n v
 reads-words {ones} {twos} {k} {n} {v} r e ho hw = reads-holds ones twos n v (record { row = r .row; size = r .size ∙ e; trits = r .trits }) ho hw
 
 -- so two pairs of planes that read alike are the same words

@@ -16,7 +16,8 @@ use Rattle.trits.specs.Planes.{tritAt, bothSet, wordsFor, zeroWords, Row
 use Rattle.trits.specs.Rows.{rowsPastEnd}
 use Rattle.trits.specs.Refusal.{numberOf, refuse, demand, first, atExit, spaceStays, spaceExit, planesRefusal}
 use Rattle.trits.specs.declared.refusal.Refusal.{Refusal}
-use Rattle.trits.specs.declared.refusal.Refusal.the-variants.{Size, Length, BothPlanes, PastEnd, PackedByte, StreamEnd, NoPermutation, ZeroTrit, RankU, RankV, Line, FirstPartV, FirstPartU, Weight, NoKey, WholeKey, OtherKey}
+use Rattle.trits.specs.declared.refusal.Refusal.the-variants.{Size, Length, BothPlanes, PastEnd, PackedByte, StreamEnd, NoPermutation, ZeroTrit, RankU}
+use Rattle.trits.specs.declared.refusal.Refusal.the-variants.{RankV, Line, FirstPartV, FirstPartU, Weight, NoKey, WholeKey, OtherKey}
 use Rattle.trits.proofs.Tests.{both-apart, past-zero}
 use Rattle.trits.proofs.Matrix.{one-row-past}
 
@@ -77,7 +78,8 @@ passed-demand true k x h e = (refl, e)
 passed-demand false k x h e = absurd (omega arith)
 
 -- planes that are not refused
-pub planes-passed : (ones twos : List ℕ) (rows m : ℕ) → planesRefusal ones twos rows m ≡ 0 → (bothSet ones twos ≡ false) × (rowsPastEnd ones twos rows m ≡ false)
+pub planes-passed : (ones twos : List ℕ) (rows m : ℕ) → planesRefusal ones twos rows m ≡ 0 → (bothSet ones twos ≡ false)
+    × (rowsPastEnd ones twos rows m ≡ false)
 unfolding planesRefusal
 planes-passed ones twos rows m e =
     let a = passed-refuse (bothSet ones twos) 3 _ (lit< tt) e in

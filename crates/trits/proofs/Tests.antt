@@ -92,7 +92,8 @@ any-bit k x h = go (anyTo (λ i. eqb (bit i x) 1) k) refl
     go : (a : Bool) → anyTo (λ i. eqb (bit i x) 1) k ≡ a → anyTo (λ i. eqb (bit i x) 1) k ≡ not (eqb x 0)
     go true e =
         let s = any-some k (λ i. eqb (bit i x) 1) e in
-        e ∙ sym (ap not (ne-eqb x 0 (λ q. let z : _≡_ {A = ℕ} 0 1 = sym (bit-none (s .0)) ∙ ap (bit (s .0)) (sym q) ∙ eqb-true (bit (s .0) x) 1 (s .2) in omega arith)))
+        e ∙ sym (ap not (ne-eqb x 0 (λ q. let z : _≡_ {A = ℕ} 0 1 = sym (bit-none (s .0)) ∙ ap (bit (s .0)) (sym q)
+        ∙ eqb-true (bit (s .0) x) 1 (s .2) in omega arith)))
     go false e =
         e ∙ sym (ap not (eq-eqb x 0 (bits-eq k x 0 h (pow-pos k) (λ i l. bit-not-one i x (any-none k (λ i. eqb (bit i x) 1) e i l)))))
 

@@ -1,4 +1,5 @@
--- Operations on trits, sixty-four at a time: what masks make of two pairs of words is the operation at each bit. A new operation is one `WordOp`. Assumes nothing.
+-- Operations on trits, sixty-four at a time: what masks make of two pairs of words is the
+-- operation at each bit. A new operation is one `WordOp`. Assumes nothing.
 use mathlib.Core.Path.{_≡_, refl, sym, ap, ap₂, _∙_}
 use Prim.Native.Nat.{ℕ, zero, suc, _^_, _<_}
 use native.Mathlib.Nat.{zero-lt-suc, pow-suc}

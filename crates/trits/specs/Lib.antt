@@ -1,4 +1,5 @@
--- The definitions that the contracts cite, in the order of the paper: trits and vectors, rows in two planes, rows of a matrix, refusals; last, vectors in digits.
+-- The definitions that the contracts cite, in the order of the paper: trits and vectors,
+-- rows in two planes, rows of a matrix, refusals; last, vectors in digits.
 pub mod Trit
 pub mod Planes
 pub mod Rows

@@ -7,7 +7,8 @@ use lib.ListN.{length}
 use Rattle.trits.specs.Planes.{Pair, pairOf, bothSet, zeroWords}
 use Rattle.trits.specs.Rows.{rowsPastEnd}
 use Rattle.trits.specs.declared.refusal.Refusal.{Refusal}
-use Rattle.trits.specs.declared.refusal.Refusal.the-variants.{Size, Length, BothPlanes, PastEnd, PackedByte, StreamEnd, NoPermutation, ZeroTrit, RankU, RankV, Line, FirstPartV, FirstPartU, Weight, NoKey, WholeKey, OtherKey}
+use Rattle.trits.specs.declared.refusal.Refusal.the-variants.{Size, Length, BothPlanes, PastEnd, PackedByte, StreamEnd, NoPermutation, ZeroTrit, RankU}
+use Rattle.trits.specs.declared.refusal.Refusal.the-variants.{RankV, Line, FirstPartV, FirstPartU, Weight, NoKey, WholeKey, OtherKey}
 use Rattle.trits.specs.declared.refusal.Outcome.{Outcome}
 use Rattle.trits.specs.declared.refusal.Outcome.the-variants.{Done, Refused}
 

@@ -12,7 +12,8 @@ use Rattle.trits.proofs.Counts.{sum-cong}
 use Rattle.verdict.specs.Verdict.{Key, timesKey, fullWord, fullWeight, saysYes, syndrome, HasSyndrome, Extends, Extending, Found}
 
 -- s·R-transposed reads k trits of s and k rows
-pub times-key-cong : (k : ℕ) (R Q : Key) (s t : ℕ → Trit) (j : ℕ) → ((i : ℕ) → i < k → s i ≡ t i) → ((i : ℕ) → i < k → R i j ≡ Q i j) → timesKey k R s j ≡ timesKey k Q t j
+pub times-key-cong : (k : ℕ) (R Q : Key) (s t : ℕ → Trit) (j : ℕ) → ((i : ℕ) → i < k → s i ≡ t i) → ((i : ℕ) → i < k → R i j ≡ Q i j)
+    → timesKey k R s j ≡ timesKey k Q t j
 unfolding timesKey dotV
 times-key-cong zero R Q s t j h g = refl
 times-key-cong (suc k) R Q s t j h g =
@@ -61,7 +62,8 @@ module _ (m k : ℕ) (R : Key) (y s : ℕ → Trit) where
       go true t =
           let l = ltb-true q m t in
           sym (law2 (λ x t. subT (addT x t) t) (λ x t. x) tt (e q) (timesKey k R s q))
-          ∙ ap (λ (x : Trit). subT x (timesKey k R s q)) (ap (addT (e q)) (times-key-cong k R R s (λ i. e (m + i)) q (λ i o. sym (b i o)) (λ i o. refl)) ∙ a q l)
+          ∙ ap (λ (x : Trit). subT x (timesKey k R s q)) (ap (addT (e q)) (times-key-cong k R R s (λ i. e (m + i)) q (λ i o. sym (b i o)) (λ i o. refl))
+          ∙ a q l)
           ∙ sym (full-low q l)
       go false t =
           let back : m + (q - m) ≡ q = omega (arith, ltb-false q m t) in

@@ -1,4 +1,5 @@
--- Worked cases of the verdict ("The verdict"): the paper's example of lines, and a key that is not square, worked out apart from the definitions. Assumes nothing.
+-- Worked cases of the verdict ("The verdict"): the paper's example of lines, and a key that
+-- is not square, worked out apart from the definitions. Assumes nothing.
 use mathlib.Core.Path.{_≡_}
 use mathlib.Core.Bool.{true, false}
 use mathlib.Core.List.{[], _∷_}

@@ -1,4 +1,5 @@
--- The verdict on y and s under a key ("The verdict"); the syndrome of a word and what it extends, terms that the paper defines itself ("The words of demand 3"). Assumes nothing.
+-- The verdict on y and s under a key ("The verdict"); the syndrome of a word and what it extends,
+-- terms that the paper defines itself ("The words of demand 3"). Assumes nothing.
 use mathlib.Core.Path.{_≡_}
 use mathlib.Core.Bool.{Bool, cond}
 use Prim.Native.Nat.{ℕ, _+_, _-_, _<_}

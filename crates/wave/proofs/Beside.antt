@@ -146,18 +146,25 @@ unfolding anyTo bit bitAt bothSet pastEnd rowPart rowsPastEnd planesRefusal
 refused-both t = let three : _≡_ {A = ℕ} 3 0 = t .contents in absurd (omega arith)
 
 not-2221 : HandsOut (sizes4 0 4) (draw4 start1 0 1 1 0) (vector (2 ∷ 2 ∷ 2 ∷ 1 ∷ [])) → ⊥
-unfolding dotV anyTo sumTo upTo bit fromBits bitAt tritAt tabulate onesOf twosOf bothSet pastEnd rowPart matrixAt rowsPastEnd first planesRefusal agree find solve inSpan keep pivots rank without fill range isOrder sizesFit pivotsV suppliedV drawV pivotsU suppliedU drawU drawn drawRefusal secretDiffers hasZero secretRefusal choicesDiffer drawLengthsDiffer choicesRefusal drawAnswer wordOf wordExit
+unfolding dotV anyTo sumTo upTo bit fromBits bitAt tritAt tabulate onesOf twosOf bothSet pastEnd rowPart matrixAt rowsPastEnd first planesRefusal agree find
+    solve inSpan keep pivots rank without fill range isOrder sizesFit pivotsV suppliedV drawV pivotsU suppliedU drawU drawn drawRefusal secretDiffers hasZero
+    secretRefusal choicesDiffer drawLengthsDiffer choicesRefusal drawAnswer wordOf wordExit
 not-2221 h = let other : _≡_ {A = ℕ} 1 2 = ap number (h .word 1 (omega arith)) in absurd (omega arith)
 
 none-0212 : (e : Vector) → HandsOut (sizes4 0 4) (draw4 start1 1 0 1 0) e → ⊥
-unfolding dotV anyTo sumTo upTo bit fromBits bitAt tritAt tabulate bothSet pastEnd rowPart matrixAt rowsPastEnd first planesRefusal agree find solve inSpan keep pivots rank without fill range isOrder sizesFit pivotsV suppliedV drawV pivotsU suppliedU drawU drawn drawRefusal secretDiffers hasZero secretRefusal choicesDiffer drawLengthsDiffer choicesRefusal drawAnswer
+unfolding dotV anyTo sumTo upTo bit fromBits bitAt tritAt tabulate bothSet pastEnd rowPart matrixAt rowsPastEnd first planesRefusal agree find solve inSpan keep
+    pivots rank without fill range isOrder sizesFit pivotsV suppliedV drawV pivotsU suppliedU drawU drawn drawRefusal secretDiffers hasZero secretRefusal
+    choicesDiffer drawLengthsDiffer choicesRefusal drawAnswer
 none-0212 e h = let fourteen : _≡_ {A = ℕ} 14 0 = h .passed in absurd (omega arith)
 
 hands-2111 : HandsOut (sizes4 0 4) (draw4 start1 0 1 1 0) (vector (2 ∷ 1 ∷ 1 ∷ 1 ∷ []))
-unfolding dotV anyTo sumTo upTo bit fromBits bitAt tritAt tabulate onesOf twosOf bothSet pastEnd rowPart matrixAt rowsPastEnd first planesRefusal agree find solve inSpan keep pivots rank without fill range isOrder sizesFit pivotsV suppliedV drawV pivotsU suppliedU drawU drawn drawRefusal secretDiffers hasZero secretRefusal choicesDiffer drawLengthsDiffer choicesRefusal drawAnswer wordOf wordExit
+unfolding dotV anyTo sumTo upTo bit fromBits bitAt tritAt tabulate onesOf twosOf bothSet pastEnd rowPart matrixAt rowsPastEnd first planesRefusal agree find
+    solve inSpan keep pivots rank without fill range isOrder sizesFit pivotsV suppliedV drawV pivotsU suppliedU drawU drawn drawRefusal secretDiffers hasZero
+    secretRefusal choicesDiffer drawLengthsDiffer choicesRefusal drawAnswer wordOf wordExit
 hands-2111 = record { passed = refl; word = λ q h. by q (places-below q h) }
   where
-    by : (q : ℕ) → (q ≡ 0) ⊎ (q ≡ 1) ⊎ (q ≡ 2) ⊎ (q ≡ 3) → tritAt (wordExit (sizes4 0 4) (draw4 start1 0 1 1 0) .ones) (wordExit (sizes4 0 4) (draw4 start1 0 1 1 0) .twos) q ≡ vector (2 ∷ 1 ∷ 1 ∷ 1 ∷ []) q
+    by : (q : ℕ) → (q ≡ 0) ⊎ (q ≡ 1) ⊎ (q ≡ 2) ⊎ (q ≡ 3)
+        → tritAt (wordExit (sizes4 0 4) (draw4 start1 0 1 1 0) .ones) (wordExit (sizes4 0 4) (draw4 start1 0 1 1 0) .twos) q ≡ vector (2 ∷ 1 ∷ 1 ∷ 1 ∷ []) q
     by q (inl z) = rw z refl
     by q (inr (inl z)) = rw z refl
     by q (inr (inr (inl z))) = rw z refl
@@ -173,7 +180,13 @@ hands-2111 = record { passed = refl; word = λ q h. by q (places-below q h) }
 -- ---- all of them
 
 pub beside : Beside
-unfolding dotV anyTo sumTo upTo bit fromBits bitAt tritAt tabulate onesOf twosOf zeroWords bothSet pastEnd rowsOf rowPart matrixAt putWords rowsPastEnd first planesRefusal byteOf digitOf packedAt packedRow packedBytes badByte packedRefusal packRefusal packExit agree find solve inSpan keep pivots rank without fill range isOrder digitRows timesKey fullWord fullWeight numbersFit sound heldRow heldKey beginRefusal begunHeld beginHeld rowRefusal storePackedRefusal nextHeld storedHeld storedPlane offer offerAll callRefusal packedLengths packedContents checkPackedRefusal heldWeight answered checkPackedAnswer sizesFit noZero secretMatrix arrange arranged rowOfR buildRefusal choicesFit pivotsV suppliedV drawV pivotsU suppliedU drawU drawn drawRefusal secretDiffers hasZero secretRefusal spaceExit keyDiffers buildLengthsDiffer buildAnswer orderExit keyOnesOf keyTwosOf keyExit buildWorkExit choicesDiffer drawLengthsDiffer choicesRefusal drawAnswer wordOf wordExit sExit drawWorkExit builtKey
+unfolding dotV anyTo sumTo upTo bit fromBits bitAt tritAt tabulate onesOf twosOf zeroWords bothSet pastEnd rowsOf rowPart matrixAt putWords rowsPastEnd first
+    planesRefusal byteOf digitOf packedAt packedRow packedBytes badByte packedRefusal packRefusal packExit agree find solve inSpan keep pivots rank without fill
+    range isOrder digitRows timesKey fullWord fullWeight numbersFit sound heldRow heldKey beginRefusal begunHeld beginHeld rowRefusal storePackedRefusal
+    nextHeld storedHeld storedPlane offer offerAll callRefusal packedLengths packedContents checkPackedRefusal heldWeight answered checkPackedAnswer sizesFit
+    noZero secretMatrix arrange arranged rowOfR buildRefusal choicesFit pivotsV suppliedV drawV pivotsU suppliedU drawU drawn drawRefusal secretDiffers hasZero
+    secretRefusal spaceExit keyDiffers buildLengthsDiffer buildAnswer orderExit keyOnesOf keyTwosOf keyExit buildWorkExit choicesDiffer drawLengthsDiffer
+    choicesRefusal drawAnswer wordOf wordExit sExit drawWorkExit builtKey
 beside = record {
   word-1200 = refl;
   released-1200 = refl;

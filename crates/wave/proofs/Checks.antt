@@ -32,7 +32,8 @@ module _ (c : Check) (r : checkAnswer c .refusal ≡ 0) where
   pub says-yes : (checkAnswer c .yes ≡ 1) ↔ HeldFound (c .held) (c .ones) (c .twos) (tritAt (c .yOnes) (c .yTwos)) (tritAt (c .sOnes) (c .sTwos))
   says-yes = check-verdict c not-refused
 
-  pub one-word : (y s e f : Vector) → HeldExtending (c .held) (c .ones) (c .twos) y s e → HeldExtending (c .held) (c .ones) (c .twos) y s f → (q : ℕ) → q < c .held .n → e q ≡ f q
+  pub one-word : (y s e f : Vector) → HeldExtending (c .held) (c .ones) (c .twos) y s e → HeldExtending (c .held) (c .ones) (c .twos) y s f → (q : ℕ)
+      → q < c .held .n → e q ≡ f q
   one-word y s e f = found-once (c .held) (c .ones) (c .twos) y s e f (check-passed c not-refused .0 .is-sound)
 
 -- ---- packed
@@ -46,5 +47,6 @@ module _ (c : PackedCheck) (r : checkPackedAnswer c .refusal ≡ 0) where
       ↔ HeldFound (c .held) (c .ones) (c .twos) (packedRow (rowTrits (c .held)) (c .y)) (packedRow (c .held .k) (c .s))
   packed-says-yes = check-packed-verdict c packed-not-refused
 
-  pub packed-one-word : (y s e f : Vector) → HeldExtending (c .held) (c .ones) (c .twos) y s e → HeldExtending (c .held) (c .ones) (c .twos) y s f → (q : ℕ) → q < c .held .n → e q ≡ f q
+  pub packed-one-word : (y s e f : Vector) → HeldExtending (c .held) (c .ones) (c .twos) y s e → HeldExtending (c .held) (c .ones) (c .twos) y s f → (q : ℕ)
+      → q < c .held .n → e q ≡ f q
   packed-one-word y s e f = found-once (c .held) (c .ones) (c .twos) y s e f (check-packed-passed c packed-not-refused .0 .is-sound)

@@ -36,7 +36,8 @@ module _ (z : Sizes) (s : Secret) (ch : Choices) (ra : Ranges z) (va : Valid z c
 
     supplied-v : suppliedV z s (cut z ch) ≡ suppliedV z s ch
     unfolding suppliedV pivotsV
-    supplied-v = fill-same (without (pivotsV z s ch) (ch .orderV)) (upTo (z .kv) (ch .tritsV)) (ch .tritsV) zeros (λ j l. upto-in (ch .tritsV) (z .kv) j (omega (arith, l, others-v)))
+    supplied-v = fill-same (without (pivotsV z s ch) (ch .orderV)) (upTo (z .kv) (ch .tritsV)) (ch .tritsV) zeros
+        (λ j l. upto-in (ch .tritsV) (z .kv) j (omega (arith, l, others-v)))
 
     draw-v : (x : Vector) → drawV z s x (cut z ch) ≡ drawV z s x ch
     unfolding drawV pivotsV
@@ -62,7 +63,8 @@ module _ (z : Sizes) (s : Secret) (ch : Choices) (ra : Ranges z) (va : Valid z c
         ap (fill (lastU z ch) (λ j. forced s eV (getD (lastU z ch) j 0) (upTo (z .ku) (ch .valuesU) (gapU z + j))))
         (fill-same (without (pivotsU z s ch) (firstU z ch)) (upTo (z .ku) (ch .valuesU)) (ch .valuesU) zeros
         (λ j l. upto-in (ch .valuesU) (z .ku) j (omega (arith, l, others-u, ra .gu-low))))
-        ∙ fill-same (lastU z ch) (λ j. forced s eV (getD (lastU z ch) j 0) (upTo (z .ku) (ch .valuesU) (gapU z + j))) (λ j. forced s eV (getD (lastU z ch) j 0) (ch .valuesU (gapU z + j)))
+        ∙ fill-same (lastU z ch) (λ j. forced s eV (getD (lastU z ch) j 0) (upTo (z .ku) (ch .valuesU) (gapU z + j)))
+        (λ j. forced s eV (getD (lastU z ch) j 0) (ch .valuesU (gapU z + j)))
         (fill (without (pivotsU z s ch) (firstU z ch)) (ch .valuesU) zeros)
         (λ j l. ap (forced s eV (getD (lastU z ch) j 0)) (upto-in (ch .valuesU) (z .ku) (gapU z + j) (omega (arith, l, last-size, ra .gu-low))))
 
@@ -71,7 +73,8 @@ module _ (z : Sizes) (s : Secret) (ch : Choices) (ra : Ranges z) (va : Valid z c
     draw-u x eV = ap (λ (f : Vector). orZeros (solve (ru z) (half z) (s .hu) (times (half z) (s .hu) x) (pivotsU z s ch) f)) (supplied-u eV)
 
   -- the word is the same
-  drawn-cut : (p : List ℕ) (y : Vector) → length (pivotsV z s ch) ≡ rv z → length (pivotsU z s ch) ≡ ru z → (i : ℕ) → drawn z s p y (cut z ch) i ≡ drawn z s p y ch i
+  drawn-cut : (p : List ℕ) (y : Vector) → length (pivotsV z s ch) ≡ rv z → length (pivotsU z s ch) ≡ ru z → (i : ℕ)
+      → drawn z s p y (cut z ch) i ≡ drawn z s p y ch i
   unfolding drawn
   drawn-cut p y fv fu i =
       let x = placed p (join (codim z) y zeros) in

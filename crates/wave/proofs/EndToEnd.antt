@@ -50,7 +50,8 @@ use Rattle.wave.proofs.ReachCalls.{few, ones-row, twos-row, built-row, 
 
 -- ---- a call of `pack`
 
-module _ (m : ℕ) (ones twos bytes : List ℕ) (few : m ≤ 16384) (o : length ones ≡ wordsFor m) (t : length twos ≡ wordsFor m) (b : length bytes ≡ bytesFor m) (p : planesRefusal ones twos 1 m ≡ 0) where
+module _ (m : ℕ) (ones twos bytes : List ℕ) (few : m ≤ 16384) (o : length ones ≡ wordsFor m) (t : length twos ≡ wordsFor m) (b : length bytes ≡ bytesFor m)
+    (p : planesRefusal ones twos 1 m ≡ 0) where
   packs : packRefusal (packOf m ones twos bytes) ≡ 0
   unfolding packRefusal
   packs = rw (le-ltb 16384 m few, eq-eqb (length ones) (wordsFor m) o, eq-eqb (length twos) (wordsFor m) t, eq-eqb (length bytes) (bytesFor m) b) p
@@ -60,7 +61,8 @@ module _ (m : ℕ) (ones twos bytes : List ℕ) (few : m ≤ 16384) (o : length 
   pack-writes = sym (exit-new (packedBytes m (tritAt ones twos)) bytes packs)
 
 -- a row in planes that is not refused is 0 past its length
-ended : (ones twos : List ℕ) (m : ℕ) → planesRefusal ones twos 1 m ≡ 0 → length ones ≡ wordsFor m → length twos ≡ wordsFor m → upTo m (tritAt ones twos) ≡ tritAt ones twos
+ended : (ones twos : List ℕ) (m : ℕ) → planesRefusal ones twos 1 m ≡ 0 → length ones ≡ wordsFor m → length twos ≡ wordsFor m
+    → upTo m (tritAt ones twos) ≡ tritAt ones twos
 ended ones twos m e lo lt =
     upto-ended (tritAt ones twos) m (row-ended ones twos m e lo lt)
 
@@ -92,7 +94,8 @@ unfolding drawLengthsDiffer choicesDiffer
 y-lengths z l e =
     let a = or-false-right (differs z (l .secret)) _ e in
     let b = or-false-right (not (eqb (length (l .p)) (places z))) _ a in
-    pair-same (wordsFor (codim z)) (length (l .y .ones)) (length (l .y .twos)) (or-false-left (pairDiffers (wordsFor (codim z)) (length (l .y .ones)) (length (l .y .twos))) _ b)
+    pair-same (wordsFor (codim z)) (length (l .y .ones)) (length (l .y .twos))
+    (or-false-left (pairDiffers (wordsFor (codim z)) (length (l .y .ones)) (length (l .y .twos))) _ b)
 
 module _ (z : Sizes) (i : BuildCall) (b : Built z i) (g w : ℕ) (l : DrawCall) (u : Under z i l) (d : drawAnswer (sized z g w) l ≡ 0) (m : Host z) where
   abbrev Z : Sizes
@@ -119,9 +122,12 @@ module _ (z : Sizes) (i : BuildCall) (b : Built z i) (g w : ℕ) (l : DrawCall) 
   unfolding builtKey
   row-is j h =
       let v : Vector = upTo (codim z) (keyRow z (secretOf z (i .secret)) (i .start) j) in
-      pack-writes (codim z) (rowPart (keyExit z i .ones) (dim z) (keyRowWords z) j) (rowPart (keyExit z i .twos) (dim z) (keyRowWords z) j) (m .rowBytes j) few-codim
-      (ap length (sym (ones-row z i b j h)) ∙ length-ones v (keyRowWords z)) (ap length (sym (twos-row z i b j h)) ∙ length-twos v (keyRowWords z)) (m .row-bytes-size j h)
-      (ap₂ (λ (x y : List ℕ). planesRefusal x y 1 (codim z)) (sym (ones-row z i b j h)) (sym (twos-row z i b j h)) ∙ written-passes (codim z) (keyRow z (secretOf z (i .secret)) (i .start) j))
+      pack-writes (codim z) (rowPart (keyExit z i .ones) (dim z) (keyRowWords z) j) (rowPart (keyExit z i .twos) (dim z) (keyRowWords z) j) (m .rowBytes j)
+      few-codim
+      (ap length (sym (ones-row z i b j h)) ∙ length-ones v (keyRowWords z)) (ap length (sym (twos-row z i b j h)) ∙ length-twos v (keyRowWords z))
+      (m .row-bytes-size j h)
+      (ap₂ (λ (x y : List ℕ). planesRefusal x y 1 (codim z)) (sym (ones-row z i b j h)) (sym (twos-row z i b j h))
+      ∙ written-passes (codim z) (keyRow z (secretOf z (i .secret)) (i .start) j))
 
   row-size : (j : ℕ) → j < dim z → length (packedKeyRow z i m j) ≡ bytesFor (z .n - dim z)
   row-size j h = ap length (row-is j h) ∙ packed-length (codim z) (builtKey z i j) ∙ ap bytesFor (sym size)
@@ -132,7 +138,8 @@ module _ (z : Sizes) (i : BuildCall) (b : Built z i) (g w : ℕ) (l : DrawCall) 
   row-back : (j : ℕ) → j < dim z → packedRow (codim z) (packedKeyRow z i m j) ≡ builtKey z i j
   row-back j h =
       ap (packedRow (codim z)) (row-is j h) ∙ packed-back (codim z) (builtKey z i j)
-      ∙ upto-ended (builtKey z i j) (codim z) (λ q k. ap (λ (v : Vector). v q) (built-row z i b j h) ∙ upto-out (keyRow z (secretOf z (i .secret)) (i .start) j) (codim z) q k)
+      ∙ upto-ended (builtKey z i j) (codim z) (λ q k. ap (λ (v : Vector). v q) (built-row z i b j h)
+      ∙ upto-out (keyRow z (secretOf z (i .secret)) (i .start) j) (codim z) q k)
 
   -- ---- y
 
@@ -143,10 +150,14 @@ module _ (z : Sizes) (i : BuildCall) (b : Built z i) (g w : ℕ) (l : DrawCall) 
   yPacked = packExit (packOf (codim z) (l .y .ones) (l .y .twos) (m .yBytes))
 
   y-is : yPacked ≡ packedBytes (codim z) y
-  y-is = let n = y-lengths Z l (passed .lengths) in pack-writes (codim z) (l .y .ones) (l .y .twos) (m .yBytes) few-codim (n .0) (n .1) (m .y-bytes-size) (passed .syndrome)
+  y-is =
+      let n = y-lengths Z l (passed .lengths) in
+      pack-writes (codim z) (l .y .ones) (l .y .twos) (m .yBytes) few-codim (n .0) (n .1) (m .y-bytes-size) (passed .syndrome)
 
   y-back : packedRow (codim z) yPacked ≡ y
-  y-back = let n = y-lengths Z l (passed .lengths) in ap (packedRow (codim z)) y-is ∙ packed-back (codim z) y ∙ ended (l .y .ones) (l .y .twos) (codim z) (passed .syndrome) (n .0) (n .1)
+  y-back =
+      let n = y-lengths Z l (passed .lengths) in
+      ap (packedRow (codim z)) y-is ∙ packed-back (codim z) y ∙ ended (l .y .ones) (l .y .twos) (codim z) (passed .syndrome) (n .0) (n .1)
 
   -- ---- s
 
@@ -164,7 +175,8 @@ module _ (z : Sizes) (i : BuildCall) (b : Built z i) (g w : ℕ) (l : DrawCall) 
 
   s-is : sPacked ≡ packedBytes (dim z) s
   s-is =
-      pack-writes (dim z) (sExit Z l .ones) (sExit Z l .twos) (m .sBytes) few-dim (ap length s-ones ∙ length-ones s (wordsFor (dim z))) (ap length s-twos ∙ length-twos s (wordsFor (dim z))) (m .s-bytes-size)
+      pack-writes (dim z) (sExit Z l .ones) (sExit Z l .twos) (m .sBytes) few-dim (ap length s-ones ∙ length-ones s (wordsFor (dim z)))
+      (ap length s-twos ∙ length-twos s (wordsFor (dim z))) (m .s-bytes-size)
       (ap₂ (λ (x y : List ℕ). planesRefusal x y 1 (dim z)) s-ones s-twos ∙ written-passes (dim z) (signature Z (wordOf Z l)))
       ∙ ap (packedBytes (dim z)) (handed-signature Z l d)
 
@@ -188,7 +200,8 @@ module _ (z : Sizes) (i : BuildCall) (b : Built z i) (g w : ℕ) (l : DrawCall) 
   pub end-to-end : checkPackedAnswer (carriedCheck z i g w l m) ≡ yes w
   unfolding answered
   end-to-end =
-      loaded (m .number) (z .n) (dim z) w (fits-held Z (m .number) (passed .sizes) (m .number-fits)) (packedKeyRow z i m) row-size row-good (m .before) (m .ones) (m .twos) yPacked sPacked (m .workOnes) (m .workTwos)
+      loaded (m .number) (z .n) (dim z) w (fits-held Z (m .number) (passed .sizes) (m .number-fits)) (packedKeyRow z i m) row-size row-good (m .before)
+      (m .ones) (m .twos) yPacked sPacked (m .workOnes) (m .workTwos)
       (m .ones-size ∙ ap (λ (x : ℕ). dim z * wordsFor x) (sym size)) (m .twos-size ∙ ap (λ (x : ℕ). dim z * wordsFor x) (sym size))
       (ap length y-is ∙ packed-length (codim z) y ∙ ap bytesFor (sym size)) (ap length s-is ∙ packed-length (dim z) s)
       (ap badByte y-is ∙ packed-good (codim z) y) (ap badByte s-is ∙ packed-good (dim z) s)
@@ -208,16 +221,19 @@ module _ (z : Sizes) (i : BuildCall) (b : Built z i) (g w : ℕ) (l : DrawCall) 
   held-is : key .held ≡ H
   held-is =
       let f = fits-held Z (m .number) (passed .sizes) (m .number-fits) in
-      ap (λ (h : Held). offerAll (packedKeyRow z i m) (dim z) (record { held = h; ones = m .ones; twos = m .twos }) .held) (begun (m .number) (z .n) (dim z) w f (packedKeyRow z i m) row-size row-good (m .before) .1)
+      ap (λ (h : Held). offerAll (packedKeyRow z i m) (dim z) (record { held = h; ones = m .ones; twos = m .twos }) .held)
+      (begun (m .number) (z .n) (dim z) w f (packedKeyRow z i m) row-size row-good (m .before) .1)
       ∙ offered (m .number) (z .n) (dim z) w f (packedKeyRow z i m) row-size row-good (m .ones) (m .twos)
-      (m .ones-size ∙ ap (λ (x : ℕ). dim z * wordsFor x) (sym size)) (m .twos-size ∙ ap (λ (x : ℕ). dim z * wordsFor x) (sym size)) (dim z) (le-refl (dim z)) .held-is
+      (m .ones-size ∙ ap (λ (x : ℕ). dim z * wordsFor x) (sym size)) (m .twos-size ∙ ap (λ (x : ℕ). dim z * wordsFor x) (sym size)) (dim z)
+      (le-refl (dim z)) .held-is
 
   packed-passed : checkPackedRefusal (carriedCheck z i g w l m) ≡ 0
   packed-passed = packed-not-refused (carriedCheck z i g w l m) (ap (λ (x : Checked). x .refusal) end-to-end)
 
   call-passes : callRefusal (key .held) (m .number) (length (key .ones)) (length (key .twos)) (length (m .workOnes)) (length (m .workTwos)) ≡ 0
   unfolding checkPackedRefusal
-  call-passes = passed-first (callRefusal (key .held) (m .number) (length (key .ones)) (length (key .twos)) (length (m .workOnes)) (length (m .workTwos))) _ packed-passed .0
+  call-passes = passed-first (callRefusal (key .held) (m .number) (length (key .ones)) (length (key .twos)) (length (m .workOnes)) (length (m .workTwos))) _
+      packed-passed .0
 
   rows-pass : planesRefusal (key .ones) (key .twos) (key .held .k) (rowTrits (key .held)) ≡ 0
   rows-pass =
@@ -246,7 +262,8 @@ module _ (z : Sizes) (i : BuildCall) (b : Built z i) (g w : ℕ) (l : DrawCall) 
       let e : rowTrits (key .held) ≡ codim z = ap (λ (h : Held). rowTrits h) held-is ∙ size in
       let k : key .held .k ≡ dim z = ap (λ (h : Held). h .k) held-is in
       sym (first-goes (sym rows-pass) refl
-      (first-goes (sym (ap (planesRefusal (l .y .ones) (l .y .twos) 1) e ∙ passed .syndrome)) refl (sym (ap (planesRefusal (sExit Z l .ones) (sExit Z l .twos) 1) k ∙ s-passes))))
+      (first-goes (sym (ap (planesRefusal (l .y .ones) (l .y .twos) 1) e ∙ passed .syndrome)) refl
+      (sym (ap (planesRefusal (sExit Z l .ones) (sExit Z l .twos) 1) k ∙ s-passes))))
 
   planes-passed-all : checkRefusal (carriedPlanes z i g w l m) ≡ 0
   unfolding checkRefusal

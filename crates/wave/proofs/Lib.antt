@@ -1,4 +1,5 @@
--- The theorems: first, cases beside the stars; the syndrome and the secret matrix, what draws reach over vectors and over calls, the verifier, end to end; demand 3 whole; last, the starred cases.
+-- The theorems: first, cases beside the stars; the syndrome and the secret matrix, what draws reach over
+-- vectors and over calls, the verifier, end to end; demand 3 whole; last, the starred cases.
 pub mod Beside
 pub mod Syndrome
 pub mod Reach

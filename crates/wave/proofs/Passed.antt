@@ -135,7 +135,8 @@ no-choice-differs z {p} {y1} {y2} {ov} {v1} {v2} {ou} {u1} {u2} {e1} {e2} {s1} {
 
 -- every length of a draw
 pub lengths-same : (z : Sizes) (l : DrawCall) → differs z (l .secret) ≡ false
-    → choicesDiffer z (length (l .p)) (length (l .y .ones)) (length (l .y .twos)) (length (l .orderV)) (length (l .v .ones)) (length (l .v .twos)) (length (l .orderU)) (length (l .u .ones)) (length (l .u .twos))
+    → choicesDiffer z (length (l .p)) (length (l .y .ones)) (length (l .y .twos)) (length (l .orderV)) (length (l .v .ones)) (length (l .v .twos))
+    (length (l .orderU)) (length (l .u .ones)) (length (l .u .twos))
     (length (l .word .ones)) (length (l .word .twos)) (length (l .s .ones)) (length (l .s .twos)) (length (l .work .ones)) (length (l .work .twos)) ≡ false
     → drawLengthsDiffer z l ≡ false
 unfolding drawLengthsDiffer

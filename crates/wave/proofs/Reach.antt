@@ -30,7 +30,8 @@ use Rattle.scheme.specs.Draw.{Choices, placed, pivotsV, suppliedV, drawV, first
 use Rattle.scheme_laws.proofs.Pairs.{pair-left, pair-right, pair-forced, join-low, join-high, secret-u, secret-v, whole-u, whole-v, by-rows}
 use Rattle.scheme.proofs.Ranges.{sizes-fit, codim-dim}
 use Rattle.scheme_laws.proofs.Ended.{Builds, build-passed, build-ends}
-use Rattle.scheme_laws.proofs.Draws.{Valid, choices-valid, valid-choices, Passes, passes-released, released-passes, parts, first-below, either-part, keptV, keptU, drawV-good, drawU-good, last-below, last-pair}
+use Rattle.scheme_laws.proofs.Draws.{Valid, choices-valid, valid-choices, Passes, passes-released, released-passes, parts, first-below, either-part, keptV}
+use Rattle.scheme_laws.proofs.Draws.{keptU, drawV-good, drawU-good, last-below, last-pair}
 use Rattle.wave.specs.Terms.{sized, Terms}
 use Rattle.wave.specs.Vectors.{Released, Releases}
 use Rattle.wave.proofs.Syndrome.{syndrome-iff}
@@ -70,7 +71,8 @@ module _ (z : Sizes) (s : Secret) (order : List ℕ) (bu : Builds z s order) whe
     where
       iff : HasSyndrome (codim z) (dim z) (keyRow z s order) e y
           ↔ ((x : ℕ) → x < codim z → times (places z) (secretMatrix z s) (placed p e) x ≡ times (places z) (secretMatrix z s) (start z p y) x)
-      iff = syndrome-iff (codim z) (dim z) (places z) (secretMatrix z s) (arranged (codim z) (places z) (secretMatrix z s) order) (codim-dim z (bu .ranges)) (build-ends z s order bu) y e
+      iff = syndrome-iff (codim z) (dim z) (places z) (secretMatrix z s) (arranged (codim z) (places z) (secretMatrix z s) order) (codim-dim z (bu .ranges))
+          (build-ends z s order bu) y e
 
 -- ---- from a draw to the terms
 
@@ -109,7 +111,8 @@ module _ (z : Sizes) (s : Secret) (order : List ℕ) (y e : Vector) (bu : Builds
       rank-iff (ru z) (half z) (s .hu) (without (lastU z ch) (range (half z)))
       (λ q m. order-good (half z) (range (half z)) (range-order (half z)) .1 q (without-out (lastU z ch) (range (half z)) q m .0)) .1
       (λ v. spans-mono (ru z) (half z) (s .hu) (firstU z ch) (without (lastU z ch) (range (half z))) v
-      (λ q m. without-in (lastU z ch) (range (half z)) q (range-order (half z) .every q (low-first q m)) (parts (half z) (ru z + gapU z) (ch .orderU) (valid .orderU) .2 q m))
+      (λ q m. without-in (lastU z ch) (range (half z)) q (range-order (half z) .every q (low-first q m))
+      (parts (half z) (ru z + gapU z) (ch .orderU) (valid .orderU) .2 q m))
       (rank-iff (ru z) (half z) (s .hu) (firstU z ch) low-first .0 (passes .fullU) v))
     where
       low-first : Below (half z) (firstU z ch)
@@ -325,7 +328,8 @@ module _ (z : Sizes) (s : Secret) (order : List ℕ) (y e : Vector) (bu : Builds
 
       off : (q : ℕ) → elem q (pivotsV z s chF) ≡ false → (t : Bool) → ltb q (half z) ≡ t → eVF q ≡ suppliedV z s chF q
       off q m true t =
-          sym (fill-own others-V eVF (chF .tritsV) zeros q (without-distinct (pivotsV z s chF) orderVF (order-good (half z) orderVF orderVF-good .0)) (λ j h. refl)
+          sym (fill-own others-V eVF (chF .tritsV) zeros q (without-distinct (pivotsV z s chF) orderVF (order-good (half z) orderVF orderVF-good .0))
+          (λ j h. refl)
           (without-in (pivotsV z s chF) orderVF q (orderVF-good .every q (ltb-true q (half z) t)) m))
       off q m false t = rw t (sym (fill-off others-V (chF .tritsV) zeros q (refuted (elem q others-V) none)))
         where
@@ -348,21 +352,30 @@ module _ (z : Sizes) (s : Secret) (order : List ℕ) (y e : Vector) (bu : Builds
 
       free-size : length free ≡ gapU z
       free-size =
-          omega (arith, fullUF, ap length first-is, rest-size, without-length (pivotsU z s chF) firstF (pa .0) (keptU z s chF validF .distinct) (λ q m. pivots-elem (ru z) (half z) (s .hu) firstF q m))
+          omega (
+            arith,
+            fullUF,
+            ap length first-is,
+            rest-size,
+            without-length (pivotsU z s chF) firstF (pa .0) (keptU z s chF validF .distinct) (λ q m. pivots-elem (ru z) (half z) (s .hu) firstF q m),
+          )
 
       last-value : (j : ℕ) → j < length (lastU z chF) → forced s eVF (getD (lastU z chF) j 0) (chF .valuesU (gapU z + j)) ≡ eUF (getD (lastU z chF) j 0)
       last-value j h =
           ap (forced s eVF (getD (lastU z chF) j 0)) (pair-value j ∙ ap (λ (l : List ℕ). pairF (getD l j 0)) (sym last-is))
           ∙ pair-takes (getD (lastU z chF) j 0) (subst (λ (l : List ℕ). elem (getD (lastU z chF) j 0) l ≡ true) last-is (elem-at (lastU z chF) j h))
 
-      off : (q : ℕ) → elem q (pivotsU z s chF) ≡ false → (elem q (lastU z chF) ≡ true) ⊎ (elem q (lastU z chF) ≡ false) → (elem q free ≡ true) ⊎ (elem q free ≡ false)
+      off : (q : ℕ) → elem q (pivotsU z s chF) ≡ false → (elem q (lastU z chF) ≡ true) ⊎ (elem q (lastU z chF) ≡ false) → (elem q free ≡ true)
+          ⊎ (elem q free ≡ false)
           → eUF q ≡ suppliedU z s eVF chF q
       off q m (inl a) b = sym (fill-own (lastU z chF) eUF _ (fill free (chF .valuesU) zeros) q (pa .1) last-value a)
       off q m (inr a) (inl b) =
           sym (fill-off (lastU z chF) (λ j. forced s eVF (getD (lastU z chF) j 0) (chF .valuesU (gapU z + j))) (fill free (chF .valuesU) zeros) q a
-          ∙ fill-own free eUF (chF .valuesU) zeros q (without-distinct (pivotsU z s chF) firstF (pa .0)) (λ j h. rw (lt-ltb j (gapU z) (omega (arith, h, free-size)))) b)
+          ∙ fill-own free eUF (chF .valuesU) zeros q (without-distinct (pivotsU z s chF) firstF (pa .0))
+          (λ j h. rw (lt-ltb j (gapU z) (omega (arith, h, free-size)))) b)
       off q m (inr a) (inr b) =
-          past (ltb q (half z)) refl ∙ sym (fill-off (lastU z chF) (λ j. forced s eVF (getD (lastU z chF) j 0) (chF .valuesU (gapU z + j))) (fill free (chF .valuesU) zeros) q a ∙ fill-off free (chF .valuesU) zeros q b)
+          past (ltb q (half z)) refl ∙ sym (fill-off (lastU z chF) (λ j. forced s eVF (getD (lastU z chF) j 0) (chF .valuesU (gapU z + j)))
+          (fill free (chF .valuesU) zeros) q a ∙ fill-off free (chF .valuesU) zeros q b)
         where
           part : (elem q firstF ≡ true) ⊎ (elem q (lastU z chF) ≡ true) → ⊥
           part (inl k) = true≢false (sym (without-in (pivotsU z s chF) firstF q k m) ∙ b)
@@ -379,7 +392,8 @@ module _ (z : Sizes) (s : Secret) (order : List ℕ) (y e : Vector) (bu : Builds
       let g = order-good (places z) (keyOrder z s order) o in
       let l = elem-at (keyOrder z s order) i (omega (arith, o .size)) in
       rw (drawnV, drawnU)
-      (whole-back (getD (keyOrder z s order) i 0) (g .1 (getD (keyOrder z s order) i 0) l) ∙ fill-at (keyOrder z s order) e zeros i (g .0) (omega (arith, o .size)))
+      (whole-back (getD (keyOrder z s order) i 0) (g .1 (getD (keyOrder z s order) i 0) l)
+      ∙ fill-at (keyOrder z s order) e zeros i (g .0) (omega (arith, o .size)))
 
   terms-released : Releases z s (keyOrder z s order) y e
   terms-released =
@@ -394,12 +408,14 @@ module _ (z : Sizes) (s : Secret) (order : List ℕ) (y e : Vector) (bu : Builds
 -- ---- for a key that a build released, and its rows as they were released
 
 -- the build passed its tests, and they do not speak of g and w
-pub released-builds : (z : Sizes) (s : Secret) (start p : List ℕ) (R : Key) → Released z s start p R → (g w : ℕ) → sizesFit (sized z g w) ≡ true → Builds (sized z g w) s start
+pub released-builds : (z : Sizes) (s : Secret) (start p : List ℕ) (R : Key) → Released z s start p R → (g w : ℕ) → sizesFit (sized z g w) ≡ true
+    → Builds (sized z g w) s start
 released-builds z s start p R re g w h =
     let b = build-passed z s start (re .given) (re .passed) in
     record { ranges = sizes-fit (sized z g w) h; unit = b .unit; order = b .order; full-u = b .full-u; full-v = b .full-v }
 
-terms-key : (z : Sizes) (s : Secret) (p : List ℕ) (R Q : Key) (y e : Vector) → ((i j : ℕ) → i < dim z → j < codim z → R i j ≡ Q i j) → Terms z s p R y e → Terms z s p Q y e
+terms-key : (z : Sizes) (s : Secret) (p : List ℕ) (R Q : Key) (y e : Vector) → ((i j : ℕ) → i < dim z → j < codim z → R i j ≡ Q i j) → Terms z s p R y e
+    → Terms z s p Q y e
 terms-key z s p R Q y e h f =
     record {
       weighs = f .weighs;

@@ -46,17 +46,21 @@ module _ (z : Sizes) (i : BuildCall) (b : Built z i) where
   abbrev s : Secret
   s = secretOf z (i .secret)
 
-  pub ones-row : (j : ℕ) → j < dim z → onesOf (upTo (codim z) (keyRow z (secretOf z (i .secret)) (i .start) j)) (keyRowWords z) ≡ rowPart (keyExit z i .ones) (dim z) (keyRowWords z) j
+  pub ones-row : (j : ℕ) → j < dim z
+      → onesOf (upTo (codim z) (keyRow z (secretOf z (i .secret)) (i .start) j)) (keyRowWords z) ≡ rowPart (keyExit z i .ones) (dim z) (keyRowWords z) j
   unfolding keyExit keyOnesOf
   ones-row j l =
       sym (ap (λ (x : List ℕ). rowPart x (dim z) (keyRowWords z) j) (sym (exit-new (keyOnesOf z s (i .start)) (i .key .ones) b))
-      ∙ rows-part (λ k. onesOf (upTo (codim z) (keyRow z s (i .start) k)) (keyRowWords z)) (keyRowWords z) (λ k. length-ones (upTo (codim z) (keyRow z s (i .start) k)) (keyRowWords z)) (dim z) j l)
+      ∙ rows-part (λ k. onesOf (upTo (codim z) (keyRow z s (i .start) k)) (keyRowWords z)) (keyRowWords z)
+      (λ k. length-ones (upTo (codim z) (keyRow z s (i .start) k)) (keyRowWords z)) (dim z) j l)
 
-  pub twos-row : (j : ℕ) → j < dim z → twosOf (upTo (codim z) (keyRow z (secretOf z (i .secret)) (i .start) j)) (keyRowWords z) ≡ rowPart (keyExit z i .twos) (dim z) (keyRowWords z) j
+  pub twos-row : (j : ℕ) → j < dim z
+      → twosOf (upTo (codim z) (keyRow z (secretOf z (i .secret)) (i .start) j)) (keyRowWords z) ≡ rowPart (keyExit z i .twos) (dim z) (keyRowWords z) j
   unfolding keyExit keyTwosOf
   twos-row j l =
       sym (ap (λ (x : List ℕ). rowPart x (dim z) (keyRowWords z) j) (sym (exit-new (keyTwosOf z s (i .start)) (i .key .twos) b))
-      ∙ rows-part (λ k. twosOf (upTo (codim z) (keyRow z s (i .start) k)) (keyRowWords z)) (keyRowWords z) (λ k. length-twos (upTo (codim z) (keyRow z s (i .start) k)) (keyRowWords z)) (dim z) j l)
+      ∙ rows-part (λ k. twosOf (upTo (codim z) (keyRow z s (i .start) k)) (keyRowWords z)) (keyRowWords z)
+      (λ k. length-twos (upTo (codim z) (keyRow z s (i .start) k)) (keyRowWords z)) (dim z) j l)
 
   -- a row of the key's words is a row of R, and 0 past it
   pub built-row : (j : ℕ) → j < dim z → builtKey z i j ≡ upTo (codim z) (keyRow z (secretOf z (i .secret)) (i .start) j)
@@ -80,7 +84,8 @@ module _ (z : Sizes) (i : BuildCall) (b : Built z i) where
 pub handed-word : (z : Sizes) (l : DrawCall) → drawAnswer z l ≡ 0 → tritAt (wordExit z l .ones) (wordExit z l .twos) ≡ upTo (places z) (wordOf z l)
 unfolding wordExit
 handed-word z l d =
-    ap₂ tritAt (sym (exit-new (onesOf (upTo (places z) (wordOf z l)) (wordsFor (places z))) (l .word .ones) d)) (sym (exit-new (twosOf (upTo (places z) (wordOf z l)) (wordsFor (places z))) (l .word .twos) d))
+    ap₂ tritAt (sym (exit-new (onesOf (upTo (places z) (wordOf z l)) (wordsFor (places z))) (l .word .ones) d))
+    (sym (exit-new (twosOf (upTo (places z) (wordOf z l)) (wordsFor (places z))) (l .word .twos) d))
     ∙ written-back (places z) (wordOf z l)
 
 call-releases : (z : Sizes) (l : DrawCall) (e : Vector) → HandsOut z l e → Releases z (secretOf z (l .secret)) (l .p) (tritAt (l .y .ones) (l .y .twos)) e
@@ -99,7 +104,8 @@ pub under-releases : (z : Sizes) (i : BuildCall) (g w : ℕ) (l : DrawCall) (e :
     → Releases (sized z g w) (secretOf z (i .secret)) (orderExit z i) (tritAt (l .y .ones) (l .y .twos)) e
 under-releases z i g w l e u h =
     subst (λ k. Releases (sized z g w) (secretOf z k) (orderExit z i) (tritAt (l .y .ones) (l .y .twos)) e) (u .secret-is)
-    (subst (λ (p : List ℕ). Releases (sized z g w) (secretOf z (l .secret)) p (tritAt (l .y .ones) (l .y .twos)) e) (u .order-is) (call-releases (sized z g w) l e h))
+    (subst (λ (p : List ℕ). Releases (sized z g w) (secretOf z (l .secret)) p (tritAt (l .y .ones) (l .y .twos)) e) (u .order-is)
+    (call-releases (sized z g w) l e h))
 
 -- and s lent back is its last k trits
 pub handed-ones : (z : Sizes) (l : DrawCall) → drawAnswer z l ≡ 0 → sExit z l .ones ≡ onesOf (upTo (dim z) (signature z (wordOf z l))) (wordsFor (dim z))
@@ -114,10 +120,12 @@ pub handed-signature : (z : Sizes) (l : DrawCall) → drawAnswer z l ≡ 0 → t
 handed-signature z l d = ap₂ tritAt (handed-ones z l d) (handed-twos z l d) ∙ written-back (dim z) (signature z (wordOf z l))
 
 -- the terms hold of the word that a draw under a built key made
-pub drawn-terms : (z : Sizes) (i : BuildCall) → Built z i → (g w : ℕ) (l : DrawCall) → Under z i l → drawAnswer (sized z g w) l ≡ 0 → KeyTerms z i g w (l .y .ones) (l .y .twos) (wordOf (sized z g w) l)
+pub drawn-terms : (z : Sizes) (i : BuildCall) → Built z i → (g w : ℕ) (l : DrawCall) → Under z i l → drawAnswer (sized z g w) l ≡ 0
+    → KeyTerms z i g w (l .y .ones) (l .y .twos) (wordOf (sized z g w) l)
 drawn-terms z i b g w l u d =
     let e = wordOf (sized z g w) l in
-    reach z (secretOf z (i .secret)) (i .start) (orderExit z i) (builtKey z i) (built-released z i b) g w (draw-call (sized z g w) l d .sizes) (tritAt (l .y .ones) (l .y .twos)) e .0
+    reach z (secretOf z (i .secret)) (i .start) (orderExit z i) (builtKey z i) (built-released z i b) g w (draw-call (sized z g w) l d .sizes)
+    (tritAt (l .y .ones) (l .y .twos)) e .0
     (under-releases z i g w l e u (record { passed = d; word = λ q h. ap (λ (v : Vector). v q) (handed-word (sized z g w) l d) ∙ upto-in e (places z) q h }))
 
 -- ---- from vectors to a call
@@ -135,7 +143,8 @@ order-words n ps o h j = by (decLt j (length ps))
     by (yes l) = let b = order-good n ps o .1 (getD ps j 0) (elem-at ps j l) in omega arith
     by (no f) = let e : getD ps j 0 ≡ 0 = List·getD-eq-default ps 0 (omega arith) in rw e (lit< tt)
 
-module _ (z : Sizes) (i : BuildCall) (b : Built z i) (g w : ℕ) (fit : sizesFit (sized z g w) ≡ true) (yOnes yTwos : List ℕ) (ly : LentSyndrome z yOnes yTwos) (e : Vector)
+module _ (z : Sizes) (i : BuildCall) (b : Built z i) (g w : ℕ) (fit : sizesFit (sized z g w) ≡ true) (yOnes yTwos : List ℕ) (ly : LentSyndrome z yOnes yTwos)
+    (e : Vector)
     (re : Releases (sized z g w) (secretOf z (i .secret)) (orderExit z i) (tritAt yOnes yTwos) e) where
   abbrev Z : Sizes
   Z = sized z g w
@@ -174,9 +183,11 @@ module _ (z : Sizes) (i : BuildCall) (b : Built z i) (g w : ℕ) (fit : sizesFit
   unfolding secretDiffers
   made-lengths =
       lengths-same Z made (build-call z i b .lengths)
-      (no-choice-differs Z (p-order .size) (ly .ones-size) (ly .twos-size) (valid .orderV .size) (length-ones (ch .tritsV) (wordsFor (z .kv))) (length-twos (ch .tritsV) (wordsFor (z .kv)))
+      (no-choice-differs Z (p-order .size) (ly .ones-size) (ly .twos-size) (valid .orderV .size) (length-ones (ch .tritsV) (wordsFor (z .kv)))
+      (length-twos (ch .tritsV) (wordsFor (z .kv)))
       (valid .orderU .size) (length-ones (ch .valuesU) (wordsFor (z .ku))) (length-twos (ch .valuesU) (wordsFor (z .ku)))
-      (length-zeros (wordsFor (places z))) (length-zeros (wordsFor (places z))) (length-zeros (wordsFor (dim z))) (length-zeros (wordsFor (dim z))) (length-zeros (drawWorkWords z)) (length-zeros (drawWorkWords z)))
+      (length-zeros (wordsFor (places z))) (length-zeros (wordsFor (places z))) (length-zeros (wordsFor (dim z))) (length-zeros (wordsFor (dim z)))
+      (length-zeros (drawWorkWords z)) (length-zeros (drawWorkWords z)))
 
   made-secret : secretRefusal Z (i .secret) ≡ 0
   unfolding secretRefusal
@@ -195,8 +206,10 @@ module _ (z : Sizes) (i : BuildCall) (b : Built z i) (g w : ℕ) (fit : sizesFit
         order-u = test-order (half z) (ch .orderU) (valid .orderU);
         values-u = written-passes (z .ku) (re .choices .valuesU);
         last-u = hasZero-of (z .ku - gapU Z) (λ j. choicesOf made .valuesU (gapU Z + j))
-            (ap (λ (c : Choices). noZero (z .ku - gapU Z) (λ j. c .valuesU (gapU Z + j))) choices-are ∙ zero-no (z .ku - gapU Z) (λ j. ch .valuesU (gapU Z + j)) (valid .values));
-        draws = ap (drawRefusal Z (s z i b) (orderExit z i) (tritAt yOnes yTwos)) choices-are ∙ cut-passed Z (s z i b) (orderExit z i) (tritAt yOnes yTwos) e (sizes-fit Z fit) re;
+            (ap (λ (c : Choices). noZero (z .ku - gapU Z) (λ j. c .valuesU (gapU Z + j))) choices-are
+            ∙ zero-no (z .ku - gapU Z) (λ j. ch .valuesU (gapU Z + j)) (valid .values));
+        draws = ap (drawRefusal Z (s z i b) (orderExit z i) (tritAt yOnes yTwos)) choices-are
+            ∙ cut-passed Z (s z i b) (orderExit z i) (tritAt yOnes yTwos) e (sizes-fit Z fit) re;
       }
 
   made-answer : drawAnswer Z made ≡ 0
@@ -251,7 +264,8 @@ syndrome-lent z y =
       back = λ j h. ap (λ (v : Vector). v j) (written-back m y) ∙ upto-in y m j h;
     }
 
-pub reach-calls : (z : Sizes) (i : BuildCall) → Built z i → (g w : ℕ) → sizesFit (sized z g w) ≡ true → (yOnes yTwos : List ℕ) → LentSyndrome z yOnes yTwos → (e : Vector)
+pub reach-calls : (z : Sizes) (i : BuildCall) → Built z i → (g w : ℕ) → sizesFit (sized z g w) ≡ true → (yOnes yTwos : List ℕ) → LentSyndrome z yOnes yTwos
+    → (e : Vector)
     → SomeDraw z i g w yOnes yTwos e ↔ KeyTerms z i g w yOnes yTwos e
 reach-calls z i b g w fit yOnes yTwos ly e = (
   (λ d. iff .0 (by d)),

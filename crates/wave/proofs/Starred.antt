@@ -35,11 +35,13 @@ use Rattle.wave.proofs.ReachCalls.{handed-signature, drawn-terms}
 -- ---- the first key as a call, by computation
 
 first-built : buildAnswer (sizes4 0 4) (build4 start1) ≡ 0
-unfolding dotV anyTo bit bitAt tritAt bothSet pastEnd rowPart matrixAt rowsPastEnd first planesRefusal agree find solve inSpan keep pivots rank range isOrder sizesFit buildRefusal secretDiffers hasZero secretRefusal keyDiffers buildLengthsDiffer buildAnswer
+unfolding dotV anyTo bit bitAt tritAt bothSet pastEnd rowPart matrixAt rowsPastEnd first planesRefusal agree find solve inSpan keep pivots rank range isOrder
+    sizesFit buildRefusal secretDiffers hasZero secretRefusal keyDiffers buildLengthsDiffer buildAnswer
 first-built = refl
 
 first-order : orderExit (sizes4 0 4) (build4 start1) ≡ start1
-unfolding dotV anyTo bit bitAt tritAt bothSet pastEnd rowPart matrixAt rowsPastEnd first planesRefusal agree find solve inSpan keep pivots rank range isOrder sizesFit secretMatrix arrange arranged buildRefusal secretDiffers hasZero secretRefusal keyDiffers buildLengthsDiffer buildAnswer orderExit
+unfolding dotV anyTo bit bitAt tritAt bothSet pastEnd rowPart matrixAt rowsPastEnd first planesRefusal agree find solve inSpan keep pivots rank range isOrder
+    sizesFit secretMatrix arrange arranged buildRefusal secretDiffers hasZero secretRefusal keyDiffers buildLengthsDiffer buildAnswer orderExit
 first-order = refl
 
 -- ---- the star over every call
@@ -64,7 +66,8 @@ never g one l u d s1 s2 =
 
     none : (i : ℕ) → i < 2 → e (2 + i) ≡ t0
     none i h =
-        sym (upto-in (signature (sizes4 g 2) e) 2 i h) ∙ sym (ap (λ (v : Vector). v i) (handed-signature (sizes4 g 2) l d)) ∙ ap₂ (λ (a b : List ℕ). tritAt a b i) s1 s2 ∙ zeros-at i h
+        sym (upto-in (signature (sizes4 g 2) e) 2 i h) ∙ sym (ap (λ (v : Vector). v i) (handed-signature (sizes4 g 2) l d))
+        ∙ ap₂ (λ (a b : List ℕ). tritAt a b i) s1 s2 ∙ zeros-at i h
 
     right : (q : ℕ) → q < 2 → isSet (placed start1 e (2 + q)) ≡ true → ⊥
     right zero h c = set-not c (none 0 (omega arith))
@@ -74,7 +77,12 @@ never g one l u d s1 s2 =
 -- ---- the table
 
 pub starred : Starred
-unfolding dotV anyTo sumTo upTo bit fromBits bitAt tritAt tabulate onesOf twosOf zeroWords bothSet pastEnd rowsOf rowPart matrixAt rowsPastEnd first planesRefusal byteOf digitOf packedAt packedRow packedBytes badByte packedRefusal packRefusal packExit unpackRefusal unpackOnes unpackTwos agree find solve inSpan keep pivots rank without fill range isOrder digitRows timesKey fullWord fullWeight saysYes numbersFit sound heldRow heldKey callRefusal packedLengths packedContents checkPackedRefusal heldWeight answered checkPackedAnswer sizesFit secretMatrix arrange arranged rowOfR buildRefusal pivotsV suppliedV drawV pivotsU suppliedU drawU drawn drawRefusal secretDiffers hasZero secretRefusal spaceExit keyDiffers buildLengthsDiffer buildAnswer orderExit keyOnesOf keyTwosOf keyExit buildWorkExit choicesDiffer drawLengthsDiffer choicesRefusal drawAnswer wordOf wordExit sExit drawWorkExit
+unfolding dotV anyTo sumTo upTo bit fromBits bitAt tritAt tabulate onesOf twosOf zeroWords bothSet pastEnd rowsOf rowPart matrixAt rowsPastEnd first
+    planesRefusal byteOf digitOf packedAt packedRow packedBytes badByte packedRefusal packRefusal packExit unpackRefusal unpackOnes unpackTwos agree find solve
+    inSpan keep pivots rank without fill range isOrder digitRows timesKey fullWord fullWeight saysYes numbersFit sound heldRow heldKey callRefusal packedLengths
+    packedContents checkPackedRefusal heldWeight answered checkPackedAnswer sizesFit secretMatrix arrange arranged rowOfR buildRefusal pivotsV suppliedV drawV
+    pivotsU suppliedU drawU drawn drawRefusal secretDiffers hasZero secretRefusal spaceExit keyDiffers buildLengthsDiffer buildAnswer orderExit keyOnesOf
+    keyTwosOf keyExit buildWorkExit choicesDiffer drawLengthsDiffer choicesRefusal drawAnswer wordOf wordExit sExit drawWorkExit
 starred = record {
   packs-88 = refl;
   packed-88 = refl;

@@ -69,7 +69,8 @@ module _ (m k n : ℕ) (H : Matrix) (a : Arrangement) (size : m + k ≡ n) (g : 
     where
       plain : (j : ℕ) → j < m → addT (join m y zeros j) (dotV (λ i. join m y zeros (m + i)) (λ i. rowOfR m n H p i j) k) ≡ y j
       plain j l =
-          ap₂ addT (join-low m y zeros j l) (dot-zero k (λ i. join m y zeros (m + i)) (λ i. rowOfR m n H p i j) (λ i o. ap (λ (x : Trit). mulT x (rowOfR m n H p i j)) (join-high m y zeros i)))
+          ap₂ addT (join-low m y zeros j l) (dot-zero k (λ i. join m y zeros (m + i)) (λ i. rowOfR m n H p i j)
+          (λ i o. ap (λ (x : Trit). mulT x (rowOfR m n H p i j)) (join-high m y zeros i)))
           ∙ add-zero-r (y j)
 
   -- a word has the syndrome y exactly when the secret matrix takes it where it takes (y, 0...0)

@@ -33,7 +33,8 @@ module _ (z : Sizes) (s : Secret) (start p : List ℕ) (R : Key) (re : Released 
       (c, yes-weight (codim z) (dim z) R y (signature z e) w .1 c)
 
   -- the build ended with n-k columns kept: p is an order of the n places, and the columns at its first n-k places are independent
-  pub build-ended : (arranged (codim z) (places z) (secretMatrix z s) start .kept ≡ codim z) × Order (places z) p × Kept (codim z) (places z) (secretMatrix z s) (take (codim z) p)
+  pub build-ended : (arranged (codim z) (places z) (secretMatrix z s) start .kept ≡ codim z) × Order (places z) p
+      × Kept (codim z) (places z) (secretMatrix z s) (take (codim z) p)
   build-ended =
       let a = build-ends z s start (build-passed z s start (re .given) (re .passed)) in
       (a .count, (rw (re .order) (a .order)), rw (re .order) (a .kept))

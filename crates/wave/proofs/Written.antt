@@ -50,7 +50,8 @@ unfolding onesOf
 ones-words v n j = by (decLt j n)
   where
     by : Dec (j < n) → getD (onesOf v n) j 0 < 2 ^ 64
-    by (yes l) = rw (getD-tabulate n (λ k. fromBits (λ b. one (v (64 * k + b))) 64) j 0 l) (from-lt 64 (λ b. one (v (64 * j + b))) (λ b. one-lt (v (64 * j + b))))
+    by (yes l) = rw (getD-tabulate n (λ k. fromBits (λ b. one (v (64 * k + b))) 64) j 0 l)
+        (from-lt 64 (λ b. one (v (64 * j + b))) (λ b. one-lt (v (64 * j + b))))
     by (no f) = let e : getD (onesOf v n) j 0 ≡ 0 = List·getD-eq-default (onesOf v n) 0 (omega (arith, length-ones v n)) in rw e (lit< tt)
 
 pub twos-words : (v : Vector) (n : ℕ) → Bits 64 (twosOf v n)
@@ -58,7 +59,8 @@ unfolding twosOf
 twos-words v n j = by (decLt j n)
   where
     by : Dec (j < n) → getD (twosOf v n) j 0 < 2 ^ 64
-    by (yes l) = rw (getD-tabulate n (λ k. fromBits (λ b. two (v (64 * k + b))) 64) j 0 l) (from-lt 64 (λ b. two (v (64 * j + b))) (λ b. two-lt (v (64 * j + b))))
+    by (yes l) = rw (getD-tabulate n (λ k. fromBits (λ b. two (v (64 * k + b))) 64) j 0 l)
+        (from-lt 64 (λ b. two (v (64 * j + b))) (λ b. two-lt (v (64 * j + b))))
     by (no f) = let e : getD (twosOf v n) j 0 ≡ 0 = List·getD-eq-default (twosOf v n) 0 (omega (arith, length-twos v n)) in rw e (lit< tt)
 
 pub zero-words : (n : ℕ) → Bits 64 (zeroWords n)

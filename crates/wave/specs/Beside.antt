@@ -1,4 +1,5 @@
--- Cases that the stars leave open, on the paper's small secret: draws, refusals, each term of demand 3 at work, and a key carried to the module. More stand in packing, verdict, checker and signer. Assumes nothing.
+-- Cases that the stars leave open, on the paper's small secret: draws, refusals, each term of demand 3 at work, and a
+-- key carried to the module. More stand in packing, verdict, checker and signer. Assumes nothing.
 use mathlib.Core.Path.{_≡_}
 use mathlib.Core.Bool.{true}
 use mathlib.Core.List.{List, [], _∷_}

@@ -1,4 +1,5 @@
--- Demand 3, whole, in one record: what draws reach, what the verdict says, and both halves end to end. For all sizes, over the answers of the calls and the words that they are lent. Assumes nothing.
+-- Demand 3, whole, in one record: what draws reach, what the verdict says, and both halves end to end. For all
+-- sizes, over the answers of the calls and the words that they are lent. Assumes nothing.
 use mathlib.Core.Path.{_≡_}
 use mathlib.Core.Bool.{true}
 use mathlib.Core.Logic.{_↔_}
@@ -20,7 +21,8 @@ pub record DemandThree : Type 0 where
   -- every syndrome: each y of n-k trits can be lent
   pub every-syndrome : (z : Sizes) (y : Vector) → LentAs z y
   -- reach: under any key that our builder released, at any g and w allowed, for any y, some draw releases a word exactly when the word meets the terms
-  pub reach : (z : Sizes) (i : BuildCall) → Built z i → (g w : ℕ) → sizesFit (sized z g w) ≡ true → (yOnes yTwos : List ℕ) → LentSyndrome z yOnes yTwos → (e : Vector)
+  pub reach : (z : Sizes) (i : BuildCall) → Built z i → (g w : ℕ) → sizesFit (sized z g w) ≡ true → (yOnes yTwos : List ℕ) → LentSyndrome z yOnes yTwos
+      → (e : Vector)
       → SomeDraw z i g w yOnes yTwos e ↔ KeyTerms z i g w yOnes yTwos e
   -- the verifier: a check that is not refused says yes exactly when some word of weight w that has the syndrome y under the held key extends s
   pub verifier : (c : Check) → checkAnswer c .refusal ≡ 0
@@ -29,9 +31,11 @@ pub record DemandThree : Type 0 where
   pub packed-verifier : (c : PackedCheck) → checkPackedAnswer c .refusal ≡ 0
       → (checkPackedAnswer c .yes ≡ 1) ↔ HeldFound (c .held) (c .ones) (c .twos) (packedRow (rowTrits (c .held)) (c .y)) (packedRow (c .held .k) (c .s))
   -- uniqueness: under the key that a check finds held, no two words of one syndrome extend one signature
-  pub one-word : (c : Check) → checkAnswer c .refusal ≡ 0 → (y s e f : Vector) → HeldExtending (c .held) (c .ones) (c .twos) y s e → HeldExtending (c .held) (c .ones) (c .twos) y s f
+  pub one-word : (c : Check) → checkAnswer c .refusal ≡ 0 → (y s e f : Vector) → HeldExtending (c .held) (c .ones) (c .twos) y s e
+      → HeldExtending (c .held) (c .ones) (c .twos) y s f
       → (q : ℕ) → q < c .held .n → e q ≡ f q
-  pub packed-one-word : (c : PackedCheck) → checkPackedAnswer c .refusal ≡ 0 → (y s e f : Vector) → HeldExtending (c .held) (c .ones) (c .twos) y s e → HeldExtending (c .held) (c .ones) (c .twos) y s f
+  pub packed-one-word : (c : PackedCheck) → checkPackedAnswer c .refusal ≡ 0 → (y s e f : Vector) → HeldExtending (c .held) (c .ones) (c .twos) y s e
+      → HeldExtending (c .held) (c .ones) (c .twos) y s f
       → (q : ℕ) → q < c .held .n → e q ≡ f q
   -- end to end: pack the rows of a built key, begin, store them, pack y and the s of a release, check: yes, with weight w
   pub end-to-end : (z : Sizes) (i : BuildCall) → Built z i → (g w : ℕ) (l : DrawCall) → Under z i l → drawAnswer (sized z g w) l ≡ 0 → (m : Host z)

@@ -1,4 +1,5 @@
--- The small secret of the paper's worked cases ("At the edges"), its two keys, and calls with them: what is lent for outputs and working space holds anything. Assumes nothing.
+-- The small secret of the paper's worked cases ("At the edges"), its two keys, and calls with them:
+-- what is lent for outputs and working space holds anything. Assumes nothing.
 use mathlib.Core.Path.{refl}
 use mathlib.Core.List.{List, [], _∷_}
 use Prim.Native.Nat.{ℕ}

@@ -17,7 +17,8 @@ use Rattle.wave.specs.Examples.{sizes4, secret4, start1, key1, start2, y
 
 -- no draw makes 1200, at a gap: at w = 2, whatever y and the choices, no draw under the first key that is not refused has s = 00
 abbrev pub NoDrawMakes1200 : ℕ → Type 0
-NoDrawMakes1200 g = (l : DrawCall) → Under (sizes4 0 4) (build4 start1) l → drawAnswer (sizes4 g 2) l ≡ 0 → sExit (sizes4 g 2) l .ones ≡ 0 ∷ [] → sExit (sizes4 g 2) l .twos ≡ 0 ∷ [] → ⊥
+NoDrawMakes1200 g = (l : DrawCall) → Under (sizes4 0 4) (build4 start1) l → drawAnswer (sizes4 g 2) l ≡ 0 → sExit (sizes4 g 2) l .ones ≡ 0 ∷ []
+    → sExit (sizes4 g 2) l .twos ≡ 0 ∷ [] → ⊥
 
 -- the gap of these cases
 abbrev pub gap4 : ℕ
@@ -52,7 +53,8 @@ pub record Starred : Type 0 where
   pub key-ones-1203 : keyExit (sizes4 0 4) (build4 start2) .ones ≡ 0 ∷ 0 ∷ []
   pub key-twos-1203 : keyExit (sizes4 0 4) (build4 start2) .twos ≡ 3 ∷ 1 ∷ []
   -- columns 10, 10, 01, 10 end in order (0,2,3,1), the last column being tried at j = l = 1
-  pub last-column : arranged 2 4 (matrix ((1 ∷ 1 ∷ 0 ∷ 1 ∷ []) ∷ (0 ∷ 0 ∷ 1 ∷ 0 ∷ []) ∷ [])) (0 ∷ 1 ∷ 2 ∷ 3 ∷ []) ≡ record { kept = 2; order = 0 ∷ 2 ∷ 3 ∷ 1 ∷ [] }
+  pub last-column : arranged 2 4 (matrix ((1 ∷ 1 ∷ 0 ∷ 1 ∷ []) ∷ (0 ∷ 0 ∷ 1 ∷ 0 ∷ []) ∷ [])) (0 ∷ 1 ∷ 2 ∷ 3 ∷ []) ≡
+      record { kept = 2; order = 0 ∷ 2 ∷ 3 ∷ 1 ∷ [] }
   -- under the first key, y = 12: V trit 2 releases 2111 at w = 4, whichever the U value; its s is 11
   pub word-2111 : word4 0 4 2 1 ≡ 2 ∷ 1 ∷ 1 ∷ 1 ∷ []
   pub released-2111 : refusal4 0 4 2 1 ≡ 0

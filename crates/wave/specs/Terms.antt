@@ -1,4 +1,5 @@
--- Demand 3 in its terms, which the paper defines itself ("The words of demand 3"): over the answers of the calls and the words that they are lent. Assumes nothing.
+-- Demand 3 in its terms, which the paper defines itself ("The words of demand 3"): over the
+-- answers of the calls and the words that they are lent. Assumes nothing.
 use mathlib.Core.Path.{_≡_}
 use mathlib.Core.Bool.{true}
 use mathlib.Core.List.{List}
@@ -29,7 +30,8 @@ pub record PairSet (N count : ℕ) : Type 0 where
   pub below : (q : ℕ) → elem q pairs ≡ true → q < N
 
 -- the five terms: weight w; the syndrome y; k_U - g distinct secret pairs; both trits of each not 0; H_U keeps rank r_U on the other pairs
--- (the word e is in public places, and `placed p e` is the same word in secret places: public trit i stands at secret place p(i), pair j is secret places j and N + j)
+-- (the word e is in public places, and `placed p e` is the same word in secret places: public
+-- trit i stands at secret place p(i), pair j is secret places j and N + j)
 pub record Terms (z : Sizes) (s : Secret) (p : List ℕ) (R : Key) (y e : Vector) : Type 0 where
   pub weighs : weightV e (places z) ≡ z .w
   pub has-syndrome : HasSyndrome (codim z) (dim z) R e y

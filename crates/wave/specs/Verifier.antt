@@ -1,4 +1,5 @@
--- The verifier, which is the checker's call that gives the verdict ("The words of demand 3"), and a key and a signature on their way from the editor to the module ("The two halves"). Assumes nothing.
+-- The verifier, which is the checker's call that gives the verdict ("The words of demand 3"), and a key and a
+-- signature on their way from the editor to the module ("The two halves"). Assumes nothing.
 use mathlib.Core.Path.{_≡_}
 use mathlib.Core.List.{List}
 use Prim.Native.Nat.{ℕ, _*_, _≤_, _<_}
@@ -33,7 +34,8 @@ HeldFound h ones twos y s = Found (rowTrits h) (h .k) (h .w) (heldKey h ones two
 
 -- ---- end to end
 
--- what the hosts lend on the way, beside what build and draw are lent: a key number; a state of any content; planes for the key, bytes for its rows, y and s, working space, of any content too, of the lengths that the sizes say
+-- what the hosts lend on the way, beside what build and draw are lent: a key number; a state of any content; planes for the
+-- key, bytes for its rows, y and s, working space, of any content too, of the lengths that the sizes say
 pub record Host (z : Sizes) : Type 0 where
   pub number : ℕ
   pub before : Held

@@ -83,8 +83,10 @@ pub extern "C" fn wave_draw(
         (now («b_ones» .entry)) (now («b_twos» .entry)) (now («c_ones» .entry)) (now («c_twos» .entry)))
         (now (p .entry)) (now («y_ones» .entry)) (now («y_twos» .entry)) (now («v_order» .entry)) (now («v_ones» .entry)) (now («v_twos» .entry))
         (now («u_order» .entry)) (now («u_ones» .entry)) (now («u_twos» .entry))
-        (now («word_ones» .entry)) (now («word_twos» .entry)) (now («s_ones» .entry)) (now («s_twos» .entry)) (now («work_ones» .entry)) (now («work_twos» .entry))) in
-        (r ≡ drawAnswer z i) × (pairOf (now («word_ones» .exit)) (now («word_twos» .exit)) ≡ wordExit z i) × (pairOf (now («s_ones» .exit)) (now («s_twos» .exit)) ≡ sExit z i)
+        (now («word_ones» .entry)) (now («word_twos» .entry)) (now («s_ones» .entry)) (now («s_twos» .entry)) (now («work_ones» .entry))
+        (now («work_twos» .entry))) in
+        (r ≡ drawAnswer z i) × (pairOf (now («word_ones» .exit)) (now («word_twos» .exit)) ≡ wordExit z i)
+        × (pairOf (now («s_ones» .exit)) (now («s_twos» .exit)) ≡ sExit z i)
         × (pairOf (now («work_ones» .exit)) (now («work_twos» .exit)) ≡ drawWorkExit z i)) ⌝ }
 {
     let outcome = draw::draw(

@@ -56,8 +56,8 @@ returns-2 c =
     let after-add-times = c .before .before .before .before in
     let else1 = after-add-times .before .before .before in
     let after-sum-refusal = else1 .before in
-    let z = sym (after-sum-refusal .sum-refusal .ensures) ∙
-    else1 .if1 .left in
+    let z = sym (after-sum-refusal .sum-refusal .ensures)
+    ∙ else1 .if1 .left in
     let w = reads-words (after-add-times .add-times .ensures) refl (λ j. c .before .before .slice-known3 .given j .fits)
     (λ j. c .slice-known4 .given j .fits) in
     (sym z, (w .ones-are ∙ exit-new _ _ z, w .twos-are ∙ exit-new _ _ z))

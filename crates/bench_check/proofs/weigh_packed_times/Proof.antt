@@ -14,8 +14,8 @@ use Rattle.bench_check.proofs.weigh_packed_times.Tie as tie
 
 abbrev Inv-loop : tie.InvT-loop
 Inv-loop held ones twos y s work-ones₀ work-twos₀ times weight₀ i₀ work-ones work-twos weight i =
-    (i ≤ times) × (length work-ones ≡ length work-ones₀) × (length work-twos ≡ length work-twos₀) ×
-    (weight ≡ after i (heldWeight held ones twos (packedRow (rowTrits held) y) (packedRow (held .k) s)))
+    (i ≤ times) × (length work-ones ≡ length work-ones₀) × (length work-twos ≡ length work-twos₀)
+    × (weight ≡ after i (heldWeight held ones twos (packedRow (rowTrits held) y) (packedRow (held .k) s)))
 
 abbrev μ-loop : tie.MeasureT-loop
 μ-loop held ones twos y s work-ones₀ work-twos₀ times weight₀ i₀ work-ones work-twos weight i = times - i

@@ -13,8 +13,8 @@ use Rattle.bench_check.proofs.weigh_times.Tie as tie
 
 abbrev Inv-loop : tie.InvT-loop
 Inv-loop held ones twos y-ones y-twos s-ones s-twos work-ones₀ work-twos₀ times weight₀ i₀ work-ones work-twos weight i =
-    (i ≤ times) × (length work-ones ≡ length work-ones₀) × (length work-twos ≡ length work-twos₀) ×
-    (weight ≡ after i (heldWeight held ones twos (tritAt y-ones y-twos) (tritAt s-ones s-twos)))
+    (i ≤ times) × (length work-ones ≡ length work-ones₀) × (length work-twos ≡ length work-twos₀)
+    × (weight ≡ after i (heldWeight held ones twos (tritAt y-ones y-twos) (tritAt s-ones s-twos)))
 
 abbrev μ-loop : tie.MeasureT-loop
 μ-loop held ones twos y-ones y-twos s-ones s-twos work-ones₀ work-twos₀ times weight₀ i₀ work-ones work-twos weight i = times - i

@@ -13,7 +13,8 @@ use Rattle.matrix.proofs.Field.{not-true, not-false}
 use Rattle.scheme.specs.declared.sizes.Sizes.{Sizes}
 use Rattle.scheme.specs.Sizes.{sizesFit}
 use Rattle.scheme.specs.Build.{buildRefusal, keyOrder}
-use Rattle.calls.specs.Lent.{planes, secretOf, Readable}
+use Rattle.calls.specs.Lent.{planes, secretOf}
+use Rattle.calls.specs.Steps.{Readable}
 use Rattle.calls.specs.BuildCall.{BuildCall, buildCall, buildLengthsDiffer, buildAnswer, orderExit, keyOnesOf, keyTwosOf, keyExit, buildWorkExit}
 use Rattle.calls.proofs.Exits.{work-kept}
 use Rattle.calls.proofs.Secrets.{readable}
@@ -65,8 +66,8 @@ refused z i e h g = (
 )
 
 -- lengths that are right and contents that are not refused: the secret can be read, for its words are words
-secret-read : (c : tie.After-shared-slice-known8) →
-    let s = start-from-shared-slice-known8 c in
+secret-read : (c : tie.After-shared-slice-known8)
+    → let s = start-from-shared-slice-known8 c in
     buildLengthsDiffer (s .args .z) (lent s) ≡ false → contents (s .args .z) (lent s) ≡ 0 → Readable (s .args .z) (lent s .secret)
 secret-read c d e =
     let s = start-from-shared-slice-known8 c in
@@ -98,8 +99,8 @@ passed : (c : tie.Else3) → contents (start-from-else3 c .args .z) (lent (start
 passed c = sym (c .before .before .test-contents .ensures) ∙ sym (c .before .code .ensures) ∙ c .if3 .left
 
 -- so the test of the ranks has the answer
-ranked : (c : tie.Else3) →
-    let z = start-from-else3 c .args .z in
+ranked : (c : tie.Else3)
+    → let z = start-from-else3 c .args .z in
     let i = lent (start-from-else3 c) in
     buildRefusal z (secretOf z (i .secret)) ≡ buildAnswer z i
 ranked c =

@@ -46,8 +46,8 @@ returns c =
 weigh-requires : tie.Need-weigh-requires
 weigh-requires c κs =
     let p =
-    check-passed _ (sym (c .before .before .before .before .test-check .ensures) ∙ sym (c .before .before .before .code .ensures) ∙
-    c .before .before .if1 .left) in record {
+    check-passed _ (sym (c .before .before .before .before .test-check .ensures) ∙ sym (c .before .before .before .code .ensures)
+    ∙ c .before .before .if1 .left) in record {
       whole = whole (p .0);
       lengths = p .1;
       contents = p .2;

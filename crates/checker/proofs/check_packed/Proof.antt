@@ -46,8 +46,8 @@ returns c =
 weigh-packed-requires : tie.Need-weigh-packed-requires
 weigh-packed-requires c κs =
     let p =
-    check-packed-passed _ (sym (c .before .before .before .before .test-packed-check .ensures) ∙ sym (c .before .before .before .code .ensures) ∙
-    c .before .before .if1 .left) in record {
+    check-packed-passed _ (sym (c .before .before .before .before .test-packed-check .ensures) ∙ sym (c .before .before .before .code .ensures)
+    ∙ c .before .before .if1 .left) in record {
       whole = whole (p .0);
       lengths = p .1;
       contents = p .2;

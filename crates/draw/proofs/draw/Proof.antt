@@ -13,7 +13,8 @@ use Rattle.matrix.proofs.Field.{not-true, not-false}
 use Rattle.scheme.specs.declared.sizes.Sizes.{Sizes}
 use Rattle.scheme.specs.Sizes.{places, dim, sizesFit}
 use Rattle.scheme.specs.Draw.{signature}
-use Rattle.calls.specs.Lent.{planes, secretOf, secretRefusal, Readable}
+use Rattle.calls.specs.Lent.{planes, secretOf, secretRefusal}
+use Rattle.calls.specs.Steps.{Readable}
 use Rattle.calls.specs.DrawCall.{DrawCall, drawCall, syndromeOf, choicesOf, drawLengthsDiffer, drawAnswer, wordOf, wordExit, sExit, drawWorkExit}
 use Rattle.calls.proofs.Exits.{work-kept}
 use Rattle.calls.proofs.Secrets.{readable}
@@ -82,8 +83,8 @@ refused z i e h g = (
 )
 
 -- lengths that are right and contents that are not refused: the secret can be read, for its words are words
-secret-read : (c : tie.After-shared-slice-known8) →
-    let s = start-from-shared-slice-known8 c in
+secret-read : (c : tie.After-shared-slice-known8)
+    → let s = start-from-shared-slice-known8 c in
     drawLengthsDiffer (s .args .z) (lent s) ≡ false → contents (s .args .z) (lent s) ≡ 0 → Readable (s .args .z) (lent s .secret)
 secret-read c d e =
     let s = start-from-shared-slice-known8 c in
@@ -99,8 +100,8 @@ secret-read c d e =
     (λ j. c .shared-slice-known8 .given j)
 
 -- and so can all that a draw reads
-all-read : (c : tie.After-shared-slice-known17) →
-    let s = start-from-shared-slice-known17 c in
+all-read : (c : tie.After-shared-slice-known17)
+    → let s = start-from-shared-slice-known17 c in
     drawLengthsDiffer (s .args .z) (lent s) ≡ false → contents (s .args .z) (lent s) ≡ 0 → Ready (s .args .z) (read s)
 all-read c d e =
     let s = start-from-shared-slice-known17 c in
@@ -122,8 +123,8 @@ lengths : (c : tie.Else2) → drawLengthsDiffer (start-from-else2 c .args .z) (l
 lengths c = same-lengths _ _ (sym (c .before .lengths-differ .ensures) ∙ c .if2 .left)
 
 -- the test of the contents tells the first refusal among them
-told : (c : tie.After-test-contents) →
-    let s = start-from-test-contents c in
+told : (c : tie.After-test-contents)
+    → let s = start-from-test-contents c in
     codeOf (c .test-contents .result) ≡ contents (s .args .z) (lent s)
 told c =
     let s = start-from-test-contents c in
@@ -138,8 +139,8 @@ passed : (c : tie.Else3) → contents (start-from-else3 c .args .z) (lent (start
 passed c = sym (told (c .before .before)) ∙ sym (c .before .code .ensures) ∙ c .if3 .left
 
 -- so the end of the draw is the answer
-ended : (c : tie.Else3) →
-    let s = start-from-else3 c in
+ended : (c : tie.Else3)
+    → let s = start-from-else3 c in
     ending (s .args .z) (lent s) ≡ drawAnswer (s .args .z) (lent s)
 ended c =
     let else2 = c .before .before .before in

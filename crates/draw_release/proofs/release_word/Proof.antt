@@ -126,8 +126,12 @@ returns c =
     let n = start-from-shape-of after-shape-of .pre in
     let e = after-shape-of .shape-of .ensures in
     let w = rw e at (after-write-places .write-places .ensures) in
-    let t = rw e at (after-write-places2 .write-places2 .ensures) in
-    (ones-sized _ (w .0) (n .word-ones-size), twos-sized _ (w .1) (n .word-ones-size), ones-sized _ (t .0) (n .s-ones-size), twos-sized _ (t .1) (n .s-ones-size))
+    let t = rw e at (after-write-places2 .write-places2 .ensures) in (
+      ones-sized _ (w .0) (n .word-ones-size),
+      twos-sized _ (w .1) (n .word-ones-size),
+      ones-sized _ (t .0) (n .s-ones-size),
+      twos-sized _ (t .1) (n .s-ones-size),
+    )
 
 pub release-word-spec : {M : Type 1} → statement M
 release-word-spec =

@@ -53,8 +53,8 @@ returns-4 c =
     let start = else1 .before .before .before .before in
     let a = start .args in
     let t = sym (c .before .too-short .ensures) ∙ c .if4 .taken in
-    let e = stream-decides (a .m) (now (a .bytes)) t ∙
-    stream-passed _ _ _ _ (else1 .if1 .left) (c .before .before .before .if2 .left) (c .before .before .if3 .left) in
+    let e = stream-decides (a .m) (now (a .bytes)) t
+    ∙ stream-passed _ _ _ _ (else1 .if1 .left) (c .before .before .before .if2 .left) (c .before .before .if3 .left) in
     (e, exit-kept _ _ e (lit< tt), exit-kept _ _ e (lit< tt))
 
 write-stream-requires : tie.Need-write-stream-requires

@@ -52,8 +52,8 @@ returns-5 c =
     let else3 = c .before .before .before .before in
     let else2 = else3 .before in
     let else1 = else2 .before in
-    let e = c .before .before .test-planes .ensures ∙
-    pack-passed _ _ _ _ (else1 .if1 .left) (c .before .before .before .if4 .left) (else2 .if2 .left) (else3 .if3 .left) in
+    let e = c .before .before .test-planes .ensures
+    ∙ pack-passed _ _ _ _ (else1 .if1 .left) (c .before .before .before .if4 .left) (else2 .if2 .left) (else3 .if3 .left) in
     (e, exit-kept _ _ (c .before .code .ensures ∙ e) (omega arith))
 
 read-bytes-requires : tie.Need-read-bytes-requires

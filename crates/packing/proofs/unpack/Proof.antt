@@ -53,8 +53,8 @@ returns-5 c =
     let else3 = c .before .before .before .before in
     let else2 = else3 .before in
     let else1 = else2 .before in
-    let e = c .before .before .test-bytes .ensures ∙
-    unpack-passed _ _ _ _ (else1 .if1 .left) (else2 .if2 .left) (else3 .if3 .left) (c .before .before .before .if4 .left) in
+    let e = c .before .before .test-bytes .ensures
+    ∙ unpack-passed _ _ _ _ (else1 .if1 .left) (else2 .if2 .left) (else3 .if3 .left) (c .before .before .before .if4 .left) in
     let f = c .before .code .ensures ∙ e in
     (e, exit-kept _ _ f (omega arith), exit-kept _ _ f (omega arith))
 
@@ -65,7 +65,8 @@ write-packed-requires c κs =
       enough = omega arith;
       trits-fit = omega arith;
       small = omega arith;
-      not-refused = sym (c .before .before .before .before .test-bytes .ensures) ∙ sym (c .before .before .before .code .ensures) ∙ c .before .before .if5 .left;
+      not-refused = sym (c .before .before .before .before .test-bytes .ensures) ∙ sym (c .before .before .before .code .ensures)
+          ∙ c .before .before .if5 .left;
     }
 
 same-length : tie.Need-same-length

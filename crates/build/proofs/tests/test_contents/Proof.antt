@@ -25,8 +25,8 @@ passed : (c : tie.Else1) → codeOf (c .before .before .test-secret .result) ≡
 passed c = sym (c .before .code .ensures) ∙ c .if1 .left
 
 -- what the test of the order told
-told : (c : tie.After-is-order) →
-    let a = start-from-else1 (c .before) .args in
+told : (c : tie.After-is-order)
+    → let a = start-from-else1 (c .before) .args in
     isOrder (places (a .z)) (now (a .start)) ≡ c .is-order .result
 told c =
     let s = start-from-else1 (c .before) in

@@ -34,8 +34,8 @@ loop-holds : tie.Need-loop-holds Inv-loop μ-loop
 loop-holds c =
     arrange-none _ _ (c .before .before .before .pre .grid) (c .before .before .before .pre .is-order)
 
-facts : (c : tie.In-loop Inv-loop μ-loop) →
-    Facts (c .before .loop .left) (c .before .loop .j) (length (now (c .before .before .before .before .before .args .order))) (c .before .loop .order)
+facts : (c : tie.In-loop Inv-loop μ-loop)
+    → Facts (c .before .loop .left) (c .before .loop .j) (length (now (c .before .before .before .before .before .args .order))) (c .before .loop .order)
 facts c = turn-facts (c .before .loop .inv) (start-from-in-loop c .pre .rank-full) (omega arith)
 
 sub-left : tie.Need-sub-left Inv-loop μ-loop

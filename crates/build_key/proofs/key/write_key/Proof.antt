@@ -42,14 +42,14 @@ abbrev grid : tie.Start Inv-loop μ-loop → Matrix
 grid s = matrixAt (s .args .w) (now (s .args .ones)) (now (s .args .twos))
 
 -- the key has room for the row of the turn
-row-fits : (c : tie.In-loop Inv-loop μ-loop) →
-    let a = start-from-in-loop c .args in
+row-fits : (c : tie.In-loop Inv-loop μ-loop)
+    → let a = start-from-in-loop c .args in
     c .before .loop .i * a .kw + a .kw ≤ a .k * a .kw
 row-fits c = row-le (start-from-in-loop c .args .kw) (c .loop-test .taken)
 
 -- the place of the turn's column is a place
-place-in : (c : tie.In-loop Inv-loop μ-loop) →
-    let a = start-from-in-loop c .args in
+place-in : (c : tie.In-loop Inv-loop μ-loop)
+    → let a = start-from-in-loop c .args in
     getD (now (a .order)) (a .rows + c .before .loop .i) 0 < a .half + a .half
 place-in c =
     let s = start-from-in-loop c in

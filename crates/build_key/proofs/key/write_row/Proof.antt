@@ -38,7 +38,8 @@ put-column-requires c κs =
     let e = after-zero-words .zero-words .ensures in
     let n = ap length e ∙ length-zeros (length (now (a .ko))) in record {
       grid = s .pre .grid;
-      nothing-put = zeros-hold (column (matrixAt (a .w) (now (a .ones)) (now (a .twos))) (a .c)) e (after-zero-words2 .zero-words2 .ensures) (s .pre .twos-size);
+      nothing-put = zeros-hold (column (matrixAt (a .w) (now (a .ones)) (now (a .twos))) (a .c)) e (after-zero-words2 .zero-words2 .ensures)
+          (s .pre .twos-size);
       small = s .pre .small;
       column = s .pre .column;
       room = omega (arith, n, s .pre .room);

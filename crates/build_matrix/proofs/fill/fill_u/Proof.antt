@@ -85,8 +85,8 @@ h-size c =
     handed-size (s .args .ru) (s .args .w) (in-loop .before .loop .i) (s .pre .h-grid) (in-loop .loop-test .taken) (c .before .row-part .ensures)
     (c .row-part2 .ensures)
 
-h-trits : (c : tie.After-row-part2 Inv-loop μ-loop) →
-    let in-loop = c .before .before in
+h-trits : (c : tie.After-row-part2 Inv-loop μ-loop)
+    → let in-loop = c .before .before in
     tritAt (now (c .before .row-part .result)) (now (c .row-part2 .result)) ≡ given (start-from-in-loop in-loop) (in-loop .before .loop .i)
 h-trits c =
     let in-loop = c .before .before in

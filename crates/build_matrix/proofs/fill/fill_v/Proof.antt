@@ -57,14 +57,14 @@ abbrev held : tie.Start Inv-loop μ-loop → Matrix
 held s = matrixAt (s .args .w) (now (s .args .ones)) (now (s .args .twos))
 
 -- there is room for both half-rows of the turn, and their numbers are small
-in-rows : (c : tie.In-loop Inv-loop μ-loop) →
-    let a = start-from-in-loop c .args in
+in-rows : (c : tie.In-loop Inv-loop μ-loop)
+    → let a = start-from-in-loop c .args in
     let i = c .before .loop .i in
     a .ru + i + (a .ru + i) + 1 < a .rows
 in-rows c = omega (arith, c .loop-test .taken, start-from-in-loop c .pre .room)
 
-small : (c : tie.In-loop Inv-loop μ-loop) →
-    let a = start-from-in-loop c .args in
+small : (c : tie.In-loop Inv-loop μ-loop)
+    → let a = start-from-in-loop c .args in
     let i = c .before .loop .i in
     a .ru + i + (a .ru + i) + 1 < 4294967296
 small c = omega (arith, in-rows c, start-from-in-loop c .pre .few)
@@ -84,8 +84,8 @@ h-size c =
     handed-size (s .args .rv) (s .args .w) (in-loop .before .loop .i) (s .pre .h-grid) (in-loop .loop-test .taken) (c .before .row-part .ensures)
     (c .row-part2 .ensures)
 
-h-trits : (c : tie.After-row-part2 Inv-loop μ-loop) →
-    let in-loop = c .before .before in
+h-trits : (c : tie.After-row-part2 Inv-loop μ-loop)
+    → let in-loop = c .before .before in
     tritAt (now (c .before .row-part .result)) (now (c .row-part2 .result)) ≡ given (start-from-in-loop in-loop) (in-loop .before .loop .i)
 h-trits c =
     let in-loop = c .before .before in

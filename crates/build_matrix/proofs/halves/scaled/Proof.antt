@@ -1,4 +1,4 @@
--- h times b times c, and h added, is h times 1 + b·c at every place (`scaled-trits`).
+-- h times b times c, and h added, is h times 1 + b·c at every place (`scaled-done`).
 -- Assumes nothing.
 use mathlib.Core.Path.{sym, ap, _∙_}
 use borrow.Author.Needs.{needs}

@@ -1,4 +1,4 @@
--- The half-rows of U and then those of V are the secret matrix (`placed-secret`).
+-- The half-rows of U and then those of V are the secret matrix (`filled-done`).
 -- Assumes nothing.
 use native.Mathlib.Omega.{arith}
 use denote.Ref.{now}

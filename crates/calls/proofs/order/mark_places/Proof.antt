@@ -5,7 +5,7 @@ use mathlib.Core.Path.{_≡_, refl, ap, _∙_}
 use native.Mathlib.Omega.{arith}
 use lib.ListN.{length, getD, take}
 use denote.Ref.{now}
-use Rattle.calls.specs.Lent.{Marked}
+use Rattle.calls.specs.Steps.{Marked}
 use Rattle.calls.proofs.Marks.{mark-length, marked-turn, marked-all}
 use Rattle.calls.proofs.order.mark_places.Statement.{statement}
 use Rattle.calls.proofs.order.mark_places.Tie as tie

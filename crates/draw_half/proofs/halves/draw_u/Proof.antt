@@ -67,8 +67,8 @@ abbrev A : tie.Start → Matrix
 A s = matrixAt (s .args .w) (now (s .args .ones)) (now (s .args .twos))
 
 -- the first part of the order has full rank
-full : (c : tie.Else1) →
-    let s = start-from-else1 c in
+full : (c : tie.Else1)
+    → let s = start-from-else1 c in
     let order = now (s .args .order) in
     rank (s .args .r) (length order) (H s) (take (s .args .r + s .args .g) order) ≡ s .args .r
 full c = sym (reduce-from-else1 c .reduce .ensures .0) ∙ c .if1 .left

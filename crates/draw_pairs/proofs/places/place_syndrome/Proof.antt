@@ -17,8 +17,8 @@ use Rattle.draw_pairs.proofs.places.place_syndrome.Statement.{statement
 use Rattle.draw_pairs.proofs.places.place_syndrome.Tie as tie
 
 abbrev Inv-loop : tie.InvT-loop
-Inv-loop ones₀ twos₀ rows w l half p count yo yt r i₀ ones twos i = (i ≤ count) ×
-    Grid ones twos rows w (placedRows l half (placed p (join i (tritAt yo yt) zeros)) (matrixAt w ones₀ twos₀))
+Inv-loop ones₀ twos₀ rows w l half p count yo yt r i₀ ones twos i = (i ≤ count)
+    × Grid ones twos rows w (placedRows l half (placed p (join i (tritAt yo yt) zeros)) (matrixAt w ones₀ twos₀))
 
 abbrev μ-loop : tie.MeasureT-loop
 μ-loop ones₀ twos₀ rows w l half p count yo yt r i₀ ones twos i = count - i

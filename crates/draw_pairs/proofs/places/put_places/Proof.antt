@@ -15,8 +15,8 @@ use Rattle.draw_pairs.proofs.places.put_places.Statement.{statement}
 use Rattle.draw_pairs.proofs.places.put_places.Tie as tie
 
 abbrev Inv-loop : tie.InvT-loop
-Inv-loop ones twos rows w u v half p from count oo₀ ot₀ j₀ oo ot j = (j ≤ count) ×
-    Reads oo ot (length oo₀) (upTo j (writtenFrom half (matrixAt w ones twos u) (matrixAt w ones twos v) p from))
+Inv-loop ones twos rows w u v half p from count oo₀ ot₀ j₀ oo ot j = (j ≤ count)
+    × Reads oo ot (length oo₀) (upTo j (writtenFrom half (matrixAt w ones twos u) (matrixAt w ones twos v) p from))
 
 abbrev μ-loop : tie.MeasureT-loop
 μ-loop ones twos rows w u v half p from count oo₀ ot₀ j₀ oo ot j = count - j

@@ -41,7 +41,8 @@ put-places-requires c κs =
     let n = ap length e ∙ length-zeros (length (now (a .oo))) in
     let p = s .pre in record {
       grid = s .pre .grid;
-      nothing-put = zeros-hold (writtenFrom (a .half) (matrixAt (a .w) (now (a .ones)) (now (a .twos)) (a .u)) (matrixAt (a .w) (now (a .ones)) (now (a .twos)) (a .v))
+      nothing-put =
+          zeros-hold (writtenFrom (a .half) (matrixAt (a .w) (now (a .ones)) (now (a .twos)) (a .u)) (matrixAt (a .w) (now (a .ones)) (now (a .twos)) (a .v))
           (now (a .p)) (a .from)) e (after-zero-words2 .zero-words2 .ensures) (p .twos-size);
       is-order = s .pre .is-order;
       small = s .pre .small;

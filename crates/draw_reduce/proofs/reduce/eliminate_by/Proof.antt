@@ -1,4 +1,4 @@
--- The places tried so far are the first ones of the order; the kept ones are as many as the rank of the columns there (`eliminate-rank`).
+-- The places tried so far are the first ones of the order; the kept ones are as many as the rank of the columns there (`went-count`).
 -- Assumes nothing.
 use Prim.Native.Nat.{_-_, _≤_}
 use mathlib.Core.Path.{_≡_}

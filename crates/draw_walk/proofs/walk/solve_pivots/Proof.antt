@@ -14,8 +14,8 @@ use Rattle.draw_walk.proofs.walk.solve_pivots.Statement.{statement}
 use Rattle.draw_walk.proofs.walk.solve_pivots.Tie as tie
 
 abbrev Inv-loop : tie.InvT-loop
-Inv-loop ones₀ twos₀ rows w r order m x e c₀ i₀ ones twos c i = (i ≤ m) ×
-    Walking rows w r e (matrixAt w ones₀ twos₀) (fill (taken r (matrixAt w ones₀ twos₀) 0 (take i order))
+Inv-loop ones₀ twos₀ rows w r order m x e c₀ i₀ ones twos c i = (i ≤ m)
+    × Walking rows w r e (matrixAt w ones₀ twos₀) (fill (taken r (matrixAt w ones₀ twos₀) 0 (take i order))
     (times (64 * w) (matrixAt w ones₀ twos₀) ((matrixAt w ones₀ twos₀) x)) ((matrixAt w ones₀ twos₀) e)) (take i order) c ones twos
 
 abbrev μ-loop : tie.MeasureT-loop

@@ -15,8 +15,8 @@ use Rattle.draw_walk.proofs.walk.supply.Statement.{statement}
 use Rattle.draw_walk.proofs.walk.supply.Tie as tie
 
 abbrev Inv-loop : tie.InvT-loop
-Inv-loop ones₀ twos₀ rows w r order m vo vt e c₀ i₀ ones twos c i = (i ≤ m) ×
-    Walking rows w r e (matrixAt w ones₀ twos₀) (fill (passed r (matrixAt w ones₀ twos₀) 0 (take i order)) (tritAt vo vt) ((matrixAt w ones₀ twos₀) e))
+Inv-loop ones₀ twos₀ rows w r order m vo vt e c₀ i₀ ones twos c i = (i ≤ m)
+    × Walking rows w r e (matrixAt w ones₀ twos₀) (fill (passed r (matrixAt w ones₀ twos₀) 0 (take i order)) (tritAt vo vt) ((matrixAt w ones₀ twos₀) e))
     (take i order) c ones twos
 
 abbrev μ-loop : tie.MeasureT-loop
@@ -73,7 +73,9 @@ supply-place-requires c κs =
     let a = s .args in
     let l = at-loop .loop in
     let q = place-below (now (a .order)) (length (now (a .order))) (l .i) (s .pre .is-order) (omega arith) in
-    let p = passed-count (now (a .order)) (matrixAt (a .w) (now (a .ones)) (now (a .twos))) {i = l .i} (s .pre .is-order) (omega arith) (s .pre .e-past) (l .inv .1) in record {
+    let p = passed-count (now (a .order)) (matrixAt (a .w) (now (a .ones)) (now (a .twos))) {i = l .i} (s .pre .is-order) (omega arith) (s .pre .e-past)
+    (l .inv .1) in
+    record {
       grid = l .inv .1 .grid .rows;
       source = s .pre .source;
       small = omega (arith, l .inv .1 .grid .rows .size, s .pre .grid .size);

@@ -15,8 +15,8 @@ use Rattle.draw_walk.proofs.walk.supply_forced.Statement.{statement}
 use Rattle.draw_walk.proofs.walk.supply_forced.Tie as tie
 
 abbrev Inv-loop : tie.InvT-loop
-Inv-loop ones₀ twos₀ rows w order from bo bt co ct uo ut g ev e i₀ ones twos i = ((from ≤ i) × (i ≤ length order)) ×
-    Grid ones twos rows w (putRow e (fill (take (i - from) (drop from order))
+Inv-loop ones₀ twos₀ rows w order from bo bt co ct uo ut g ev e i₀ ones twos i = ((from ≤ i) × (i ≤ length order))
+    × Grid ones twos rows w (putRow e (fill (take (i - from) (drop from order))
     (forcedAt order (matrixAt w ones₀ twos₀) from ev (tritAt bo bt) (tritAt co ct) (tritAt uo ut) g) ((matrixAt w ones₀ twos₀) e)) (matrixAt w ones₀ twos₀))
 
 abbrev μ-loop : tie.MeasureT-loop

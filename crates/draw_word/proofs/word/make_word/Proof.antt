@@ -70,8 +70,8 @@ unsolved c e = c .if1 .taken (c .before .code .ensures ∙ e)
 solved : (c : tie.Else1) → codeOf (solve-halves-from-else1 c .solve-halves .result) ≡ 0
 solved c = sym (c .before .code .ensures) ∙ c .if1 .left
 
-ranks : (c : tie.Else1) →
-    let s = start-from-solve-halves (solve-halves-from-else1 c) in
+ranks : (c : tie.Else1)
+    → let s = start-from-solve-halves (solve-halves-from-else1 c) in
     ranksRefusal (s .args .z) (secretOf (s .args .z) (lent s .secret)) (choicesOf (lent s)) 0 ≡ 0
 ranks c = sym (solve-halves-from-else1 c .solve-halves .ensures .0) ∙ solved c
 

@@ -54,8 +54,8 @@ few s =
     prod (s .args .l + 5) (halfWords (s .args .z)) 8197 128 (omega (arith, s .pre .small)) (omega (arith, h))
 
 -- what each half's test of its rank told
-v-told : (c : tie.After-draw-v) →
-    let s = start-from-shape-of (c .before .before .before) in
+v-told : (c : tie.After-draw-v)
+    → let s = start-from-shape-of (c .before .before .before) in
     eqb (rank (rv (s .args .z)) (half (s .args .z)) (secret s .hv) (firstV (s .args .z) (chosen s))) (rv (s .args .z)) ≡ c .draw-v .result
 v-told c =
     let after-shape-of = c .before .before .before in
@@ -63,8 +63,8 @@ v-told c =
     let v = rw (after-shape-of .shape-of .ensures) at (c .draw-v .ensures) in
     sym (test-v (s .args .z) (s .args .l) (secret s) (chosen s) (s .pre .v-is-order .size)) ∙ sym (v .0)
 
-u-told : (c : tie.After-draw-u) →
-    let s = start-from-shape-of (draw-v-from-else1 (c .before .before .before) .before .before .before) in
+u-told : (c : tie.After-draw-u)
+    → let s = start-from-shape-of (draw-v-from-else1 (c .before .before .before) .before .before .before) in
     eqb (rank (ru (s .args .z)) (half (s .args .z)) (secret s .hu) (firstU (s .args .z) (chosen s))) (ru (s .args .z)) ≡ c .draw-u .result
 u-told c =
     let after-draw-v = draw-v-from-else1 (c .before .before .before) in

@@ -1,4 +1,4 @@
--- The columns tried so far are 0, 1, .. in their order; all of them are the whole, and the kept ones are as many as the rank (`eliminate-rank`).
+-- The columns tried so far are 0, 1, .. in their order; all of them are the whole, and the kept ones are as many as the rank (`went-count`).
 -- Assumes nothing.
 use Rattle.matrix.proofs.Orders.{order-good}
 use Rattle.matrix.proofs.Counts.{range-order, range-next}

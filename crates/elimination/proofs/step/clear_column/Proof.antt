@@ -1,4 +1,4 @@
--- The rows before the pivot's and those after it are all others (`taken-all`).
+-- The rows before the pivot's and those after it are all others (`column-done`).
 -- Assumes nothing.
 use native.Mathlib.Omega.{arith}
 use borrow.Author.Needs.{needs}

@@ -1,4 +1,4 @@
--- Each turn clears one row more (`taken-turn`); none of them is the pivot's.
+-- Each turn clears one row more (`rows-turn`); none of them is the pivot's.
 -- Assumes nothing.
 use Prim.Native.Nat.{_-_, _≤_}
 use native.Mathlib.Omega.{arith}

@@ -27,15 +27,18 @@ weight-requires : tie.Need-weight-requires
 weight-requires c κs =
     let s = c .before .before .before .before in
     let a = s .args in
-    let n = handed-size (a .rows) (a .w) (a .i) (s .pre .grid) (s .pre .i-in) (c .before .row-part .ensures) (c .row-part2 .ensures) in
-    (handed-row (a .rows) (a .w) (a .i) (s .pre .grid) (s .pre .i-in) (c .before .row-part .ensures) (c .row-part2 .ensures) .same, omega (arith, n, s .pre .narrow))
+    let n = handed-size (a .rows) (a .w) (a .i) (s .pre .grid) (s .pre .i-in) (c .before .row-part .ensures) (c .row-part2 .ensures) in (
+      handed-row (a .rows) (a .w) (a .i) (s .pre .grid) (s .pre .i-in) (c .before .row-part .ensures) (c .row-part2 .ensures) .same,
+      omega (arith, n, s .pre .narrow),
+    )
 
 returns : tie.Need-returns
 returns c =
     let s = start-from-weight c in
     let a = s .args in
     c .weight .ensures
-    ∙ ap₂ (λ (v : Vector) (n : ℕ). weightV v (64 * n)) (handed-trits (a .rows) (a .w) (a .i) (s .pre .grid) (s .pre .i-in) (c .before .before .row-part .ensures)
+    ∙ ap₂ (λ (v : Vector) (n : ℕ). weightV v (64 * n)) (handed-trits (a .rows) (a .w) (a .i) (s .pre .grid) (s .pre .i-in)
+    (c .before .before .row-part .ensures)
     (c .before .row-part2 .ensures))
     (handed-size (a .rows) (a .w) (a .i) (s .pre .grid) (s .pre .i-in) (c .before .before .row-part .ensures) (c .before .row-part2 .ensures))
 

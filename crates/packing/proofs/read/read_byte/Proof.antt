@@ -43,8 +43,8 @@ trit-below-requires-5 c κs = search needs
 
 -- each of the five is below 3
 small : (c : tie.After-trit-below5)
-    → (c .before .before .before .before .trit-below .result < 3) × (c .before .before .before .trit-below2 .result < 3) ×
-    (c .before .before .trit-below3 .result < 3) × (c .before .trit-below4 .result < 3) × (c .trit-below5 .result < 3)
+    → (c .before .before .before .before .trit-below .result < 3) × (c .before .before .before .trit-below2 .result < 3)
+    × (c .before .before .trit-below3 .result < 3) × (c .before .trit-below4 .result < 3) × (c .trit-below5 .result < 3)
 small c =
     let after-trit-below = c .before .before .before .before in
     let start = after-trit-below .before .before .before in

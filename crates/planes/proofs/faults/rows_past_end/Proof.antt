@@ -83,7 +83,8 @@ loop-again c =
     let w = ap (λ (n : ℕ). l .last + n) (words (c .before .before)) in (
       omega arith,
       w ∙ last-next (l .i) (wordsFor (a .m)) (l .last) (a .m / 64) (l .inv .1),
-      gather-turn (now (a .ones)) (now (a .twos)) (a .rows) (a .m) (l .i) (p .ones-size) (p .twos-size) (c .before .before .loop-test .taken) (s .before .if1 .left) (l .past)
+      gather-turn (now (a .ones)) (now (a .twos)) (a .rows) (a .m) (l .i) (p .ones-size) (p .twos-size) (c .before .before .loop-test .taken)
+          (s .before .if1 .left) (l .past)
           (l .inv .1)
           (c .before .shared-slice-known .given (l .last)) (c .shared-slice-known2 .given (l .last)) (l .inv .2),
     )

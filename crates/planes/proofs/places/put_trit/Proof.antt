@@ -1,4 +1,4 @@
--- Each plane has the place's word with one bit changed, to the bits of t (`put-reads`).
+-- Each plane has the place's word with one bit changed, to the bits of t (`put-words`).
 -- Assumes nothing.
 use borrow.Author.Needs.{needs}
 use Rattle.trits.proofs.Put.{put-words}

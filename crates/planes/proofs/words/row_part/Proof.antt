@@ -30,8 +30,8 @@ returns-2 c =
     part-none _ _ _ _ (c .before .if2 .taken)
 
 -- the row ends within the plane
-within : (c : tie.Else2) →
-    c .before .before .args .i * c .before .before .args .words + c .before .before .args .words ≤ length (now (c .before .before .args .plane))
+within : (c : tie.Else2)
+    → c .before .before .args .i * c .before .before .args .words + c .before .before .args .words ≤ length (now (c .before .before .args .plane))
 within c =
     let a = c .before .before .args in
     omega (arith, row-le (a .words) {i = a .i} {m = a .rows} (omega arith), c .before .if1 .left)

@@ -15,8 +15,8 @@ read-value-requires c κs = search needs
 
 returns : tie.Need-returns
 returns c =
-    c .read-value .ensures ∙
-    number-read (now (c .before .before .before .before .args .field)) (sym (c .before .before .is-number .ensures) ∙ c .before .if1 .taken)
+    c .read-value .ensures
+    ∙ number-read (now (c .before .before .before .before .args .field)) (sym (c .before .before .is-number .ensures) ∙ c .before .if1 .taken)
 
 returns-2 : tie.Need-returns-2
 returns-2 c =

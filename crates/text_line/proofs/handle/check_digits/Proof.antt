@@ -165,8 +165,8 @@ returns c =
     let o = after-offer .offer .ensures in
     let q = after-offer2 .offer2 .ensures in
     let z = front-part (after-row-words .row-words .result) (zeroWords 16) ∙ take-zeros (after-row-words .row-words .result) 16 (r .1) ∙ ap zeroWords (r .0) in
-    c .tell .ensures ∙ c .before .before .before .check .ensures .0 ∙
-    sign-answer h ones twos (part-key h ones w) (part-key h twos w) (a .number) y (now (a .s))
+    c .tell .ensures ∙ c .before .before .before .check .ensures .0
+    ∙ sign-answer h ones twos (part-key h ones w) (part-key h twos w) (a .number) y (now (a .s))
     (front-part (after-offer .offer .result) (after-offer .offer .last .1 .1 .0) ∙ o .1 .0 ∙ ap (λ (x : ℕ). offeredOnes x y) m)
     (front-part (after-offer .offer .result) (after-offer .offer .last .1 .1 .1 .0) ∙ o .1 .1 ∙ ap (λ (x : ℕ). offeredTwos x y) m)
     (front-part (after-offer2 .offer2 .result) (after-offer2 .offer2 .last .1 .1 .0) ∙ q .1 .0)

@@ -7,7 +7,7 @@ use native.Mathlib.Omega.{arith}
 use borrow.Author.Needs.{needs}
 use lib.ListN.{length, take, drop, length-set}
 use denote.Ref.{now}
-use Rattle.text.specs.Steps.{before, part}
+use Rattle.text.specs.Steps.{part}
 use Rattle.trits.proofs.Lists.{copy-turn, copy-all}
 use Rattle.text.proofs.answers.write_bytes.Statement.{statement}
 use Rattle.text.proofs.answers.write_bytes.Tie as tie

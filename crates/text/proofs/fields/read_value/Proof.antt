@@ -6,7 +6,7 @@ use native.Mathlib.Omega.{arith}
 use borrow.Author.Needs.{needs}
 use lib.ListN.{length, getD, drop}
 use denote.Ref.{now}
-use Rattle.text.specs.Steps.{before, atMostLarge}
+use Rattle.text.specs.Steps.{atMostLarge}
 use Rattle.text.specs.Numbers.{valueFrom, value}
 use Rattle.text.proofs.Numbers.{value-le, value-next, value-end, value-small, value-large}
 use Rattle.text.proofs.fields.read_value.Statement.{statement}

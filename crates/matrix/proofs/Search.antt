@@ -109,7 +109,6 @@ unfolding inSpan
 inSpan-iff r n H ps v = (found, λ s. rw (solve-complete r n H v ps zeros (s .0) (s .1) (s .2) .1))
   where
     found : inSpan r n H ps v ≡ true → Spans r n H ps v
-    unfolding inSpan
     found h =
         let f = found-some (solve r n H v ps zeros) h in
         let k = solve-sound r n H v ps zeros (f .0) (f .1) in

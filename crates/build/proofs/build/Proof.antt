@@ -70,12 +70,12 @@ secret-read : (c : tie.After-shared-slice-known8) →
     buildLengthsDiffer (s .args .z) (lent s) ≡ false → contents (s .args .z) (lent s) ≡ 0 → Readable (s .args .z) (lent s .secret)
 secret-read c d e =
     let s = start-from-shared-slice-known8 c in
-    let known4 = c .before .before .before .before in
+    let after-shared-slice-known4 = c .before .before .before .before in
     readable (s .args .z) (lent s .secret) (lengths-secret (s .args .z) (lent s) d) (contents-passed (s .args .z) (lent s) e .0)
-    (λ j. known4 .before .before .before .shared-slice-known .given j)
-    (λ j. known4 .before .before .shared-slice-known2 .given j)
-    (λ j. known4 .before .shared-slice-known3 .given j)
-    (λ j. known4 .shared-slice-known4 .given j)
+    (λ j. after-shared-slice-known4 .before .before .before .shared-slice-known .given j)
+    (λ j. after-shared-slice-known4 .before .before .shared-slice-known2 .given j)
+    (λ j. after-shared-slice-known4 .before .shared-slice-known3 .given j)
+    (λ j. after-shared-slice-known4 .shared-slice-known4 .given j)
     (λ j. c .before .before .before .shared-slice-known5 .given j)
     (λ j. c .before .before .shared-slice-known6 .given j)
     (λ j. c .before .shared-slice-known7 .given j)

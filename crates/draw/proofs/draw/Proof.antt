@@ -87,12 +87,12 @@ secret-read : (c : tie.After-shared-slice-known8) →
     drawLengthsDiffer (s .args .z) (lent s) ≡ false → contents (s .args .z) (lent s) ≡ 0 → Readable (s .args .z) (lent s .secret)
 secret-read c d e =
     let s = start-from-shared-slice-known8 c in
-    let known4 = c .before .before .before .before in
+    let after-shared-slice-known4 = c .before .before .before .before in
     readable (s .args .z) (lent s .secret) (lengths-secret (s .args .z) (lent s) d) (contents-secret (s .args .z) (lent s) e)
-    (λ j. known4 .before .before .before .shared-slice-known .given j)
-    (λ j. known4 .before .before .shared-slice-known2 .given j)
-    (λ j. known4 .before .shared-slice-known3 .given j)
-    (λ j. known4 .shared-slice-known4 .given j)
+    (λ j. after-shared-slice-known4 .before .before .before .shared-slice-known .given j)
+    (λ j. after-shared-slice-known4 .before .before .shared-slice-known2 .given j)
+    (λ j. after-shared-slice-known4 .before .shared-slice-known3 .given j)
+    (λ j. after-shared-slice-known4 .shared-slice-known4 .given j)
     (λ j. c .before .before .before .shared-slice-known5 .given j)
     (λ j. c .before .before .shared-slice-known6 .given j)
     (λ j. c .before .shared-slice-known7 .given j)
@@ -104,12 +104,12 @@ all-read : (c : tie.After-shared-slice-known17) →
     drawLengthsDiffer (s .args .z) (lent s) ≡ false → contents (s .args .z) (lent s) ≡ 0 → Ready (s .args .z) (read s)
 all-read c d e =
     let s = start-from-shared-slice-known17 c in
-    let known14 = c .before .before .before in
+    let after-shared-slice-known14 = c .before .before .before in
     ready (s .args .z) (lent s) d e (secret-read (shared-slice-known8-from-shared-slice-known17 c) d e)
-    (λ j. known14 .before .before .before .before .shared-slice-known10 .given j)
-    (λ j. known14 .before .before .before .shared-slice-known11 .given j)
-    (λ j. known14 .before .shared-slice-known13 .given j)
-    (λ j. known14 .shared-slice-known14 .given j)
+    (λ j. after-shared-slice-known14 .before .before .before .before .shared-slice-known10 .given j)
+    (λ j. after-shared-slice-known14 .before .before .before .shared-slice-known11 .given j)
+    (λ j. after-shared-slice-known14 .before .shared-slice-known13 .given j)
+    (λ j. after-shared-slice-known14 .shared-slice-known14 .given j)
     (λ j. c .before .shared-slice-known16 .given j)
     (λ j. c .shared-slice-known17 .given j)
 

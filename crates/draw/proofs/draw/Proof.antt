@@ -34,11 +34,14 @@ shared-slice-known8-from-shared-slice-known17 c = c .before .before .before .bef
 abbrev start-from-shared-slice-known17 : tie.After-shared-slice-known17 → tie.Start
 start-from-shared-slice-known17 c = start-from-shared-slice-known8 (shared-slice-known8-from-shared-slice-known17 c)
 
-abbrev shared-slice-known17-from-else1 : tie.Else1 → tie.After-shared-slice-known17
-shared-slice-known17-from-else1 c = c .before .before .before .before .before .before .before .before
+abbrev shared-slice-known17-from-sizes-fit : tie.After-sizes-fit → tie.After-shared-slice-known17
+shared-slice-known17-from-sizes-fit c = c .before .before .before .before .before .before .before
+
+abbrev start-from-sizes-fit : tie.After-sizes-fit → tie.Start
+start-from-sizes-fit c = start-from-shared-slice-known17 (shared-slice-known17-from-sizes-fit c)
 
 abbrev start-from-else1 : tie.Else1 → tie.Start
-start-from-else1 c = start-from-shared-slice-known17 (shared-slice-known17-from-else1 c)
+start-from-else1 c = start-from-sizes-fit (c .before)
 
 abbrev start-from-else2 : tie.Else2 → tie.Start
 start-from-else2 c = start-from-else1 (c .before .before)
@@ -143,14 +146,17 @@ ended : (c : tie.Else3) →
     ending (s .args .z) (lent s) ≡ drawAnswer (s .args .z) (lent s)
 ended c =
     let else2 = c .before .before .before in
-    answer-ending _ _ (fits (else2 .before .before)) (lengths else2) (passed c)
+    let s = start-from-else3 c in
+    answer-ending (s .args .z) (lent s) (fits (else2 .before .before)) (lengths else2) (passed c)
 
 sizes-fit-requires : tie.Need-sizes-fit-requires
 sizes-fit-requires c κs = search needs
 
 returns : tie.Need-returns
 returns c =
-    refused _ _ (answer-size _ _ (sym (c .before .sizes-fit .ensures) ∙ not-true (c .before .sizes-fit .result) (c .if1 .taken))) (lit< tt) (lit< tt)
+    let s = start-from-sizes-fit (c .before) in
+    let e = sym (c .before .sizes-fit .ensures) ∙ not-true (c .before .sizes-fit .result) (c .if1 .taken) in
+    refused (s .args .z) (lent s) (answer-size (s .args .z) (lent s) e) (lit< tt) (lit< tt)
 
 lengths-differ-requires : tie.Need-lengths-differ-requires
 lengths-differ-requires c κs = fits c
@@ -188,7 +194,7 @@ finish-requires c κs =
     let else1 = else2 .before .before in
     let l = lengths-choices _ _ (lengths else2) in record {
       sizes = fits else1;
-      ready = all-read (shared-slice-known17-from-else1 else1) (lengths else2) (passed else3);
+      ready = all-read (shared-slice-known17-from-sizes-fit (else1 .before)) (lengths else2) (passed else3);
       word-ones-size = l .wordOnes;
       word-twos-size = l .wordTwos;
       s-ones-size = l .sOnes;

@@ -28,11 +28,14 @@ use Rattle.build.proofs.build.Tie as tie
 abbrev start-from-shared-slice-known8 : tie.After-shared-slice-known8 → tie.Start
 start-from-shared-slice-known8 c = c .before .before .before .before .before .before .before .before
 
-abbrev shared-slice-known8-from-else1 : tie.Else1 → tie.After-shared-slice-known8
-shared-slice-known8-from-else1 c = c .before .before .before .before .before .before .before .before
+abbrev shared-slice-known8-from-sizes-fit : tie.After-sizes-fit → tie.After-shared-slice-known8
+shared-slice-known8-from-sizes-fit c = c .before .before .before .before .before .before .before
+
+abbrev start-from-sizes-fit : tie.After-sizes-fit → tie.Start
+start-from-sizes-fit c = start-from-shared-slice-known8 (shared-slice-known8-from-sizes-fit c)
 
 abbrev start-from-else1 : tie.Else1 → tie.Start
-start-from-else1 c = start-from-shared-slice-known8 (shared-slice-known8-from-else1 c)
+start-from-else1 c = start-from-sizes-fit (c .before)
 
 abbrev start-from-else2 : tie.Else2 → tie.Start
 start-from-else2 c = start-from-else1 (c .before .before)
@@ -71,12 +74,12 @@ secret-read : (c : tie.After-shared-slice-known8)
     buildLengthsDiffer (s .args .z) (lent s) ≡ false → contents (s .args .z) (lent s) ≡ 0 → Readable (s .args .z) (lent s .secret)
 secret-read c d e =
     let s = start-from-shared-slice-known8 c in
-    let known4 = c .before .before .before .before in
+    let after-shared-slice-known4 = c .before .before .before .before in
     readable (s .args .z) (lent s .secret) (lengths-secret (s .args .z) (lent s) d) (contents-passed (s .args .z) (lent s) e .0)
-    (λ j. known4 .before .before .before .shared-slice-known .given j)
-    (λ j. known4 .before .before .shared-slice-known2 .given j)
-    (λ j. known4 .before .shared-slice-known3 .given j)
-    (λ j. known4 .shared-slice-known4 .given j)
+    (λ j. after-shared-slice-known4 .before .before .before .shared-slice-known .given j)
+    (λ j. after-shared-slice-known4 .before .before .shared-slice-known2 .given j)
+    (λ j. after-shared-slice-known4 .before .shared-slice-known3 .given j)
+    (λ j. after-shared-slice-known4 .shared-slice-known4 .given j)
     (λ j. c .before .before .before .shared-slice-known5 .given j)
     (λ j. c .before .before .shared-slice-known6 .given j)
     (λ j. c .before .shared-slice-known7 .given j)
@@ -105,14 +108,17 @@ ranked : (c : tie.Else3)
     buildRefusal z (secretOf z (i .secret)) ≡ buildAnswer z i
 ranked c =
     let else2 = c .before .before .before in
-    answer-ranks _ _ (fits (else2 .before .before)) (lengths else2) (passed c)
+    let s = start-from-else3 c in
+    answer-ranks (s .args .z) (lent s) (fits (else2 .before .before)) (lengths else2) (passed c)
 
 sizes-fit-requires : tie.Need-sizes-fit-requires
 sizes-fit-requires c κs = search needs
 
 returns : tie.Need-returns
 returns c =
-    refused _ _ (answer-size _ _ (sym (c .before .sizes-fit .ensures) ∙ not-true (c .before .sizes-fit .result) (c .if1 .taken))) (lit< tt) (lit< tt)
+    let s = start-from-sizes-fit (c .before) in
+    let e = sym (c .before .sizes-fit .ensures) ∙ not-true (c .before .sizes-fit .result) (c .if1 .taken) in
+    refused (s .args .z) (lent s) (answer-size (s .args .z) (lent s) e) (lit< tt) (lit< tt)
 
 lengths-differ-requires : tie.Need-lengths-differ-requires
 lengths-differ-requires c κs = fits c
@@ -151,7 +157,7 @@ finish-requires c κs =
     let s = start-from-else1 else1 in
     let l = lengths-key (s .args .z) (lent s) (lengths else2) in record {
       sizes = fits else1;
-      secret = secret-read (shared-slice-known8-from-else1 else1) (lengths else2) (passed else3);
+      secret = secret-read (shared-slice-known8-from-sizes-fit (else1 .before)) (lengths else2) (passed else3);
       is-order = contents-passed (s .args .z) (lent s) (passed else3) .1;
       p-size = l .p;
       key-ones-size = l .k1;

@@ -35,11 +35,14 @@ shared-slice-known8-from-shared-slice-known17 c = c .before .before .before .bef
 abbrev start-from-shared-slice-known17 : tie.After-shared-slice-known17 → tie.Start
 start-from-shared-slice-known17 c = start-from-shared-slice-known8 (shared-slice-known8-from-shared-slice-known17 c)
 
-abbrev shared-slice-known17-from-else1 : tie.Else1 → tie.After-shared-slice-known17
-shared-slice-known17-from-else1 c = c .before .before .before .before .before .before .before .before
+abbrev shared-slice-known17-from-sizes-fit : tie.After-sizes-fit → tie.After-shared-slice-known17
+shared-slice-known17-from-sizes-fit c = c .before .before .before .before .before .before .before
+
+abbrev start-from-sizes-fit : tie.After-sizes-fit → tie.Start
+start-from-sizes-fit c = start-from-shared-slice-known17 (shared-slice-known17-from-sizes-fit c)
 
 abbrev start-from-else1 : tie.Else1 → tie.Start
-start-from-else1 c = start-from-shared-slice-known17 (shared-slice-known17-from-else1 c)
+start-from-else1 c = start-from-sizes-fit (c .before)
 
 abbrev start-from-else2 : tie.Else2 → tie.Start
 start-from-else2 c = start-from-else1 (c .before .before)
@@ -88,12 +91,12 @@ secret-read : (c : tie.After-shared-slice-known8)
     drawLengthsDiffer (s .args .z) (lent s) ≡ false → contents (s .args .z) (lent s) ≡ 0 → Readable (s .args .z) (lent s .secret)
 secret-read c d e =
     let s = start-from-shared-slice-known8 c in
-    let known4 = c .before .before .before .before in
+    let after-shared-slice-known4 = c .before .before .before .before in
     readable (s .args .z) (lent s .secret) (lengths-secret (s .args .z) (lent s) d) (contents-secret (s .args .z) (lent s) e)
-    (λ j. known4 .before .before .before .shared-slice-known .given j)
-    (λ j. known4 .before .before .shared-slice-known2 .given j)
-    (λ j. known4 .before .shared-slice-known3 .given j)
-    (λ j. known4 .shared-slice-known4 .given j)
+    (λ j. after-shared-slice-known4 .before .before .before .shared-slice-known .given j)
+    (λ j. after-shared-slice-known4 .before .before .shared-slice-known2 .given j)
+    (λ j. after-shared-slice-known4 .before .shared-slice-known3 .given j)
+    (λ j. after-shared-slice-known4 .shared-slice-known4 .given j)
     (λ j. c .before .before .before .shared-slice-known5 .given j)
     (λ j. c .before .before .shared-slice-known6 .given j)
     (λ j. c .before .shared-slice-known7 .given j)
@@ -105,12 +108,12 @@ all-read : (c : tie.After-shared-slice-known17)
     drawLengthsDiffer (s .args .z) (lent s) ≡ false → contents (s .args .z) (lent s) ≡ 0 → Ready (s .args .z) (read s)
 all-read c d e =
     let s = start-from-shared-slice-known17 c in
-    let known14 = c .before .before .before in
+    let after-shared-slice-known14 = c .before .before .before in
     ready (s .args .z) (lent s) d e (secret-read (shared-slice-known8-from-shared-slice-known17 c) d e)
-    (λ j. known14 .before .before .before .before .shared-slice-known10 .given j)
-    (λ j. known14 .before .before .before .shared-slice-known11 .given j)
-    (λ j. known14 .before .shared-slice-known13 .given j)
-    (λ j. known14 .shared-slice-known14 .given j)
+    (λ j. after-shared-slice-known14 .before .before .before .before .shared-slice-known10 .given j)
+    (λ j. after-shared-slice-known14 .before .before .before .shared-slice-known11 .given j)
+    (λ j. after-shared-slice-known14 .before .shared-slice-known13 .given j)
+    (λ j. after-shared-slice-known14 .shared-slice-known14 .given j)
     (λ j. c .before .shared-slice-known16 .given j)
     (λ j. c .shared-slice-known17 .given j)
 
@@ -144,14 +147,17 @@ ended : (c : tie.Else3)
     ending (s .args .z) (lent s) ≡ drawAnswer (s .args .z) (lent s)
 ended c =
     let else2 = c .before .before .before in
-    answer-ending _ _ (fits (else2 .before .before)) (lengths else2) (passed c)
+    let s = start-from-else3 c in
+    answer-ending (s .args .z) (lent s) (fits (else2 .before .before)) (lengths else2) (passed c)
 
 sizes-fit-requires : tie.Need-sizes-fit-requires
 sizes-fit-requires c κs = search needs
 
 returns : tie.Need-returns
 returns c =
-    refused _ _ (answer-size _ _ (sym (c .before .sizes-fit .ensures) ∙ not-true (c .before .sizes-fit .result) (c .if1 .taken))) (lit< tt) (lit< tt)
+    let s = start-from-sizes-fit (c .before) in
+    let e = sym (c .before .sizes-fit .ensures) ∙ not-true (c .before .sizes-fit .result) (c .if1 .taken) in
+    refused (s .args .z) (lent s) (answer-size (s .args .z) (lent s) e) (lit< tt) (lit< tt)
 
 lengths-differ-requires : tie.Need-lengths-differ-requires
 lengths-differ-requires c κs = fits c
@@ -189,7 +195,7 @@ finish-requires c κs =
     let else1 = else2 .before .before in
     let l = lengths-choices _ _ (lengths else2) in record {
       sizes = fits else1;
-      ready = all-read (shared-slice-known17-from-else1 else1) (lengths else2) (passed else3);
+      ready = all-read (shared-slice-known17-from-sizes-fit (else1 .before)) (lengths else2) (passed else3);
       word-ones-size = l .wordOnes;
       word-twos-size = l .wordTwos;
       s-ones-size = l .sOnes;

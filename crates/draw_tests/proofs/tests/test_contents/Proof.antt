@@ -11,15 +11,8 @@ abbrev start-from-shared-slice-known17 : tie.After-shared-slice-known17 → tie.
 start-from-shared-slice-known17 c =
     c .before .before .before .before .before .before .before .before .before .before .before .before .before .before .before .before .before
 
-abbrev start-from-test-secret : tie.After-test-secret → tie.Start
-start-from-test-secret c =
-    c .before .before .before .before .before .before .before .before .before .before .before .before .before .before .before .before .before .before
-
-abbrev start-from-code : tie.After-code → tie.Start
-start-from-code c = start-from-test-secret (c .before)
-
 abbrev start-from-else1 : tie.Else1 → tie.Start
-start-from-else1 c = start-from-code (c .before)
+start-from-else1 c = start-from-shared-slice-known17 (c .before .before .before)
 
 test-secret-requires : tie.Need-test-secret-requires
 test-secret-requires c κs =

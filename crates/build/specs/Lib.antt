@@ -1,2 +1,2 @@
--- What inner functions ask. Assumes nothing.
+-- What the end of a build asks.
 pub mod Steps

@@ -1,15 +1,15 @@
--- What inner functions ask. Assumes nothing.
+-- What the end of a build asks. No rule of the paper: code is tied to it. Assumes nothing.
 use mathlib.Core.Path.{_≡_}
 use mathlib.Core.Bool.{true}
-use Prim.Native.Nat.{_*_, ℕ}
+use mathlib.Core.List.{List}
+use Prim.Native.Nat.{ℕ, _*_}
 use lib.ListN.{length}
-use Rattle.scheme.specs.Sizes.{sizesFit, places, dim}
 use Rattle.matrix.specs.Orders.{Order}
+use Rattle.scheme.specs.Sizes.{sizesFit, places, dim}
+use Rattle.scheme.specs.declared.sizes.Sizes.{Sizes}
 use Rattle.calls.specs.Lent.{planes}
 use Rattle.calls.specs.BuildCall.{keyRowWords, buildWorkWords}
 use Rattle.calls.specs.Steps.{SecretLengths, Readable}
-use mathlib.Core.List.{List}
-use Rattle.scheme.specs.declared.sizes.Sizes.{Sizes}
 
 -- sizes that fit, and the lengths of the secret and of the starting order
 pub record ForTestContentsBuild (z : Sizes) (huOnes huTwos hvOnes hvTwos bOnes bTwos cOnes cTwos start : List ℕ) : Type 0 where

@@ -1,16 +1,16 @@
 -- The key in the arranged work matrix, which stays in secret places. No rule of the paper: code is tied to it. Assumes nothing.
 use mathlib.Core.Path.{_≡_}
 use mathlib.Core.List.{List}
-use Prim.Native.Nat.{ℕ, _+_, _<_, _*_, _≤_}
+use Prim.Native.Nat.{ℕ, _+_, _*_, _≤_, _<_}
 use lib.ListN.{getD, length}
 use Rattle.trits.specs.Trit.{upTo}
 use Rattle.trits.specs.Planes.{onesOf, twosOf, Reads}
-use Rattle.matrix.specs.Linear.{Vector, Matrix, column, rank, range}
 use Rattle.trits.specs.Rows.{rowsOf, matrixAt}
+use Rattle.matrix.specs.Linear.{Vector, Matrix, column, rank, range}
+use Rattle.matrix.specs.Orders.{Order}
+use Rattle.grid.specs.Steps.{Rows}
 use Rattle.scheme.specs.Build.{rowOfR}
 use Rattle.build_matrix.specs.Steps.{colOf, placedAt}
-use Rattle.grid.specs.Steps.{Rows}
-use Rattle.matrix.specs.Orders.{Order}
 
 -- the key of the order p stands in the matrix A: row i of it in the column at place p(r + i)
 pub record Keyed (r n : ℕ) (H A : Matrix) (p : List ℕ) : Type 0 where

@@ -1,14 +1,14 @@
 -- The work matrix of a build: it stays in secret places, each row's halves beginning a new word. No rule of the paper: code is tied to it. Assumes nothing.
+use mathlib.Core.Path.{_≡_}
 use mathlib.Core.Bool.{_&&_, cond}
 use mathlib.Core.List.{List}
 use Prim.Native.Nat.{ℕ, _+_, _-_, _*_, _/_, _%_, _≤_, _<_}
 use lib.Dec.{eqb, leb, ltb}
+use lib.ListN.{length}
 use Rattle.trits.specs.Trit.{t1, addT, negT, mulT}
 use Rattle.trits.specs.Rows.{matrixAt}
-use Rattle.matrix.specs.Linear.{Vector, Matrix}
-use mathlib.Core.Path.{_≡_}
-use lib.ListN.{length}
 use Rattle.trits.specs.Planes.{Row}
+use Rattle.matrix.specs.Linear.{Vector, Matrix}
 use Rattle.grid.specs.Steps.{Rows}
 
 -- ---- columns

@@ -1,16 +1,16 @@
 -- The two matrices of a secret ("The secret pairs"). Assumes nothing.
+use mathlib.Core.Path.{_≡_}
+use mathlib.Core.Bool.{true}
 use mathlib.Core.List.{List}
 use Prim.Native.Nat.{ℕ, _*_, _≤_}
+use lib.ListN.{length}
 use Rattle.trits.specs.Rows.{matrixAt}
 use Rattle.matrix.specs.Linear.{zeros}
+use Rattle.grid.specs.Steps.{Rows}
 use Rattle.scheme.specs.declared.sizes.Sizes.{Sizes}
 use Rattle.scheme.specs.Secret.{Secret}
-use Rattle.calls.specs.Lent.{halfWords}
-use mathlib.Core.Path.{_≡_}
-use lib.ListN.{length}
-use Rattle.grid.specs.Steps.{Rows}
-use mathlib.Core.Bool.{true}
 use Rattle.scheme.specs.Sizes.{sizesFit, ru, rv}
+use Rattle.calls.specs.Lent.{halfWords}
 use Rattle.calls.specs.BuildCall.{buildWorkWords}
 
 -- H_U and H_V alone, with no b and c

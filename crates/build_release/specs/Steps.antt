@@ -1,19 +1,19 @@
 -- The work matrix of a build ("Building a key"). Assumes nothing.
 use mathlib.Core.Path.{_≡_}
+use mathlib.Core.Bool.{true}
 use mathlib.Core.List.{List}
 use Prim.Native.Nat.{ℕ, _+_, _*_}
+use lib.ListN.{length}
+use Rattle.matrix.specs.Linear.{rank, range}
+use Rattle.matrix.specs.Orders.{Order}
 use Rattle.grid.specs.Steps.{Rows}
 use Rattle.scheme.specs.declared.sizes.Sizes.{Sizes}
 use Rattle.scheme.specs.Sizes.{half, codim, sizesFit, places, dim}
 use Rattle.scheme.specs.Secret.{Secret, secretMatrix}
-use Rattle.build_matrix.specs.Steps.{placedAt}
 use Rattle.calls.specs.Lent.{halfWords, planes, secretOf}
 use Rattle.calls.specs.Steps.{Readable}
-use mathlib.Core.Bool.{true}
-use lib.ListN.{length}
 use Rattle.calls.specs.BuildCall.{buildWorkWords, keyRowWords}
-use Rattle.matrix.specs.Linear.{rank, range}
-use Rattle.matrix.specs.Orders.{Order}
+use Rattle.build_matrix.specs.Steps.{placedAt}
 
 -- the working planes hold the secret matrix, in secret places
 pub record Filled (z : Sizes) (s : Secret) (ones twos : List ℕ) : Type 0 where

@@ -1,2 +1,2 @@
--- What inner functions ask. Assumes nothing.
+-- What the weighing asks of the key, y, s and the working space.
 pub mod Steps

@@ -1,12 +1,12 @@
--- What inner functions ask. Assumes nothing.
-use Prim.Native.Nat.{ℕ, _<_, _*_, _≤_}
-use Rattle.trits.specs.Planes.{Row}
-use Rattle.held_key.specs.Steps.{Whole, Work}
-use mathlib.Core.List.{List}
-use Rattle.held_key.specs.declared.state.Held.{Held}
+-- What the weighing asks of the key, y, s and the working space. No rule of the paper: code is tied to it. Assumes nothing.
 use mathlib.Core.Path.{_≡_}
+use mathlib.Core.List.{List}
+use Prim.Native.Nat.{ℕ, _*_, _≤_, _<_}
 use lib.ListN.{length}
+use Rattle.trits.specs.Planes.{Row}
 use Rattle.packed.specs.Packed.{bytesFor, byteTable, packedRefusal}
+use Rattle.held_key.specs.Steps.{Whole, Work}
+use Rattle.held_key.specs.declared.state.Held.{Held}
 use Rattle.held_key.specs.Held.{rowWords}
 use Rattle.check_tests.specs.Check.{planesLengths, planesContents, packedLengths, packedContents}
 

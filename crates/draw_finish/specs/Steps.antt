@@ -1,15 +1,15 @@
--- What inner functions ask. Assumes nothing.
+-- What the end of a draw asks. No rule of the paper: code is tied to it. Assumes nothing.
 use mathlib.Core.Path.{_≡_}
 use mathlib.Core.Bool.{true}
+use mathlib.Core.List.{List}
+use Prim.Native.Nat.{ℕ}
 use lib.ListN.{length}
 use Rattle.trits.specs.Planes.{wordsFor}
 use Rattle.scheme.specs.Sizes.{sizesFit, places, dim}
+use Rattle.scheme.specs.declared.sizes.Sizes.{Sizes}
 use Rattle.calls.specs.Lent.{planes}
 use Rattle.calls.specs.DrawCall.{drawWorkWords}
 use Rattle.draw_tests.specs.Steps.{given, Ready}
-use Prim.Native.Nat.{ℕ}
-use mathlib.Core.List.{List}
-use Rattle.scheme.specs.declared.sizes.Sizes.{Sizes}
 
 -- sizes that fit, all that a draw is given, tested, and all that is written to
 pub record ForFinishDraw (z : Sizes) (huOnes huTwos hvOnes hvTwos bOnes bTwos cOnes cTwos p yOnes yTwos vOrder vOnes vTwos uOrder uOnes uTwos wordOnes wordTwos

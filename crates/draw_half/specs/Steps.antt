@@ -3,15 +3,15 @@ use mathlib.Core.Path.{_≡_}
 use mathlib.Core.Bool.{Bool, true}
 use mathlib.Core.List.{List}
 use mathlib.Core.Logic.{_≢_}
-use Prim.Native.Nat.{ℕ, _+_, _≤_, _-_, _*_, _<_}
+use Prim.Native.Nat.{ℕ, _+_, _-_, _*_, _≤_, _<_}
 use lib.ListN.{getD, take, drop, length}
 use Rattle.trits.specs.Trit.{t0}
-use Rattle.matrix.specs.Linear.{Vector, Matrix, zeros, times, solve, orZeros, pivots, without, fill}
-use Rattle.scheme.specs.Draw.{forcedBy}
 use Rattle.trits.specs.Planes.{Row}
 use Rattle.trits.specs.Rows.{matrixAt}
+use Rattle.matrix.specs.Linear.{Vector, Matrix, zeros, times, solve, orZeros, pivots, without, fill}
 use Rattle.matrix.specs.Orders.{Order}
 use Rattle.grid.specs.Steps.{Rows}
+use Rattle.scheme.specs.Draw.{forcedBy}
 
 -- 0 from place n on
 pub record Ends (n : ℕ) (v : Vector) : Type 0 where

@@ -1,18 +1,18 @@
 -- Two rows of a grid that hold the halves of a word in secret places. No rule of the paper: code is tied to it. Assumes nothing.
+use mathlib.Core.Path.{_≡_}
 use mathlib.Core.Bool.{cond}
 use mathlib.Core.List.{List}
-use Prim.Native.Nat.{ℕ, _+_, _-_, _<_, _*_, _≤_}
+use mathlib.Core.Logic.{_≢_}
+use Prim.Native.Nat.{ℕ, _+_, _-_, _*_, _≤_, _<_}
 use lib.Dec.{ltb}
 use lib.ListN.{getD, length}
 use Rattle.trits.specs.Trit.{Trit, addT, subT, putV, upTo}
+use Rattle.trits.specs.Planes.{Row, Reads}
+use Rattle.trits.specs.Rows.{matrixAt}
 use Rattle.matrix.specs.Linear.{Vector, Matrix, zeros}
+use Rattle.matrix.specs.Orders.{Order}
 use Rattle.grid.specs.Steps.{putRow, joinProduct, Rows}
 use Rattle.scheme.specs.Secret.{join}
-use mathlib.Core.Path.{_≡_}
-use Rattle.trits.specs.Planes.{Row, Reads}
-use mathlib.Core.Logic.{_≢_}
-use Rattle.trits.specs.Rows.{matrixAt}
-use Rattle.matrix.specs.Orders.{Order}
 
 -- ---- placing
 

@@ -1,15 +1,15 @@
 -- The walk along an order in a reduced matrix, which finds the pivots again. No rule of the paper:
 -- code is tied to it, and its laws to `pivots` and `without`. Assumes nothing.
+use mathlib.Core.Path.{_≡_}
 use mathlib.Core.Bool.{Bool, _&&_, cond}
 use mathlib.Core.List.{List, [], _∷_}
 use Prim.Native.Nat.{ℕ, suc, _*_, _≤_}
 use lib.Dec.{ltb}
+use lib.ListN.{length}
 use Rattle.trits.specs.Trit.{isSet}
 use Rattle.matrix.specs.Linear.{Matrix}
-use lib.ListN.{length}
 use Rattle.matrix.specs.Orders.{Order}
 use Rattle.grid.specs.Steps.{Rows}
-use mathlib.Core.Path.{_≡_}
 
 -- the rows below r are those of B, the others those of A
 abbrev pub over : ℕ → Matrix → Matrix → Matrix

@@ -1,2 +1,2 @@
--- What inner functions ask. Assumes nothing.
+-- What the release of a word asks.
 pub mod Steps

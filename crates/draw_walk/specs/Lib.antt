@@ -1,2 +1,2 @@
--- What inner functions ask. Assumes nothing.
+-- What the walk along an order asks of the grid, the order and the supplied trits.
 pub mod Steps

@@ -1,15 +1,15 @@
--- What inner functions ask. Assumes nothing.
-use Prim.Native.Nat.{_*_, _<_, _≤_, ℕ, _+_, _-_}
-use lib.ListN.{length, take}
-use Rattle.grid.specs.Steps.{Rows}
-use mathlib.Core.List.{List}
+-- What the walk along an order asks of the grid, the order and the supplied trits. No rule of the paper: code is tied to it. Assumes nothing.
 use mathlib.Core.Path.{_≡_}
 use mathlib.Core.Bool.{true}
+use mathlib.Core.List.{List}
 use mathlib.Core.Logic.{_⊎_, _≢_}
+use Prim.Native.Nat.{ℕ, _+_, _-_, _*_, _≤_, _<_}
+use lib.ListN.{length, take}
 use Rattle.trits.specs.Planes.{Row}
 use Rattle.trits.specs.Rows.{matrixAt}
-use Rattle.draw_reduce.specs.Steps.{isNext, taken, passed}
 use Rattle.matrix.specs.Orders.{Order}
+use Rattle.grid.specs.Steps.{Rows}
+use Rattle.draw_reduce.specs.Steps.{isNext, passed}
 
 -- a grid, and a place of it
 pub record ForIsNext (ones twos : List ℕ) (rows w r q : ℕ) : Type 0 where

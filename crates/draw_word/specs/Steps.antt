@@ -1,11 +1,16 @@
 -- The working space of a draw, stage after stage: rows of N places, the matrix under elimination below row l, then x_U, x_V,
 -- a row for products, e_V, e_U ("One draw"). No rule of the paper: code is tied to it. Assumes nothing.
 use mathlib.Core.Path.{_≡_}
+use mathlib.Core.Bool.{true}
 use mathlib.Core.List.{List}
 use Prim.Native.Nat.{ℕ, _+_, _*_, _≤_}
+use lib.ListN.{length}
 use Rattle.trits.specs.Trit.{upTo}
 use Rattle.trits.specs.Planes.{tritAt, Row, wordsFor}
+use Rattle.trits.specs.Rows.{matrixAt}
 use Rattle.matrix.specs.Linear.{Vector, Matrix, zeros}
+use Rattle.matrix.specs.Orders.{Order}
+use Rattle.grid.specs.Steps.{Rows}
 use Rattle.scheme.specs.declared.sizes.Sizes.{Sizes}
 use Rattle.scheme.specs.Sizes.{half, codim, sizesFit, places, ru, rv}
 use Rattle.scheme.specs.Secret.{Secret, join, uOf, vOf, leftOf, rightOf}
@@ -13,13 +18,8 @@ use Rattle.scheme.specs.Draw.{Choices, placed, drawV, drawU}
 use Rattle.calls.specs.Lent.{secretOf, halfWords, planes}
 use Rattle.calls.specs.Steps.{Readable}
 use Rattle.calls.specs.DrawCall.{DrawCall, syndromeOf, choicesOf}
-use mathlib.Core.Bool.{true}
-use lib.ListN.{length}
-use Rattle.matrix.specs.Orders.{Order}
-use Rattle.trits.specs.Rows.{matrixAt}
-use Rattle.grid.specs.Steps.{Rows}
-use Rattle.draw_half.specs.Steps.{Ends}
 use Rattle.draw_tests.specs.Steps.{given, Ready}
+use Rattle.draw_half.specs.Steps.{Ends}
 
 -- b and c alone, with no matrices
 abbrev pub pairsOf : List ℕ → List ℕ → List ℕ → List ℕ → Secret

@@ -1,2 +1,2 @@
--- What inner functions ask. Assumes nothing.
+-- What the steps of an elimination ask of the grid.
 pub mod Steps

@@ -1,13 +1,13 @@
--- What inner functions ask. Assumes nothing.
-use Prim.Native.Nat.{_*_, _<_, _≤_, ℕ}
-use lib.ListN.{length}
-use Rattle.grid.specs.Steps.{Rows}
-use mathlib.Core.List.{List}
+-- What the steps of an elimination ask of the grid. No rule of the paper: code is tied to it. Assumes nothing.
 use mathlib.Core.Path.{_≡_}
 use mathlib.Core.Bool.{true}
+use mathlib.Core.List.{List}
+use mathlib.Core.Logic.{_≢_, _⊎_}
+use Prim.Native.Nat.{ℕ, _*_, _≤_, _<_}
+use lib.ListN.{length}
 use Rattle.trits.specs.Trit.{isSet}
 use Rattle.trits.specs.Rows.{matrixAt}
-use mathlib.Core.Logic.{_≢_, _⊎_}
+use Rattle.grid.specs.Steps.{Rows}
 
 -- a grid, one of its columns, and the number of rows that are done
 pub record ForStep (ones twos : List ℕ) (rows w c at : ℕ) : Type 0 where

@@ -5,9 +5,9 @@ use mathlib.Core.List.{List}
 use Prim.Native.Nat.{ℕ, _≤_}
 use lib.ListN.{length}
 use Rattle.trits.specs.Planes.{Row, wordsFor}
+use Rattle.packed.specs.Packed.{bytesFor, packedRefusal}
 use Rattle.held_key.specs.declared.state.Held.{Held}
 use Rattle.held_key.specs.Held.{sound, rowWords, keyWords}
-use Rattle.packed.specs.Packed.{bytesFor, packedRefusal}
 
 -- a whole key in planes of its size
 pub record Whole (h : Held) (ones twos : List ℕ) : Type 0 where

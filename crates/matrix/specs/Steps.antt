@@ -2,7 +2,7 @@
 -- rule of the paper: code is tied to it, and its laws to `pivots` and `solve`. Assumes nothing.
 use mathlib.Core.Bool.{Bool, cond}
 use mathlib.Core.List.{List, [], _∷_, _++_}
-use Prim.Native.Nat.{ℕ, zero, suc, _+_, _-_}
+use Prim.Native.Nat.{ℕ, zero, suc, _-_}
 use lib.Dec.{eqb, ltb}
 use lib.ListN.{length}
 use Rattle.trits.specs.Trit.{Trit, subT, mulT, isSet}

@@ -1,2 +1,2 @@
--- What inner functions ask. Assumes nothing.
+-- What reading and writing packed bytes ask of rows, bytes and the byte table.
 pub mod Steps

@@ -1,11 +1,10 @@
--- What inner functions ask. Assumes nothing.
+-- What reading and writing packed bytes ask of rows, bytes and the byte table. No rule of the paper: code is tied to it. Assumes nothing.
 use mathlib.Core.Path.{_≡_}
-use Prim.Native.Nat.{_*_, _≤_, _<_, ℕ, _+_}
-use lib.ListN.{length}
-use Rattle.trits.specs.Trit.{number}
 use mathlib.Core.List.{List}
-use Rattle.packed.specs.Packed.{bytesFor, byteTable, packedRefusal}
+use Prim.Native.Nat.{ℕ, _+_, _*_, _≤_, _<_}
+use lib.ListN.{length}
 use Rattle.trits.specs.Planes.{Row, Reads}
+use Rattle.packed.specs.Packed.{bytesFor, byteTable, packedRefusal}
 use Rattle.packed.specs.Stream.{kept, streamRow}
 
 -- a row of m trits in two planes, and the number of a byte

@@ -1,2 +1,2 @@
--- What inner functions ask. Assumes nothing.
+-- What places and tests of two planes ask.
 pub mod Steps

@@ -1,9 +1,9 @@
--- What inner functions ask. Assumes nothing.
-use Prim.Native.Nat.{_*_, _<_, ℕ, _≤_}
+-- What places and tests of two planes ask. No rule of the paper: code is tied to it. Assumes nothing.
+use mathlib.Core.Path.{_≡_}
+use mathlib.Core.List.{List}
+use Prim.Native.Nat.{ℕ, _*_, _≤_, _<_}
 use lib.ListN.{length}
 use Rattle.trits.specs.Planes.{Row, wordsFor}
-use mathlib.Core.List.{List}
-use mathlib.Core.Path.{_≡_}
 
 -- a row, a place of it and a trit
 pub record ForPutTrit (ones twos : List ℕ) (i t : ℕ) : Type 0 where

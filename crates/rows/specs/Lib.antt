@@ -1,2 +1,2 @@
--- What inner functions ask. Assumes nothing.
+-- What row operations ask.
 pub mod Steps

@@ -1,9 +1,9 @@
--- What inner functions ask. Assumes nothing.
+-- What row operations ask. No rule of the paper: code is tied to it. Assumes nothing.
 use mathlib.Core.Path.{_≡_}
+use mathlib.Core.List.{List}
+use Prim.Native.Nat.{ℕ, _≤_}
 use lib.ListN.{length}
 use Rattle.trits.specs.Planes.{Row}
-use Prim.Native.Nat.{ℕ, _≤_}
-use mathlib.Core.List.{List}
 
 -- what two rows of one length are: a row, and another that is added to it, taken from it or multiplied into it
 pub record ForRowPair (ones twos srcOnes srcTwos : List ℕ) : Type 0 where

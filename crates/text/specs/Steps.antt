@@ -2,9 +2,10 @@
 use mathlib.Core.Path.{_≡_}
 use mathlib.Core.Bool.{cond, true}
 use mathlib.Core.List.{List, [], _∷_, _++_}
-use Prim.Native.Nat.{ℕ, suc, _+_, _-_, _≤_, _<_, _*_}
+use Prim.Native.Nat.{ℕ, suc, _+_, _-_, _*_, _≤_, _<_}
 use lib.Dec.{eqb, leb}
 use lib.ListN.{length, take, drop}
+use Rattle.trits.specs.Planes.{zeroWords}
 use Rattle.text.specs.Fields.{fields}
 use Rattle.text.specs.Numbers.{isNumber, value, decimal}
 use Rattle.text.specs.Answers.{dash, refusedWord}
@@ -13,7 +14,6 @@ use Rattle.text.specs.Forms.{Line, noForm, keyLine, rowLine, signLine, f
 use Rattle.text.specs.declared.forms.Form.{Form}
 use Rattle.text.specs.declared.forms.Form.the-variants.{Neither, Key, Row, Sign}
 use Rattle.text.specs.declared.forms.Ends.{Ends}
-use Rattle.trits.specs.Planes.{zeroWords}
 
 -- how many bytes stand before the first mark
 unfoldable pub before : ℕ → List ℕ → ℕ

@@ -1,11 +1,11 @@
--- What inner functions ask. Assumes nothing.
+-- What the handling of a line asks of its fields and of what the host holds. No rule of the paper: code is tied to it. Assumes nothing.
 use mathlib.Core.Path.{_≡_}
 use mathlib.Core.Bool.{true}
-use Prim.Native.Nat.{_≤_, ℕ}
+use mathlib.Core.List.{List}
+use Prim.Native.Nat.{ℕ, _≤_}
 use lib.ListN.{length}
 use Rattle.trits.specs.Planes.{zeroWords}
 use Rattle.text.specs.Digits.{isDigits}
-use mathlib.Core.List.{List}
 
 -- digits of a line, and rows of zeros
 pub record ForOffer (digits ones twos : List ℕ) : Type 0 where

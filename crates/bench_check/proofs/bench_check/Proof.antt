@@ -22,8 +22,8 @@ same-length-2 c = c .before .before .work-twos .given
 
 returns : tie.Need-returns
 returns c =
-    let e = check-from-tell c .check .ensures in
-    (c .tell .ensures ∙ e .0, e .1, e .2)
+    let (answer, work-ones, work-twos) = check-from-tell c .check .ensures in
+    (c .tell .ensures ∙ answer, work-ones, work-twos)
 
 pub bench-check-spec : {M : Type 1} → statement M
 bench-check-spec =

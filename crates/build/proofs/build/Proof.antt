@@ -190,13 +190,13 @@ returns-4 c =
     let i = lent (start-from-else3 else3) in
     let k = secretOf z (i .secret) in
     let g = ranked else3 in
-    let n = after-finish .finish .ensures in (
-      n .0 ∙ g,
-      n .1 ∙ ap (λ (r : ℕ). atExit r (keyOrder z k (i .start)) (i .p)) g,
-      ap₂ pairOf (n .2 ∙ ap (λ (r : ℕ). atExit r (keyOnesOf z k (i .start)) (i .key .ones)) g)
-          (n .3 ∙ ap (λ (r : ℕ). atExit r (keyTwosOf z k (i .start)) (i .key .twos)) g),
-      ap₂ pairOf (n .4 ∙ work-ended z k (i .work .ones) ∙ ap (λ (r : ℕ). spaceExit r (i .work .ones)) g)
-          (n .5 ∙ work-ended z k (i .work .twos) ∙ ap (λ (r : ℕ). spaceExit r (i .work .twos)) g),
+    let (told-answer, final-order, key-ones, key-twos, ones-zero, twos-zero) = after-finish .finish .ensures in (
+      told-answer ∙ g,
+      final-order ∙ ap (λ (r : ℕ). atExit r (keyOrder z k (i .start)) (i .p)) g,
+      ap₂ pairOf (key-ones ∙ ap (λ (r : ℕ). atExit r (keyOnesOf z k (i .start)) (i .key .ones)) g)
+          (key-twos ∙ ap (λ (r : ℕ). atExit r (keyTwosOf z k (i .start)) (i .key .twos)) g),
+      ap₂ pairOf (ones-zero ∙ work-ended z k (i .work .ones) ∙ ap (λ (r : ℕ). spaceExit r (i .work .ones)) g)
+          (twos-zero ∙ work-ended z k (i .work .twos) ∙ ap (λ (r : ℕ). spaceExit r (i .work .twos)) g),
     )
 
 pub build-spec : {M : Type 1} → statement M

@@ -230,15 +230,15 @@ returns-4 c =
     let z = start-from-else3 else3 .args .z in
     let i = lent (start-from-else3 else3) in
     let g = ended else3 in
-    let n = after-finish .finish .ensures in
+    let (told-answer, word-ones, word-twos, s-ones, s-twos, ones-zero, twos-zero) = after-finish .finish .ensures in
     let w : Pair = rowPair (places z) (wordOf z i) in
     let t : Pair = rowPair (dim z) (signature z (wordOf z i)) in
     let zero = work-ended z (secretOf z (i .secret)) (i .p) (syndromeOf i) (choicesOf i) in (
-      n .0 ∙ g,
-      ap₂ pairOf (n .1 ∙ ap (λ (r : ℕ). atExit r (w .ones) (i .word .ones)) g) (n .2 ∙ ap (λ (r : ℕ). atExit r (w .twos) (i .word .twos)) g),
-      ap₂ pairOf (n .3 ∙ ap (λ (r : ℕ). atExit r (t .ones) (i .s .ones)) g) (n .4 ∙ ap (λ (r : ℕ). atExit r (t .twos) (i .s .twos)) g),
-      ap₂ pairOf (n .5 ∙ zero (i .work .ones) ∙ ap (λ (r : ℕ). spaceExit r (i .work .ones)) g)
-          (n .6 ∙ zero (i .work .twos) ∙ ap (λ (r : ℕ). spaceExit r (i .work .twos)) g),
+      told-answer ∙ g,
+      ap₂ pairOf (word-ones ∙ ap (λ (r : ℕ). atExit r (w .ones) (i .word .ones)) g) (word-twos ∙ ap (λ (r : ℕ). atExit r (w .twos) (i .word .twos)) g),
+      ap₂ pairOf (s-ones ∙ ap (λ (r : ℕ). atExit r (t .ones) (i .s .ones)) g) (s-twos ∙ ap (λ (r : ℕ). atExit r (t .twos) (i .s .twos)) g),
+      ap₂ pairOf (ones-zero ∙ zero (i .work .ones) ∙ ap (λ (r : ℕ). spaceExit r (i .work .ones)) g)
+          (twos-zero ∙ zero (i .work .twos) ∙ ap (λ (r : ℕ). spaceExit r (i .work .twos)) g),
     )
 
 pub draw-spec : {M : Type 1} → statement M

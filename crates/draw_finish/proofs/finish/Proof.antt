@@ -40,7 +40,6 @@ abbrev joined1-from-clear : tie.After-clear → tie.Joined1
 joined1-from-clear c = c .before .before .before
 
 -- what is lent at the entry
-
 abbrev lent : tie.Start → DrawCall
 lent s =
     let a = s .args in
@@ -72,28 +71,28 @@ returns c =
     let s = start-from-more-rows (after-make-word .before .before .before) in
     let z = s .args .z in
     let i = lent s in
-    let told = after-make-word .make-word .ensures in
-    let e = k .code .ensures ∙ told .0 in
+    let (told, grid, made) = after-make-word .make-word .ensures in
+    let e = k .code .ensures ∙ told in
     let ones-zero = cleared (after-clear .clear .ensures .0) (after-work-ones .work-ones .given) in
     let twos-zero = cleared (after-clear .clear .ensures .1) (k .before .before .work-twos .given) in
     ⊎-elim
     (λ w.
     let n = sym (k .code .ensures) ∙ w .0 .taken in
     let f = sym e ∙ w .0 .taken in
-    let d = word-written z (secretOf z (i .secret)) (i .p) (syndromeOf i) (choicesOf i) _ _ (told .2 .left n) (told .2 .right n) in
-    let t = signature-written z (secretOf z (i .secret)) (i .p) (syndromeOf i) (choicesOf i) _ _ (told .2 .left n) (told .2 .right n) in
-    let g = w .7 .ensures in (
-      told .0,
-      w .16 ∙ g .0 ∙ ap (λ (v : Vector). onesOf (upTo (places z) v) (wordsFor (places z))) d ∙ exit-new _ _ f,
-      w .17 ∙ g .1 ∙ ap (λ (v : Vector). twosOf (upTo (places z) v) (wordsFor (places z))) d ∙ exit-new _ _ f,
-      w .18 ∙ g .2 ∙ ap (λ (v : Vector). onesOf (upTo (dim z) v) (wordsFor (dim z))) t ∙ exit-new _ _ f,
-      w .19 ∙ g .3 ∙ ap (λ (v : Vector). twosOf (upTo (dim z) v) (wordsFor (dim z))) t ∙ exit-new _ _ f,
+    let d = word-written z (secretOf z (i .secret)) (i .p) (syndromeOf i) (choicesOf i) _ _ (made .left n) (made .right n) in
+    let t = signature-written z (secretOf z (i .secret)) (i .p) (syndromeOf i) (choicesOf i) _ _ (made .left n) (made .right n) in
+    let (word-ones, word-twos, s-ones, s-twos) = w .7 .ensures in (
+      told,
+      w .16 ∙ word-ones ∙ ap (λ (v : Vector). onesOf (upTo (places z) v) (wordsFor (places z))) d ∙ exit-new _ _ f,
+      w .17 ∙ word-twos ∙ ap (λ (v : Vector). twosOf (upTo (places z) v) (wordsFor (places z))) d ∙ exit-new _ _ f,
+      w .18 ∙ s-ones ∙ ap (λ (v : Vector). onesOf (upTo (dim z) v) (wordsFor (dim z))) t ∙ exit-new _ _ f,
+      w .19 ∙ s-twos ∙ ap (λ (v : Vector). twosOf (upTo (dim z) v) (wordsFor (dim z))) t ∙ exit-new _ _ f,
       ones-zero,
       twos-zero,
     ))
     (λ w.
     let h = positive (w .0 .left) in (
-      told .0,
+      told,
       w .1 ∙ exit-kept _ _ e h,
       w .2 ∙ exit-kept _ _ e h,
       w .3 ∙ exit-kept _ _ e h,

@@ -23,8 +23,8 @@ same-length-2 c = search needs
 
 returns : tie.Need-returns
 returns c =
-    let e = check-packed-from-tell c .check-packed .ensures in
-    (c .tell .ensures ∙ e .0, e .1, e .2)
+    let (answer, work-ones, work-twos) = check-packed-from-tell c .check-packed .ensures in
+    (c .tell .ensures ∙ answer, work-ones, work-twos)
 
 pub wave-check-spec : {M : Type 1} → statement M
 wave-check-spec =

@@ -32,7 +32,7 @@ same-length-5 c = search needs
 
 returns : tie.Need-returns
 returns c =
-    let e = build-from-code c .build .ensures in (c .code .ensures ∙ e .0, e .1, e .2, e .3)
+    let (answer, order, key, work) = build-from-code c .build .ensures in (c .code .ensures ∙ answer, order, key, work)
 
 pub wave-build-spec : {M : Type 1} → statement M
 wave-build-spec =

@@ -35,7 +35,7 @@ same-length-6 c = search needs
 
 returns : tie.Need-returns
 returns c =
-    let e = draw-from-code c .draw .ensures in (c .code .ensures ∙ e .0, e .1, e .2, e .3)
+    let (answer, word, s, work) = draw-from-code c .draw .ensures in (c .code .ensures ∙ answer, word, s, work)
 
 pub wave-draw-spec : {M : Type 1} → statement M
 wave-draw-spec =

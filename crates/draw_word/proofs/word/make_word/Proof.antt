@@ -161,10 +161,10 @@ returns-2 c =
     let after-part-word = part-word-from-solve-halves after-solve-halves in
     let s = start-from-part-word after-part-word in
     let a = s .args in
-    let j = after-join-word .join-word .ensures in (
+    let (grid, joined, weight) = after-join-word .join-word .ensures in (
       ending-fourteen (a .z) (lent s) (ranks else1) (a .l) (s .pre .ready) (after-part-word .part-word .ensures .1) (solved else1)
-          (after-solve-halves .solve-halves .ensures .2) (j .1) (64 * halfWords (a .z)) (wide s) (j .2) (c .if2 .taken),
-      j .0,
+          (after-solve-halves .solve-halves .ensures .2) (joined) (64 * halfWords (a .z)) (wide s) (weight) (c .if2 .taken),
+      grid,
       unmade (lit< tt),
     )
 
@@ -182,12 +182,12 @@ returns-3 c =
     let after-part-word = part-word-from-solve-halves after-solve-halves in
     let s = start-from-part-word after-part-word in
     let a = s .args in
-    let j = after-join-word .join-word .ensures in (
+    let (grid, joined, weight) = after-join-word .join-word .ensures in (
       ending-none (a .z) (lent s) (ranks else1) (a .l) (s .pre .ready) (after-part-word .part-word .ensures .1) (solved else1)
-          (after-solve-halves .solve-halves .ensures .2) (j .1) (64 * halfWords (a .z)) (wide s) (j .2) (c .if2 .left),
-      j .0,
+          (after-solve-halves .solve-halves .ensures .2) (joined) (64 * halfWords (a .z)) (wide s) (weight) (c .if2 .left),
+      grid,
       made (a .z) (lent s) (ranks else1) (a .l) (s .pre .ready) (after-part-word .part-word .ensures .1) (solved else1)
-          (after-solve-halves .solve-halves .ensures .2) (j .1),
+          (after-solve-halves .solve-halves .ensures .2) (joined),
     )
 
 pub make-word-spec : {M : Type 1} → statement M

@@ -45,13 +45,13 @@ returns c =
     let start = start-from-unpack-row after-unpack-row in
     let a = start .args in
     let h : (a .m + 4) / 5 ≤ 3277 = omega (arith, start .pre) in
-    let u = after-unpack-row .unpack-row .ensures in
+    let (answer, number, ones-unpacked, twos-unpacked) = after-unpack-row .unpack-row .ensures in
     let o = now (a .ones) in
     let t = now (a .twos) in (
-      u .0 ∙ ap (λ (n : ℕ). unpackRefusal (unpackOf (a .m) (packedAfter n (a .x)) o t)) (part-length _ _ 3277 refl h),
-      u .1 ∙ ap (λ (n : ℕ). numberAfter n (a .x)) (part-length _ _ 3277 refl h),
-      u .2 ∙ ap (λ (n : ℕ). unpackOnes (unpackOf (a .m) (packedAfter n (a .x)) o t)) (part-length _ _ 3277 refl h),
-      u .3 ∙ ap (λ (n : ℕ). unpackTwos (unpackOf (a .m) (packedAfter n (a .x)) o t)) (part-length _ _ 3277 refl h),
+      answer ∙ ap (λ (n : ℕ). unpackRefusal (unpackOf (a .m) (packedAfter n (a .x)) o t)) (part-length _ _ 3277 refl h),
+      number ∙ ap (λ (n : ℕ). numberAfter n (a .x)) (part-length _ _ 3277 refl h),
+      ones-unpacked ∙ ap (λ (n : ℕ). unpackOnes (unpackOf (a .m) (packedAfter n (a .x)) o t)) (part-length _ _ 3277 refl h),
+      twos-unpacked ∙ ap (λ (n : ℕ). unpackTwos (unpackOf (a .m) (packedAfter n (a .x)) o t)) (part-length _ _ 3277 refl h),
     )
 
 pub fill-row-spec : {M : Type 1} → statement M

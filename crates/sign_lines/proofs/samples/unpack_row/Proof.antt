@@ -44,13 +44,13 @@ returns c =
     let start = start-from-fill-bytes after-fill-bytes in
     let a = start .args in
     let f = after-fill-bytes .fill-bytes .ensures in
-    let u = after-unpack .unpack .ensures in
+    let (answer, ones-unpacked, twos-unpacked) = after-unpack .unpack .ensures in
     let o = now (a .ones) in
     let t = now (a .twos) in (
-      c .code .ensures ∙ u .0 ∙ ap (λ (b : List ℕ). unpackRefusal (unpackOf (a .m) b o t)) (f .1),
+      c .code .ensures ∙ answer ∙ ap (λ (b : List ℕ). unpackRefusal (unpackOf (a .m) b o t)) (f .1),
       f .0,
-      u .1 ∙ ap (λ (b : List ℕ). unpackOnes (unpackOf (a .m) b o t)) (f .1),
-      u .2 ∙ ap (λ (b : List ℕ). unpackTwos (unpackOf (a .m) b o t)) (f .1),
+      ones-unpacked ∙ ap (λ (b : List ℕ). unpackOnes (unpackOf (a .m) b o t)) (f .1),
+      twos-unpacked ∙ ap (λ (b : List ℕ). unpackTwos (unpackOf (a .m) b o t)) (f .1),
     )
 
 pub unpack-row-spec : {M : Type 1} → statement M

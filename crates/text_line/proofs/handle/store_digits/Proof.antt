@@ -104,11 +104,11 @@ returns c =
     let m = after-row-trits .row-trits .ensures in
     let ex = front-part (after-offer .offer .result) (after-offer .offer .last .1 .1 .0) ∙ o .1 .0 ∙ ap (λ (x : ℕ). offeredOnes x d) m in
     let ey = front-part (after-offer .offer .result) (after-offer .offer .last .1 .1 .1 .0) ∙ o .1 .1 ∙ ap (λ (x : ℕ). offeredTwos x d) m in
-    let e = after-store-row .store-row .ensures in
+    let (told, state, ones-kept, twos-kept) = after-store-row .store-row .ensures in
     let p = part-key h ones w in
     let q = part-key h twos w in (
-      c .code .ensures ∙ e .0 ∙ row-refusal h ones twos p q d ex ey,
-      row-kept h ones twos p q d ex ey (e .1) (e .2) (e .3) (part-after h ones w) (part-after h twos w),
+      c .code .ensures ∙ told ∙ row-refusal h ones twos p q d ex ey,
+      row-kept h ones twos p q d ex ey (state) (ones-kept) (twos-kept) (part-after h ones w) (part-after h twos w),
     )
 
 pub store-digits-spec : {M : Type 1} → statement M

@@ -29,7 +29,7 @@ use Rattle.scheme.specs.Secret.{Secret}
 use Rattle.scheme.specs.Draw.{Choices, pivotsV, suppliedV, drawV, pivotsU, suppliedU, drawU}
 use Rattle.scheme_laws.proofs.Draws.{parts, first-below, last-in}
 use Rattle.draw_reduce.specs.Steps.{over, taken, passed}
-use Rattle.draw_reduce.proofs.Walked.{first-taken, first-passed, order-taken, order-passed, taken-cong, over-row, over-rest, passed-over}
+use Rattle.draw_reduce.proofs.Walked.{first-taken, first-passed, order-taken, order-passed, taken-cong, over-row, over-rest, over-passed}
 use Rattle.scheme.specs.Draw.{forcedBy}
 use Rattle.draw_walk.proofs.Supplied.{walk-length, put-again}
 use Rattle.draw_half.specs.Steps.{Ends, halfPivots, wordV, wordU, Solved, SolvedWhere}
@@ -168,7 +168,7 @@ module _ (r g : ℕ) (H A : Matrix) (order : List ℕ) (o : Order (length order)
     passedV : {M : Matrix} → M ≡ reduced → passed r M 0 (take n order) ≡ without piv order
     passedV a =
         ap₂ (λ (B : Matrix) (l : List ℕ). passed r B 0 l) a (take-length order)
-        ∙ passed-over r (eliminated r H (take (r + g) order)) A 0 order ∙ order-passed r n H (r + g) order o full-pivots
+        ∙ over-passed r (eliminated r H (take (r + g) order)) A 0 order ∙ order-passed r n H (r + g) order o full-pivots
 
     own-row : {M : Matrix} → M ≡ reduced → (k : ℕ) → r ≤ k → M k ≡ A k
     own-row a k h = ap (λ (B : Matrix). B k) a ∙ over-rest r (eliminated r H (take (r + g) order)) A k h
@@ -177,7 +177,7 @@ module _ (r g : ℕ) (H A : Matrix) (order : List ℕ) (o : Order (length order)
     pub roomV : {M : Matrix} (N : ℕ) → M ≡ reduced → n - r ≤ N → length (passed r M 0 (take n order)) ≤ N
     roomV {M} N a h =
         let F : Matrix = eliminated r H (take (r + g) order) in
-        let p = ap₂ (λ (B : Matrix) (l : List ℕ). length (passed r B 0 l)) a (take-length order) ∙ ap (λ (l : List ℕ). length l) (passed-over r F A 0 order) in
+        let p = ap₂ (λ (B : Matrix) (l : List ℕ). length (passed r B 0 l)) a (take-length order) ∙ ap (λ (l : List ℕ). length l) (over-passed r F A 0 order) in
         let t = ap (λ (l : List ℕ). length l) (order-taken r n H (r + g) order o full-pivots) in
         omega (arith, p, t, walk-length r F 0 order, full-pivots)
 
@@ -197,12 +197,12 @@ module _ (r g : ℕ) (H A : Matrix) (order : List ℕ) (o : Order (length order)
     passedU : {M : Matrix} → M ≡ reduced → passed r M 0 (take (r + g) order) ≡ without piv (take (r + g) order)
     passedU a =
         ap (λ (B : Matrix). passed r B 0 (take (r + g) order)) a
-        ∙ passed-over r (eliminated r H (take (r + g) order)) A 0 (take (r + g) order) ∙ first-passed r n H (r + g) order o
+        ∙ over-passed r (eliminated r H (take (r + g) order)) A 0 (take (r + g) order) ∙ first-passed r n H (r + g) order o
 
     pub roomU : {M : Matrix} (N : ℕ) → M ≡ reduced → r + g ≤ n → n - r ≤ N → length (passed r M 0 (take (r + g) order)) ≤ N
     roomU {M} N a k h =
         let F : Matrix = eliminated r H (take (r + g) order) in
-        let p = ap (λ (B : Matrix). length (passed r B 0 (take (r + g) order))) a ∙ ap (λ (l : List ℕ). length l) (passed-over r F A 0 (take (r + g) order)) in
+        let p = ap (λ (B : Matrix). length (passed r B 0 (take (r + g) order))) a ∙ ap (λ (l : List ℕ). length l) (over-passed r F A 0 (take (r + g) order)) in
         let t = ap (λ (l : List ℕ). length l) (first-taken r n H (r + g) order o) in
         omega (arith, p, t, walk-length r F 0 (take (r + g) order), full-pivots, length-take-le (r + g) order k)
 

@@ -205,10 +205,11 @@ module _ (w : ℕ) (o₀ t₀ : List ℕ) {o₁ t₁ o₂ t₂ : List ℕ} {r : 
   unfolding partedRows
   parted-grid l g h = grid-to h (ap (joinProduct subT l (l + 1) (l + 2) b) (g .cells))
 
-  pub joined-grid : (u v t : ℕ) → Grid o₁ t₁ r w (joinProduct addT u v t b (matrixAt w o₀ t₀)) → Grid o₂ t₂ r w (joinProduct addT v u t c (matrixAt w o₁ t₁))
+  pub joined-pair-grid : (u v t : ℕ) → Grid o₁ t₁ r w (joinProduct addT u v t b (matrixAt w o₀ t₀))
+      → Grid o₂ t₂ r w (joinProduct addT v u t c (matrixAt w o₁ t₁))
       → Grid o₂ t₂ r w (joinedRows u v t b c (matrixAt w o₀ t₀))
   unfolding joinedRows
-  joined-grid u v t g h = grid-to h (ap (joinProduct addT v u t c) (g .cells))
+  joined-pair-grid u v t g h = grid-to h (ap (joinProduct addT v u t c) (g .cells))
 
 -- ---- one trit read
 

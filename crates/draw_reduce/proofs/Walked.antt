@@ -341,8 +341,8 @@ module _ (r : ℕ) (F A : Matrix) (c : ℕ) (qs : List ℕ) where
   pub taken-over : taken r (over r F A) c qs ≡ taken r F c qs
   taken-over = taken-cong r (over r F A) F (over-row r F A) qs c
 
-  pub passed-over : passed r (over r F A) c qs ≡ passed r F c qs
-  passed-over = passed-cong r (over r F A) F (over-row r F A) qs c
+  pub over-passed : passed r (over r F A) c qs ≡ passed r F c qs
+  over-passed = passed-cong r (over r F A) F (over-row r F A) qs c
 
 -- what the definitions ask of the grid's matrix: it is reduced at the pivots
 pub order-reduced : (r n : ℕ) (H A : Matrix) (k : ℕ) (order : List ℕ) → Order n order

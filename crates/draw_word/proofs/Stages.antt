@@ -32,7 +32,7 @@ use Rattle.draw_pairs.proofs.DrawRows.{placed-parted, joined-halves, drawV-half
 use Rattle.calls.specs.Lent.{secretOf}
 use Rattle.calls.specs.DrawCall.{DrawCall, syndromeOf, choicesOf}
 use Rattle.draw_tests.specs.Steps.{ending, Ready}
-use Rattle.draw_word.specs.Steps.{pairsOf, startWord, Parted, SolvedWhere, Joined, eVOf, eUOf, MadeWhere}
+use Rattle.draw_word.specs.Steps.{pairsOf, startWord, Parted, SolvedHalves, Joined, eVOf, eUOf, MadeWhere}
 
 -- ---- a working space of 0
 
@@ -106,10 +106,10 @@ module _ (z : Sizes) (l : ℕ) (s : Secret) (ch : Choices) where
             k .word ∙ ap (λ (n : ℕ). Rattle.draw_half.specs.Steps.wordU (ru z) n (s .hu) (s .b) (s .c) (ch .orderU) (gapU z) (ch .valuesU) (B (l + 3)) (B l)) f
             ∙ word-drawU z s (B l) (B (l + 3)) ch ∙ ap₂ (λ (x y : Vector). drawU z s x y ch) kept-x row-v
 
-        pub halves-solved : SolvedWhere 0 z l s ch (A l) (A (l + 1)) C
+        pub halves-solved : SolvedHalves 0 z l s ch (A l) (A (l + 1)) C
         halves-solved = record { eV = λ y. k .kept (l + 3) (omega arith) (λ y. omega arith) (λ y. omega arith) ∙ row-v; eU = λ y. row-u }
 
-pub unsolved : {n : ℕ} {z : Sizes} {l : ℕ} {s : Secret} {ch : Choices} {xU xV : Vector} {A : Matrix} → 0 < n → SolvedWhere n z l s ch xU xV A
+pub unsolved : {n : ℕ} {z : Sizes} {l : ℕ} {s : Secret} {ch : Choices} {xU xV : Vector} {A : Matrix} → 0 < n → SolvedHalves n z l s ch xU xV A
 unsolved h = record { eV = λ y. absurd (omega arith); eU = λ y. absurd (omega arith) }
 
 pub upto-row : {n : ℕ} {u : Vector} (v : Vector) → u ≡ upTo n v → Ends n u
@@ -182,7 +182,7 @@ module _ (z : Sizes) (i : DrawCall) where
     P = pairsOf (i .secret .b .ones) (i .secret .b .twos) (i .secret .c .ones) (i .secret .c .twos)
 
     module _ (l : ℕ) {A B C : Matrix} (r : Ready z i) (a : Parted z l P (startWord z (i .p) (syndromeOf i)) A) {n : ℕ} (n0 : n ≡ 0)
-        (h : SolvedWhere n z l S (choicesOf i) (A l) (A (l + 1)) B) (j : Joined l P B C) where
+        (h : SolvedHalves n z l S (choicesOf i) (A l) (A (l + 1)) B) (j : Joined l P B C) where
       row-eV : B (l + 3) ≡ eVOf z i
       row-eV = h .eV n0 ∙ ap (λ (x : Vector). drawV z S x (choicesOf i)) (a .right) ∙ drawV-half z S (vOf z S (startWord z (i .p) (syndromeOf i))) (choicesOf i)
 

@@ -41,7 +41,7 @@ pub record Parted (z : Sizes) (l : ℕ) (s : Secret) (x : Vector) (A : Matrix) :
   pub emptyU : A (l + 4) ≡ zeros
 
 -- where nothing is refused, the rows hold e_V and e_U for x_U and x_V
-pub record SolvedWhere (n : ℕ) (z : Sizes) (l : ℕ) (s : Secret) (ch : Choices) (xU xV : Vector) (A : Matrix) : Type 0 where
+pub record SolvedHalves (n : ℕ) (z : Sizes) (l : ℕ) (s : Secret) (ch : Choices) (xU xV : Vector) (A : Matrix) : Type 0 where
   pub eV : n ≡ 0 → A (l + 3) ≡ drawV z s xV ch
   pub eU : n ≡ 0 → A (l + 4) ≡ drawU z s xU (drawV z s xV ch) ch
 

@@ -8,7 +8,7 @@ ghost use Rattle.trits.specs.Refusal.{codeOf};
 ghost use Rattle.grid.specs.Steps.{Rows};
 ghost use Rattle.calls.specs.Lent.{planes, halfWords, secretOf};
 ghost use Rattle.draw_tests.specs.Steps.{given, ending};
-ghost use Rattle.draw_word.specs.Steps.{pairsOf, choices, startWord, Parted, SolvedWhere, Joined, MadeWhere, ForPartWord, ForSolveHalves, ForJoinWord};
+ghost use Rattle.draw_word.specs.Steps.{pairsOf, choices, startWord, Parted, SolvedHalves, Joined, MadeWhere, ForPartWord, ForSolveHalves, ForJoinWord};
 ghost use Rattle.draw_word.specs.Steps.{ForMakeWord};
 use scheme::sizes;
 use scheme::sizes::Sizes;
@@ -95,7 +95,7 @@ pub fn solve_halves(
         (now («u_twos» .entry)) in
         let A = matrixAt (halfWords z) (now («work_ones» .entry)) (now («work_twos» .entry)) in
         (codeOf r ≡ ranksRefusal z s ch 0) × Rows (now («work_ones» .exit)) (now («work_twos» .exit)) (l + 5) (halfWords z)
-        × SolvedWhere (codeOf r) z l s ch (A l) (A (l + 1)) (matrixAt (halfWords z) (now («work_ones» .exit)) (now («work_twos» .exit)))) ⌝ }
+        × SolvedHalves (codeOf r) z l s ch (A l) (A (l + 1)) (matrixAt (halfWords z) (now («work_ones» .exit)) (now («work_twos» .exit)))) ⌝ }
 {
     let s = sizes::shape_of(z);
     let gv = z.g as usize;

@@ -86,7 +86,7 @@ module _ (w : ℕ) (o₀ t₀ : List ℕ) {o₁ t₁ o₂ t₂ : List ℕ} {r : 
   made-grid t i v f a b c =
       grid-to c (ap (λ (B : Matrix). putRow t (zipV mulT (B t) v) B) (b .cells ∙ ap (joinRow addT t i) (a .cells)) ∙ product-made t i f v (matrixAt w o₀ t₀))
 
-  pub joined-grid : (op : Trit → Trit → Trit) (a i t : ℕ) (v : Vector) → (a ≡ t → ⊥)
+  pub product-joined-grid : (op : Trit → Trit → Trit) (a i t : ℕ) (v : Vector) → (a ≡ t → ⊥)
       → Grid o₁ t₁ r w (putRow t (zipV mulT (matrixAt w o₀ t₀ i) v) (matrixAt w o₀ t₀))
       → Grid o₂ t₂ r w (joinRow op a t (matrixAt w o₁ t₁)) → Grid o₂ t₂ r w (joinProduct op a i t v (matrixAt w o₀ t₀))
-  joined-grid op a i t v f g h = grid-to h (ap (joinRow op a t) (g .cells) ∙ product-joined op a i t v (matrixAt w o₀ t₀) f)
+  product-joined-grid op a i t v f g h = grid-to h (ap (joinRow op a t) (g .cells) ∙ product-joined op a i t v (matrixAt w o₀ t₀) f)

@@ -29,8 +29,8 @@ module _ (c : Check) (r : checkAnswer c .refusal ≡ 0) where
   unfolding checkAnswer
   not-refused = answered-number (checkRefusal c) _ _ r
 
-  pub says-yes : (checkAnswer c .yes ≡ 1) ↔ HeldFound (c .held) (c .ones) (c .twos) (tritAt (c .yOnes) (c .yTwos)) (tritAt (c .sOnes) (c .sTwos))
-  says-yes = check-verdict c not-refused
+  pub check-says-yes : (checkAnswer c .yes ≡ 1) ↔ HeldFound (c .held) (c .ones) (c .twos) (tritAt (c .yOnes) (c .yTwos)) (tritAt (c .sOnes) (c .sTwos))
+  check-says-yes = check-verdict c not-refused
 
   pub one-word : (y s e f : Vector) → HeldExtending (c .held) (c .ones) (c .twos) y s e → HeldExtending (c .held) (c .ones) (c .twos) y s f → (q : ℕ)
       → q < c .held .n → e q ≡ f q

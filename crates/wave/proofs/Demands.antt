@@ -1,7 +1,7 @@
 -- Demand 3 holds, whole. Assumes nothing.
 use Rattle.wave.specs.DemandThree.{DemandThree}
 use Rattle.wave.proofs.ReachCalls.{syndrome-lent, reach-calls}
-use Rattle.wave.proofs.Checks.{says-yes, packed-says-yes, one-word, packed-one-word}
+use Rattle.wave.proofs.Checks.{check-says-yes, packed-says-yes, one-word, packed-one-word}
 use Rattle.wave.proofs.EndToEnd.{end-to-end, end-to-end-planes}
 
 pub demand-three : DemandThree
@@ -12,7 +12,7 @@ demand-three =
       -- from a call to its choices as vectors, and back: lent planes and the vectors that they hold; `reach` of Reach between
       reach = reach-calls;
       -- the full word of y and s is the one word that has the syndrome and extends s
-      verifier = says-yes;
+      verifier = check-says-yes;
       packed-verifier = packed-says-yes;
       one-word = one-word;
       packed-one-word = packed-one-word;

@@ -46,7 +46,7 @@ use Rattle.wave.specs.Verifier.{Host, packedKeyRow, carried, carriedChec
 use Rattle.wave.proofs.Written.{written-passes}
 use Rattle.wave.proofs.Passed.{DrawPassed, draw-call}
 use Rattle.wave.proofs.Checks.{packed-not-refused}
-use Rattle.wave.proofs.ReachCalls.{few, ones-row, twos-row, built-row, handed-ones, handed-twos, handed-signature, drawn-terms}
+use Rattle.wave.proofs.ReachCalls.{few, built-ones, built-twos, built-row, handed-ones, handed-twos, handed-signature, drawn-terms}
 
 -- ---- a call of `pack`
 
@@ -124,9 +124,9 @@ module _ (z : Sizes) (i : BuildCall) (b : Built z i) (g w : ℕ) (l : DrawCall) 
       let v : Vector = upTo (codim z) (keyRow z (secretOf z (i .secret)) (i .start) j) in
       pack-writes (codim z) (rowPart (keyExit z i .ones) (dim z) (keyRowWords z) j) (rowPart (keyExit z i .twos) (dim z) (keyRowWords z) j) (m .rowBytes j)
       few-codim
-      (ap length (sym (ones-row z i b j h)) ∙ length-ones v (keyRowWords z)) (ap length (sym (twos-row z i b j h)) ∙ length-twos v (keyRowWords z))
+      (ap length (sym (built-ones z i b j h)) ∙ length-ones v (keyRowWords z)) (ap length (sym (built-twos z i b j h)) ∙ length-twos v (keyRowWords z))
       (m .row-bytes-size j h)
-      (ap₂ (λ (x y : List ℕ). planesRefusal x y 1 (codim z)) (sym (ones-row z i b j h)) (sym (twos-row z i b j h))
+      (ap₂ (λ (x y : List ℕ). planesRefusal x y 1 (codim z)) (sym (built-ones z i b j h)) (sym (built-twos z i b j h))
       ∙ written-passes (codim z) (keyRow z (secretOf z (i .secret)) (i .start) j))
 
   row-size : (j : ℕ) → j < dim z → length (packedKeyRow z i m j) ≡ bytesFor (z .n - dim z)

@@ -46,18 +46,18 @@ module _ (z : Sizes) (i : BuildCall) (b : Built z i) where
   abbrev s : Secret
   s = secretOf z (i .secret)
 
-  pub ones-row : (j : ℕ) → j < dim z
+  pub built-ones : (j : ℕ) → j < dim z
       → onesOf (upTo (codim z) (keyRow z (secretOf z (i .secret)) (i .start) j)) (keyRowWords z) ≡ rowPart (keyExit z i .ones) (dim z) (keyRowWords z) j
   unfolding keyExit keyOnesOf
-  ones-row j l =
+  built-ones j l =
       sym (ap (λ (x : List ℕ). rowPart x (dim z) (keyRowWords z) j) (sym (exit-new (keyOnesOf z s (i .start)) (i .key .ones) b))
       ∙ rows-part (λ k. onesOf (upTo (codim z) (keyRow z s (i .start) k)) (keyRowWords z)) (keyRowWords z)
       (λ k. length-ones (upTo (codim z) (keyRow z s (i .start) k)) (keyRowWords z)) (dim z) j l)
 
-  pub twos-row : (j : ℕ) → j < dim z
+  pub built-twos : (j : ℕ) → j < dim z
       → twosOf (upTo (codim z) (keyRow z (secretOf z (i .secret)) (i .start) j)) (keyRowWords z) ≡ rowPart (keyExit z i .twos) (dim z) (keyRowWords z) j
   unfolding keyExit keyTwosOf
-  twos-row j l =
+  built-twos j l =
       sym (ap (λ (x : List ℕ). rowPart x (dim z) (keyRowWords z) j) (sym (exit-new (keyTwosOf z s (i .start)) (i .key .twos) b))
       ∙ rows-part (λ k. twosOf (upTo (codim z) (keyRow z s (i .start) k)) (keyRowWords z)) (keyRowWords z)
       (λ k. length-twos (upTo (codim z) (keyRow z s (i .start) k)) (keyRowWords z)) (dim z) j l)
@@ -65,7 +65,7 @@ module _ (z : Sizes) (i : BuildCall) (b : Built z i) where
   -- a row of the key's words is a row of R, and 0 past it
   pub built-row : (j : ℕ) → j < dim z → builtKey z i j ≡ upTo (codim z) (keyRow z (secretOf z (i .secret)) (i .start) j)
   unfolding builtKey
-  built-row j l = ap₂ tritAt (sym (ones-row j l)) (sym (twos-row j l)) ∙ written-back (codim z) (keyRow z s (i .start) j)
+  built-row j l = ap₂ tritAt (sym (built-ones j l)) (sym (built-twos j l)) ∙ written-back (codim z) (keyRow z s (i .start) j)
 
   pub built-released : Released z (secretOf z (i .secret)) (i .start) (orderExit z i) (builtKey z i)
   unfolding orderExit

@@ -1,10 +1,10 @@
--- b·e_V is added to e_U, which is e_L, and c·e_L to e_V (`joined-grid`; what the rows are: `joined-left`, `joined-right`).
+-- b·e_V is added to e_U, which is e_L, and c·e_L to e_V (`joined-pair-grid`; what the rows are: `joined-left`, `joined-right`).
 -- Assumes nothing.
 use mathlib.Core.Path.{sym}
 use borrow.Author.Needs.{needs}
 use denote.Ref.{now}
 use Rattle.trits.specs.Planes.{tritAt}
-use Rattle.draw_pairs.proofs.PlacedHalves.{joined-grid}
+use Rattle.draw_pairs.proofs.PlacedHalves.{joined-pair-grid}
 use Rattle.draw_pairs.proofs.halves.join_halves.Statement.{statement}
 use Rattle.draw_pairs.proofs.halves.join_halves.Tie as tie
 
@@ -64,7 +64,7 @@ returns c =
     let after-add-product = add-product-from-add-product2 after-add-product2 in
     let s = start-from-add-product after-add-product in
     let a = s .args in
-    joined-grid (a .w) (now (a .ones)) (now (a .twos)) (tritAt (now (a .bo)) (now (a .bt))) (tritAt (now (a .co)) (now (a .ct))) (a .u) (a .v) (a .t)
+    joined-pair-grid (a .w) (now (a .ones)) (now (a .twos)) (tritAt (now (a .bo)) (now (a .bt))) (tritAt (now (a .co)) (now (a .ct))) (a .u) (a .v) (a .t)
     (after-add-product .add-product .ensures) (after-add-product2 .add-product2 .ensures)
 
 pub join-halves-spec : {M : Type 1} → statement M

@@ -1,10 +1,10 @@
--- The product is made in row t, and row t is added to row a (`joined-grid`).
+-- The product is made in row t, and row t is added to row a (`product-joined-grid`).
 -- Assumes nothing.
 use borrow.Author.Needs.{needs}
 use denote.Ref.{now}
 use Rattle.trits.specs.Planes.{tritAt}
 use Rattle.trits.specs.Trit.{addT}
-use Rattle.grid.proofs.RowProducts.{joined-grid}
+use Rattle.grid.proofs.RowProducts.{product-joined-grid}
 use Rattle.grid.proofs.products.add_product.Statement.{statement}
 use Rattle.grid.proofs.products.add_product.Tie as tie
 
@@ -56,7 +56,7 @@ returns c =
     let after-put-product = put-product-from-add-rows after-add-rows in
     let s = start-from-put-product after-put-product in
     let n = s .args in
-    joined-grid (n .w) (now (n .ones)) (now (n .twos)) addT (n .a) (n .i) (n .t) (tritAt (now (n .so)) (now (n .st))) (s .pre .a-apart)
+    product-joined-grid (n .w) (now (n .ones)) (now (n .twos)) addT (n .a) (n .i) (n .t) (tritAt (now (n .so)) (now (n .st))) (s .pre .a-apart)
     (after-put-product .put-product .ensures) (after-add-rows .add-rows .ensures)
 
 pub add-product-spec : {M : Type 1} → statement M

@@ -1,10 +1,10 @@
--- The product is made in row t, and row t is subtracted from row a (`joined-grid`).
+-- The product is made in row t, and row t is subtracted from row a (`product-joined-grid`).
 -- Assumes nothing.
 use borrow.Author.Needs.{needs}
 use denote.Ref.{now}
 use Rattle.trits.specs.Planes.{tritAt}
 use Rattle.trits.specs.Trit.{subT}
-use Rattle.grid.proofs.RowProducts.{joined-grid}
+use Rattle.grid.proofs.RowProducts.{product-joined-grid}
 use Rattle.grid.proofs.products.sub_product.Statement.{statement}
 use Rattle.grid.proofs.products.sub_product.Tie as tie
 
@@ -56,7 +56,7 @@ returns c =
     let after-put-product = put-product-from-sub-rows after-sub-rows in
     let s = start-from-put-product after-put-product in
     let n = s .args in
-    joined-grid (n .w) (now (n .ones)) (now (n .twos)) subT (n .a) (n .i) (n .t) (tritAt (now (n .so)) (now (n .st))) (s .pre .a-apart)
+    product-joined-grid (n .w) (now (n .ones)) (now (n .twos)) subT (n .a) (n .i) (n .t) (tritAt (now (n .so)) (now (n .st))) (s .pre .a-apart)
     (after-put-product .put-product .ensures) (after-sub-rows .sub-rows .ensures)
 
 pub sub-product-spec : {M : Type 1} → statement M

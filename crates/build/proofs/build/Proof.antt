@@ -24,12 +24,31 @@ use borrow.Author.Needs.{needs}
 use Rattle.build.proofs.build.Statement.{statement}
 use Rattle.build.proofs.build.Tie as tie
 
--- The places that the answers look back to, each from a later one.
+-- The places that the answers look back to, each from a later one: the entry first, the others after the first return.
 abbrev start-from-shared-slice-known8 : tie.After-shared-slice-known8 → tie.Start
 start-from-shared-slice-known8 c = c .before .before .before .before .before .before .before .before
 
+-- a number from 1 to 8 is the whole answer: every buffer stays
+refused : (z : Sizes) (i : BuildCall) {r : ℕ} → r ≡ buildAnswer z i → 0 < r → r ≤ 8
+    → (r ≡ buildAnswer z i) × (i .p ≡ orderExit z i) × (i .key ≡ keyExit z i) × (i .work ≡ buildWorkExit z i)
+unfolding orderExit keyExit buildWorkExit
+refused z i e h g = (
+  e,
+  exit-kept _ _ e h,
+  ap₂ pairOf (exit-kept _ _ e h) (exit-kept _ _ e h),
+  ap₂ pairOf (work-kept _ e h g) (work-kept _ e h g),
+)
+
+-- 1 is told before anything is touched
+returns : tie.Need-returns
+returns c =
+    refused _ _ (answer-size _ _ (sym (c .before .sizes-fit .ensures) ∙ not-true (c .before .sizes-fit .result) (c .if1 .taken))) (lit< tt) (lit< tt)
+
+abbrev shared-slice-known9-from-sizes-fit : tie.After-sizes-fit → tie.After-shared-slice-known9
+shared-slice-known9-from-sizes-fit c = c .before .before .before .before .before .before
+
 abbrev shared-slice-known8-from-sizes-fit : tie.After-sizes-fit → tie.After-shared-slice-known8
-shared-slice-known8-from-sizes-fit c = c .before .before .before .before .before .before .before
+shared-slice-known8-from-sizes-fit c = shared-slice-known9-from-sizes-fit c .before
 
 abbrev start-from-sizes-fit : tie.After-sizes-fit → tie.Start
 start-from-sizes-fit c = start-from-shared-slice-known8 (shared-slice-known8-from-sizes-fit c)
@@ -46,8 +65,11 @@ start-from-else3 c = start-from-else2 (c .before .before .before)
 abbrev else3-from-finish : tie.After-finish → tie.Else3
 else3-from-finish c = c .before .before .before .before .before .before
 
+abbrev finish-from-slice-known8 : tie.After-slice-known8 → tie.After-finish
+finish-from-slice-known8 c = c .before .before .before .before .before .before
+
 abbrev finish-from-slice-known10 : tie.After-slice-known10 → tie.After-finish
-finish-from-slice-known10 c = c .before .before .before .before .before .before .before .before .before .before
+finish-from-slice-known10 c = finish-from-slice-known8 (c .before .before .before .before)
 
 -- all that is lent at the entry
 abbrev lent : tie.Start → BuildCall
@@ -56,17 +78,6 @@ lent s =
     buildCall (planes (now (a .hu-ones)) (now (a .hu-twos)) (now (a .hv-ones)) (now (a .hv-twos)) (now (a .b-ones)) (now (a .b-twos)) (now (a .c-ones))
     (now (a .c-twos)))
     (now (a .start)) (now (a .p)) (now (a .key-ones)) (now (a .key-twos)) (now (a .work-ones)) (now (a .work-twos))
-
--- a number from 1 to 8 is the whole answer: every buffer stays
-refused : (z : Sizes) (i : BuildCall) {r : ℕ} → r ≡ buildAnswer z i → 0 < r → r ≤ 8
-    → (r ≡ buildAnswer z i) × (i .p ≡ orderExit z i) × (i .key ≡ keyExit z i) × (i .work ≡ buildWorkExit z i)
-unfolding orderExit keyExit buildWorkExit
-refused z i e h g = (
-  e,
-  exit-kept _ _ e h,
-  ap₂ pairOf (exit-kept _ _ e h) (exit-kept _ _ e h),
-  ap₂ pairOf (work-kept _ e h g) (work-kept _ e h g),
-)
 
 -- lengths that are right and contents that are not refused: the secret can be read, for its words are words
 secret-read : (c : tie.After-shared-slice-known8)
@@ -113,12 +124,6 @@ ranked c =
 
 sizes-fit-requires : tie.Need-sizes-fit-requires
 sizes-fit-requires c κs = search needs
-
-returns : tie.Need-returns
-returns c =
-    let s = start-from-sizes-fit (c .before) in
-    let e = sym (c .before .sizes-fit .ensures) ∙ not-true (c .before .sizes-fit .result) (c .if1 .taken) in
-    refused (s .args .z) (lent s) (answer-size (s .args .z) (lent s) e) (lit< tt) (lit< tt)
 
 lengths-differ-requires : tie.Need-lengths-differ-requires
 lengths-differ-requires c κs = fits c

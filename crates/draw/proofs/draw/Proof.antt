@@ -25,7 +25,7 @@ use borrow.Author.Needs.{needs}
 use Rattle.draw.proofs.draw.Statement.{statement}
 use Rattle.draw.proofs.draw.Tie as tie
 
--- The places that the answers look back to, each from a later one.
+-- The places that the answers look back to, each from a later one: the entry first, the others after the first return.
 abbrev start-from-shared-slice-known8 : tie.After-shared-slice-known8 → tie.Start
 start-from-shared-slice-known8 c = c .before .before .before .before .before .before .before .before
 
@@ -35,8 +35,27 @@ shared-slice-known8-from-shared-slice-known17 c = c .before .before .before .bef
 abbrev start-from-shared-slice-known17 : tie.After-shared-slice-known17 → tie.Start
 start-from-shared-slice-known17 c = start-from-shared-slice-known8 (shared-slice-known8-from-shared-slice-known17 c)
 
+-- a number from 1 to 8 is the whole answer: every buffer stays
+refused : (z : Sizes) (i : DrawCall) {r : ℕ} → r ≡ drawAnswer z i → 0 < r → r ≤ 8
+    → (r ≡ drawAnswer z i) × (i .word ≡ wordExit z i) × (i .s ≡ sExit z i) × (i .work ≡ drawWorkExit z i)
+unfolding wordExit sExit drawWorkExit
+refused z i e h g = (
+  e,
+  ap₂ pairOf (exit-kept _ _ e h) (exit-kept _ _ e h),
+  ap₂ pairOf (exit-kept _ _ e h) (exit-kept _ _ e h),
+  ap₂ pairOf (work-kept _ e h g) (work-kept _ e h g),
+)
+
+-- 1 is told before anything is touched
+returns : tie.Need-returns
+returns c =
+    refused _ _ (answer-size _ _ (sym (c .before .sizes-fit .ensures) ∙ not-true (c .before .sizes-fit .result) (c .if1 .taken))) (lit< tt) (lit< tt)
+
+abbrev slice-known-from-sizes-fit : tie.After-sizes-fit → tie.After-slice-known
+slice-known-from-sizes-fit c = c .before .before .before .before .before .before
+
 abbrev shared-slice-known17-from-sizes-fit : tie.After-sizes-fit → tie.After-shared-slice-known17
-shared-slice-known17-from-sizes-fit c = c .before .before .before .before .before .before .before
+shared-slice-known17-from-sizes-fit c = slice-known-from-sizes-fit c .before
 
 abbrev start-from-sizes-fit : tie.After-sizes-fit → tie.Start
 start-from-sizes-fit c = start-from-shared-slice-known17 (shared-slice-known17-from-sizes-fit c)
@@ -53,11 +72,17 @@ start-from-test-contents c = start-from-else2 (c .before)
 abbrev start-from-else3 : tie.Else3 → tie.Start
 start-from-else3 c = start-from-test-contents (c .before .before)
 
+abbrev else3-from-finish-arg6 : tie.After-finish-arg6 → tie.Else3
+else3-from-finish-arg6 c = c .before .before .before .before .before .before
+
 abbrev else3-from-finish : tie.After-finish → tie.Else3
-else3-from-finish c = c .before .before .before .before .before .before .before
+else3-from-finish c = else3-from-finish-arg6 (c .before)
+
+abbrev finish-from-slice-known9 : tie.After-slice-known9 → tie.After-finish
+finish-from-slice-known9 c = c .before .before .before .before .before .before
 
 abbrev finish-from-slice-known12 : tie.After-slice-known12 → tie.After-finish
-finish-from-slice-known12 c = c .before .before .before .before .before .before .before .before .before .before .before .before
+finish-from-slice-known12 c = finish-from-slice-known9 (c .before .before .before .before .before .before)
 
 -- all that is lent at the entry, and of it what is only read
 abbrev lent : tie.Start → DrawCall
@@ -73,17 +98,6 @@ abbrev read : tie.Start → DrawCall
 read s =
     let i = lent s in
     given (i .secret) (i .p) (i .y .ones) (i .y .twos) (i .orderV) (i .v .ones) (i .v .twos) (i .orderU) (i .u .ones) (i .u .twos)
-
--- a number from 1 to 8 is the whole answer: every buffer stays
-refused : (z : Sizes) (i : DrawCall) {r : ℕ} → r ≡ drawAnswer z i → 0 < r → r ≤ 8
-    → (r ≡ drawAnswer z i) × (i .word ≡ wordExit z i) × (i .s ≡ sExit z i) × (i .work ≡ drawWorkExit z i)
-unfolding wordExit sExit drawWorkExit
-refused z i e h g = (
-  e,
-  ap₂ pairOf (exit-kept _ _ e h) (exit-kept _ _ e h),
-  ap₂ pairOf (exit-kept _ _ e h) (exit-kept _ _ e h),
-  ap₂ pairOf (work-kept _ e h g) (work-kept _ e h g),
-)
 
 -- lengths that are right and contents that are not refused: the secret can be read, for its words are words
 secret-read : (c : tie.After-shared-slice-known8)
@@ -152,12 +166,6 @@ ended c =
 
 sizes-fit-requires : tie.Need-sizes-fit-requires
 sizes-fit-requires c κs = search needs
-
-returns : tie.Need-returns
-returns c =
-    let s = start-from-sizes-fit (c .before) in
-    let e = sym (c .before .sizes-fit .ensures) ∙ not-true (c .before .sizes-fit .result) (c .if1 .taken) in
-    refused (s .args .z) (lent s) (answer-size (s .args .z) (lent s) e) (lit< tt) (lit< tt)
 
 lengths-differ-requires : tie.Need-lengths-differ-requires
 lengths-differ-requires c κs = fits c

@@ -12,6 +12,12 @@ use Rattle.packed.proofs.Turned.{stream-size, stream-ones, stream-twos, stream-
 use Rattle.packing.proofs.from_stream.Statement.{statement}
 use Rattle.packing.proofs.from_stream.Tie as tie
 
+returns : tie.Need-returns
+unfolding streamOnes streamTwos
+returns c =
+    let e = stream-size _ _ _ _ (c .if1 .taken) in
+    (e, exit-kept _ _ e (lit< tt), exit-kept _ _ e (lit< tt))
+
 -- The places that the answers look back to, each from a later one.
 abbrev start-from-else3 : tie.Else3 → tie.Start
 start-from-else3 c = c .before .before .before .before .before .before
@@ -21,12 +27,6 @@ start-from-too-short c = start-from-else3 (c .before)
 
 abbrev start-from-else4 : tie.Else4 → tie.Start
 start-from-else4 c = start-from-too-short (c .before)
-
-returns : tie.Need-returns
-unfolding streamOnes streamTwos
-returns c =
-    let e = stream-size _ _ _ _ (c .if1 .taken) in
-    (e, exit-kept _ _ e (lit< tt), exit-kept _ _ e (lit< tt))
 
 add-words : tie.Need-add-words
 add-words c = search needs

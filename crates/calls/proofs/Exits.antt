@@ -1,9 +1,10 @@
 -- Refusals of contents are at most 8, and the working space at exit. Assumes nothing.
-use mathlib.Core.Path.{_≡_}
+use mathlib.Core.Path.{_≡_, ap, _∙_}
 use mathlib.Core.List.{List}
 use Prim.Native.Nat.{ℕ, _≤_, _<_}
 use native.Mathlib.Omega.{arith}
 use borrow.Author.Tests.{le-leb}
+use Rattle.trits.specs.Planes.{zeroWords}
 use Rattle.trits.specs.Refusal.{spaceExit, planesRefusal}
 use Rattle.trits.proofs.Refusals.{Leaves, left-kept, planes-all, positive}
 
@@ -20,3 +21,7 @@ low-leaves r h = record { stays = λ f. rw (le-leb 1 r (positive f), le-leb r 8 
 
 pub work-kept : (w : List ℕ) {k r : ℕ} → k ≡ r → 0 < k → k ≤ 8 → w ≡ spaceExit r w
 work-kept w {k} {r} e h g = left-kept w e h (low-leaves r (omega arith))
+
+-- words made 0 at a length that is also the entry's
+pub cleared : {w : List ℕ} {n m : ℕ} → w ≡ zeroWords n → n ≡ m → w ≡ zeroWords m
+cleared e d = e ∙ ap zeroWords d

@@ -1,5 +1,5 @@
 -- What both calls of the editor's half are lent: the secret in planes ("The secret pairs"), its
--- lengths and its contents, and orders ("Turned back by the input"). Assumes nothing.
+-- lengths and its contents ("Turned back by the input"). Assumes nothing.
 use mathlib.Core.Bool.{Bool, not, _||_}
 use mathlib.Core.List.{List}
 use Prim.Native.Nat.{ℕ, _*_}

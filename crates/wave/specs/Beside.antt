@@ -1,5 +1,5 @@
 -- Cases that the stars leave open, on the paper's small secret: draws, refusals, each term of demand 3 at work, and a
--- key carried to the module. More stand in packing, verdict, checker and signer. Assumes nothing.
+-- key carried to the module. More stand in trits, packed, matrix, verdict, scheme and checker. Assumes nothing.
 use mathlib.Core.Path.{_≡_}
 use mathlib.Core.Bool.{true}
 use mathlib.Core.List.{List, [], _∷_}

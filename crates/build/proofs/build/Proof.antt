@@ -44,6 +44,7 @@ returns : tie.Need-returns
 returns c =
     refused _ _ (answer-size _ _ (sym (c .before .sizes-fit .ensures) ∙ not-true (c .before .sizes-fit .result) (c .if1 .taken))) (lit< tt) (lit< tt)
 
+-- The other places.
 abbrev shared-slice-known9-from-sizes-fit : tie.After-sizes-fit → tie.After-shared-slice-known9
 shared-slice-known9-from-sizes-fit c = c .before .before .before .before .before .before
 

@@ -51,6 +51,7 @@ returns : tie.Need-returns
 returns c =
     refused _ _ (answer-size _ _ (sym (c .before .sizes-fit .ensures) ∙ not-true (c .before .sizes-fit .result) (c .if1 .taken))) (lit< tt) (lit< tt)
 
+-- The other places.
 abbrev slice-known-from-sizes-fit : tie.After-sizes-fit → tie.After-slice-known
 slice-known-from-sizes-fit c = c .before .before .before .before .before .before
 

@@ -3,12 +3,11 @@
 use Prim.Native.Nat.{ℕ, _+_, _*_}
 use mathlib.Core.Path.{_≡_, sym, ap, _∙_}
 use mathlib.Core.Logic.{⊎-elim}
-use mathlib.Core.List.{List}
 use native.Mathlib.Omega.{arith}
 use lib.ListN.{length}
 use denote.Ref.{now}
 use Rattle.trits.specs.Trit.{upTo}
-use Rattle.trits.specs.Planes.{wordsFor, onesOf, twosOf, zeroWords}
+use Rattle.trits.specs.Planes.{wordsFor, onesOf, twosOf}
 use Rattle.trits.proofs.Refusals.{exit-kept, exit-new, positive}
 use Rattle.matrix.specs.Linear.{Vector}
 use Rattle.scheme.specs.Sizes.{places, dim}
@@ -16,6 +15,7 @@ use Rattle.draw_pairs.proofs.DrawRows.{word-written, signature-written}
 use Rattle.calls.specs.Lent.{planes, halfWords, secretOf}
 use Rattle.calls.specs.DrawCall.{DrawCall, matrixRows, syndromeOf, choicesOf, wordOf}
 use Rattle.calls.proofs.Bounds.{bounds}
+use Rattle.calls.proofs.Exits.{cleared}
 use Rattle.draw_tests.specs.Steps.{given}
 use Rattle.draw_tests.proofs.Space.{Space, space}
 use borrow.Author.Needs.{needs}
@@ -55,10 +55,6 @@ roomy s = space (s .args .z) (bounds (s .args .z) (s .pre .sizes))
 -- as many rows as the larger matrix has
 rows : (c : tie.After-more-rows) → c .more-rows .result ≡ matrixRows (start-from-more-rows c .args .z)
 rows c = rw (c .before .shape-of .ensures) at (c .more-rows .ensures)
-
--- words made 0 at a length that is also the entry's
-cleared : {w : List ℕ} {n m : ℕ} → w ≡ zeroWords n → n ≡ m → w ≡ zeroWords m
-cleared e d = e ∙ ap zeroWords d
 
 returns : tie.Need-returns
 unfolding wordOf

@@ -2,17 +2,15 @@
 -- Assumes nothing.
 use mathlib.Core.Path.{_≡_, refl, sym, ap, _∙_}
 use mathlib.Core.Logic.{⊎-elim}
-use mathlib.Core.List.{List}
-use Prim.Native.Nat.{ℕ}
 use native.Mathlib.Omega.{arith}
 use lib.ListN.{length}
 use denote.Ref.{now}
-use Rattle.trits.specs.Planes.{zeroWords}
 use Rattle.trits.specs.Refusal.{codeOf}
 use Rattle.trits.proofs.Refusals.{exit-kept, exit-new, positive}
 use Rattle.scheme.specs.Secret.{Secret}
 use Rattle.scheme.specs.Build.{buildRefusal}
 use Rattle.calls.specs.Lent.{planes, secretOf}
+use Rattle.calls.proofs.Exits.{cleared}
 use Rattle.build_ranks.specs.Steps.{matrices}
 use Rattle.build_release.proofs.Released.{full-rank, same-ranks}
 use borrow.Author.Needs.{needs}
@@ -52,10 +50,6 @@ told c =
     let a = entry c .args in
     test-ranks-from-code c .test-ranks .ensures
     ∙ same-ranks (a .z) (matrices (a .z) (now (a .hu-ones)) (now (a .hu-twos)) (now (a .hv-ones)) (now (a .hv-twos))) (secret (entry c)) refl refl
-
--- words made 0 at a length that is also the entry's
-cleared : {w : List ℕ} {n m : ℕ} → w ≡ zeroWords n → n ≡ m → w ≡ zeroWords m
-cleared e d = e ∙ ap zeroWords d
 
 returns : tie.Need-returns
 returns c =

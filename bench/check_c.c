@@ -27,7 +27,7 @@ static uint64_t call_refusal(wave_held h, uint64_t number, size_t ones, size_t t
     return ones != h.k * w || twos != h.k * w || work_ones != w || work_twos != w ? 2 : 0;
 }
 
-/* ---- the weight */
+/* ---- the ones and twos */
 
 static uint8_t table[243][5];
 
@@ -47,39 +47,54 @@ static void unpack(size_t m, const uint8_t *bytes, uint64_t *restrict ones, uint
 }
 
 /* row i times t is taken from the word */
-static uint64_t take_row(const uint64_t *ones, const uint64_t *twos, size_t i, int t, uint64_t *work_ones, uint64_t *work_twos, size_t w) {
-    if (t == 0) return 0;
+static void take_row(const uint64_t *ones, const uint64_t *twos, size_t i, int t, uint64_t *work_ones, uint64_t *work_twos, size_t w) {
     if (t == 1)
         add(work_ones, work_twos, twos + i * w, ones + i * w, w);
-    else
+    else if (t == 2)
         add(work_ones, work_twos, ones + i * w, twos + i * w, w);
-    return 1;
 }
 
-static uint64_t full_weight(wave_held h, const uint64_t *ones, const uint64_t *twos, const uint64_t *y_ones, const uint64_t *y_twos, const uint64_t *s_ones, const uint64_t *s_twos,
-                            uint64_t *work_ones, uint64_t *work_twos) {
+typedef struct { uint64_t ones, twos; } counts;
+
+static counts count(const uint64_t *ones, const uint64_t *twos, size_t w) {
+    counts c = {0, 0};
+    for (size_t k = 0; k < w; k++) {
+        c.ones += (uint64_t)__builtin_popcountll(ones[k]);
+        c.twos += (uint64_t)__builtin_popcountll(twos[k]);
+    }
+    return c;
+}
+
+static counts full_counts(wave_held h, const uint64_t *ones, const uint64_t *twos, const uint64_t *y_ones, const uint64_t *y_twos, const uint64_t *s_ones, const uint64_t *s_twos,
+                          uint64_t *work_ones, uint64_t *work_twos) {
     size_t w = WAVE_WORDS(h.n - h.k);
-    uint64_t taken = 0;
     memcpy(work_ones, y_ones, 8 * w);
     memcpy(work_twos, y_twos, 8 * w);
-    for (size_t i = 0; i < h.k; i++) taken += take_row(ones, twos, i, (s_ones[i / 64] >> i % 64 & 1) + 2 * (s_twos[i / 64] >> i % 64 & 1), work_ones, work_twos, w);
-    return weight(work_ones, work_twos, w) + taken;
+    for (size_t i = 0; i < h.k; i++) take_row(ones, twos, i, (s_ones[i / 64] >> i % 64 & 1) + 2 * (s_twos[i / 64] >> i % 64 & 1), work_ones, work_twos, w);
+    counts first = count(work_ones, work_twos, w), last = count(s_ones, s_twos, WAVE_WORDS(h.k));
+    return (counts){first.ones + last.ones, first.twos + last.twos};
 }
 
-static uint64_t full_weight_packed(wave_held h, const uint64_t *ones, const uint64_t *twos, const uint8_t *y, const uint8_t *s, uint64_t *work_ones, uint64_t *work_twos) {
+static counts full_counts_packed(wave_held h, const uint64_t *ones, const uint64_t *twos, const uint8_t *y, const uint8_t *s, uint64_t *work_ones, uint64_t *work_twos) {
     size_t m = h.n - h.k, w = WAVE_WORDS(m);
-    uint64_t taken = 0;
+    counts taken = {0, 0};
     memset(work_ones, 0, 8 * w);
     memset(work_twos, 0, 8 * w);
     unpack(m, y, work_ones, work_twos);
-    for (size_t i = 0; i < h.k; i++) taken += take_row(ones, twos, i, table[s[i / 5]][i % 5], work_ones, work_twos, w);
-    return weight(work_ones, work_twos, w) + taken;
+    for (size_t i = 0; i < h.k; i++) {
+        int t = table[s[i / 5]][i % 5];
+        take_row(ones, twos, i, t, work_ones, work_twos, w);
+        taken.ones += t == 1;
+        taken.twos += t == 2;
+    }
+    counts first = count(work_ones, work_twos, w);
+    return (counts){first.ones + taken.ones, first.twos + taken.twos};
 }
 
-static wave_checked verdict(wave_held h, uint64_t weight, uint64_t *work_ones, uint64_t *work_twos) {
+static wave_checked verdict(wave_held h, counts c, uint64_t *work_ones, uint64_t *work_twos) {
     memset(work_ones, 0, 8 * WAVE_WORDS(h.n - h.k));
     memset(work_twos, 0, 8 * WAVE_WORDS(h.n - h.k));
-    return (wave_checked){0, weight == h.w, weight};
+    return (wave_checked){0, c.ones + c.twos == h.w, c.ones, c.twos};
 }
 
 /* ---- the calls */
@@ -98,29 +113,31 @@ static uint64_t c_unpack(size_t m, const uint8_t *bytes, size_t n, uint64_t *one
 
 static wave_checked c_weigh(wave_held h, uint64_t number, const uint64_t *ones, size_t on, const uint64_t *twos, size_t tn, const uint64_t *y_ones, size_t yon, const uint64_t *y_twos, size_t ytn,
                      const uint64_t *s_ones, size_t son, const uint64_t *s_twos, size_t stn, uint64_t *work_ones, size_t won, uint64_t *work_twos, size_t wtn, size_t times) {
-    uint64_t r = call_refusal(h, number, on, tn, won, wtn), sum = 0;
+    uint64_t r = call_refusal(h, number, on, tn, won, wtn);
+    counts c = {0, 0};
     size_t m = h.n - h.k;
     if (!r && (yon != WAVE_WORDS(m) || ytn != WAVE_WORDS(m) || son != WAVE_WORDS(h.k) || stn != WAVE_WORDS(h.k))) r = 2;
     if (!r) r = planes_refusal(ones, twos, h.k, m);
     if (!r) r = planes_refusal(y_ones, y_twos, 1, m);
     if (!r) r = planes_refusal(s_ones, s_twos, 1, h.k);
-    if (r) return (wave_checked){r, 0, 0};
-    for (size_t i = 0; i < times; i++) sum = full_weight(h, ones, twos, y_ones, y_twos, s_ones, s_twos, work_ones, work_twos);
-    return verdict(h, sum, work_ones, work_twos);
+    if (r) return (wave_checked){r, 0, 0, 0};
+    for (size_t i = 0; i < times; i++) c = full_counts(h, ones, twos, y_ones, y_twos, s_ones, s_twos, work_ones, work_twos);
+    return verdict(h, c, work_ones, work_twos);
 }
 
 static wave_checked c_weigh_packed(wave_held h, uint64_t number, const uint64_t *ones, size_t on, const uint64_t *twos, size_t tn, const uint8_t *y, size_t yn, const uint8_t *s, size_t sn,
                             uint64_t *work_ones, size_t won, uint64_t *work_twos, size_t wtn, size_t times) {
-    uint64_t r = call_refusal(h, number, on, tn, won, wtn), sum = 0;
+    uint64_t r = call_refusal(h, number, on, tn, won, wtn);
+    counts c = {0, 0};
     size_t m = h.n - h.k;
     if (!r && (yn != WAVE_BYTES(m) || sn != WAVE_BYTES(h.k))) r = 2;
     if (!r) r = planes_refusal(ones, twos, h.k, m);
     if (!r) r = bytes_refusal(y, yn);
     if (!r) r = bytes_refusal(s, sn);
-    if (r) return (wave_checked){r, 0, 0};
+    if (r) return (wave_checked){r, 0, 0, 0};
     if (!table[1][0]) make_table();
-    for (size_t i = 0; i < times; i++) sum = full_weight_packed(h, ones, twos, y, s, work_ones, work_twos);
-    return verdict(h, sum, work_ones, work_twos);
+    for (size_t i = 0; i < times; i++) c = full_counts_packed(h, ones, twos, y, s, work_ones, work_twos);
+    return verdict(h, c, work_ones, work_twos);
 }
 
 static wave_checked c_check(wave_held h, uint64_t number, const uint64_t *ones, size_t on, const uint64_t *twos, size_t tn, const uint64_t *y_ones, size_t yon, const uint64_t *y_twos, size_t ytn,

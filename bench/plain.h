@@ -9,7 +9,7 @@ uint64_t bench_both_set(const uint64_t *ones, size_t, const uint64_t *twos, size
 uint64_t bench_past_end(const uint64_t *ones, size_t, const uint64_t *twos, size_t, size_t rows, size_t m);
 wave_checked bench_check(wave_held held, uint64_t number, const uint64_t *ones, size_t, const uint64_t *twos, size_t, const uint64_t *y_ones, size_t, const uint64_t *y_twos, size_t,
                          const uint64_t *s_ones, size_t, const uint64_t *s_twos, size_t, uint64_t *work_ones, size_t, uint64_t *work_twos, size_t);
-/* the check with all tests made once and the weight worked out so many times */
+/* the check with all tests made once and the ones and twos worked out so many times */
 wave_checked bench_weigh(wave_held held, uint64_t number, const uint64_t *ones, size_t, const uint64_t *twos, size_t, const uint64_t *y_ones, size_t, const uint64_t *y_twos, size_t,
                          const uint64_t *s_ones, size_t, const uint64_t *s_twos, size_t, uint64_t *work_ones, size_t, uint64_t *work_twos, size_t, size_t times);
 wave_checked bench_weigh_packed(wave_held held, uint64_t number, const uint64_t *ones, size_t, const uint64_t *twos, size_t, const uint8_t *y, size_t, const uint8_t *s, size_t,

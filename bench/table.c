@@ -9,7 +9,7 @@
 #define SECONDS 1.0 /* turns are taken for so long, and at least `turns` of them */
 #define LEAST 1e5   /* nanoseconds between two readings of the clock, from the second turn on */
 #define TIMES 10000 /* rows summed or weighed in one call */
-#define WEIGHTS 20  /* weights worked out in one call that makes its tests once */
+#define WEIGHTS 20  /* weighings worked out in one call that makes its tests once */
 static int turns = 3;
 static double steps; /* of the time stamp counter in a nanosecond */
 
@@ -98,7 +98,7 @@ static void sign(input *a, size_t w) {
     free(word), free(y), free(at);
 }
 
-/* what a call leaves: its answer, 0 for as it should be, a number more, and from HEAD on its buffers */
+/* what a call leaves: its answer, 0 for as it should be, a number or two more, and from HEAD on its buffers */
 #define HEAD 8
 static planes next(uint64_t **at, size_t n) {
     planes a = {*at, *at + n, n};
@@ -166,7 +166,8 @@ static size_t run_unpack(const side *f, const input *a, uint64_t *out) {
 
 static size_t told(wave_checked c, uint64_t *out, const uint64_t *at) {
     out[0] = c.refusal ? c.refusal : !c.yes;
-    out[1] = c.weight;
+    out[1] = c.ones;
+    out[2] = c.twos;
     return at - out;
 }
 

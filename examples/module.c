@@ -32,14 +32,14 @@ static wave_checked check(uint64_t number, const uint8_t *y, const uint8_t *s)
                       s, WAVE_BYTES(K), work_ones, WAVE_WORDS(M), work_twos, WAVE_WORDS(M));
 }
 
-/* Prints an answer as the line program does: key, formula, weight, verdict. */
+/* Prints an answer as the line program does: key, formula, weight (its ones plus its twos), verdict. */
 static void tell(uint64_t number, unsigned formula, wave_checked got)
 {
     printf("%" PRIu64 "\t%u\t", number, formula);
     if (got.refusal != 0)
         printf("-\tr%" PRIu64 "\n", got.refusal);
     else
-        printf("%" PRIu64 "\t%s\n", got.weight, got.yes ? "yes" : "no");
+        printf("%" PRIu64 "+%" PRIu64 "\t%s\n", got.ones, got.twos, got.yes ? "yes" : "no");
 }
 
 int main(void)

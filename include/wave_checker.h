@@ -45,9 +45,9 @@ typedef struct { uint64_t begun, number, n, k, w, rows; } wave_held;
 /* What a beginning or a row comes to: the refusal or 0, and the state after the call (the same one after a refusal). */
 typedef struct { uint64_t refusal; wave_held held; } wave_stored;
 
-/* What a check comes to: the refusal or 0; yes is 1 for yes and 0 for all else; the weight of the full word. After a
- * refusal yes and weight are 0. "No" is no refusal. */
-typedef struct { uint64_t refusal, yes, weight; } wave_checked;
+/* What a check comes to: the refusal or 0; yes is 1 for yes and 0 for all else; how many trits of the full word are 1,
+ * and how many are 2, which add up to its weight. After a refusal yes, ones and twos are 0. "No" is no refusal. */
+typedef struct { uint64_t refusal, yes, ones, twos; } wave_checked;
 
 /*
  * Begins a key, which replaces the held one whatever the old state is. number is 0 to 255, n is even from 4 to 16,384,
@@ -67,9 +67,10 @@ wave_stored wave_store_row(wave_held held, uint64_t *ones, size_t ones_words, ui
 
 /*
  * Checks the signature s on the syndrome y under the held key: the full word is (y - s times the key, s), the answer
- * its weight, and yes exactly when that is w. y has WAVE_BYTES(n-k) bytes, s has WAVE_BYTES(k) bytes, and ones and twos
- * are the planes of the whole key, as for wave_store_row. work_ones and work_twos are working space of WAVE_WORDS(n-k)
- * words each; they may hold anything, are untouched after a refusal, and are all zero after every verdict.
+ * its ones and its twos, and yes exactly when their sum is w. y has WAVE_BYTES(n-k) bytes, s has WAVE_BYTES(k) bytes,
+ * and ones and twos are the planes of the whole key, as for wave_store_row. work_ones and work_twos are working space of
+ * WAVE_WORDS(n-k) words each; they may hold anything, are untouched after a refusal, and are all zero after every
+ * verdict.
  * Order of refusals: 20 (no key begun), 1 (a state out of its ranges), 20 (rows missing), 22, 2, then the contents of
  * the key (3, then 4, each over all of it), of y (5) and of s (5).
  */

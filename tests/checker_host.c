@@ -98,7 +98,7 @@ static void refused_row(const module *m, wave_held held, counts c, uint64_t numb
     EXPECT(all_same());
 }
 
-/* a check that must be refused: yes and weight are 0 and every buffer stays, the working space too */
+/* a check that must be refused: yes, ones and twos are 0 and every buffer stays, the working space too */
 static void refused_check(const module *m, wave_held held, uint64_t number, counts c, uint64_t refusal)
 {
     memset(words(&m->wo), 0x77, m->wo.count * 8);
@@ -106,19 +106,20 @@ static void refused_check(const module *m, wave_held held, uint64_t number, coun
     note_all();
     wave_checked got = ask(m, held, number, c);
     EXPECT(got.refusal == refusal);
-    EXPECT(got.yes == 0 && got.weight == 0);
+    EXPECT(got.yes == 0 && got.ones == 0 && got.twos == 0);
     EXPECT(all_same());
 }
 
 /* a check that comes to a verdict: the working space is zero and every other buffer stays */
-static void verdict(const module *m, uint64_t weight, uint64_t yes)
+static void verdict(const module *m, uint64_t ones, uint64_t twos, uint64_t yes)
 {
     memset(words(&m->wo), 0x77, m->wo.count * 8);
     memset(words(&m->wt), 0x7F, m->wt.count * 8);
     note_all();
     wave_checked got = ask(m, m->held, m->held.number, right(m));
     EXPECT(got.refusal == 0);
-    EXPECT(got.weight == weight);
+    EXPECT(got.ones == ones);
+    EXPECT(got.twos == twos);
     EXPECT(got.yes == yes);
     EXPECT(all_zero(&m->wo) && all_zero(&m->wt));
     EXPECT(same(&m->ones) && same(&m->twos) && same(&m->y) && same(&m->s));
@@ -160,19 +161,19 @@ static void example(void)
     EXPECT(words(&m.ones)[1] == 0 && words(&m.twos)[1] == 3);
     pack_digits("12", bytes(&m.y));
     pack_digits("11", bytes(&m.s));
-    verdict(&m, 4, 1);
+    verdict(&m, 3, 1, 1);
     pack_digits("12", bytes(&m.s));
-    verdict(&m, 3, 0);
+    verdict(&m, 1, 2, 0);
     pack_digits("11", bytes(&m.s));
     refused_check(&m, m.held, 8, right(&m), 22);
     /* at w = 2, s = 00 is accepted */
     m.held.w = 2;
     pack_digits("00", bytes(&m.s));
-    verdict(&m, 2, 1);
+    verdict(&m, 1, 1, 1);
     /* trits past the length in the last byte are ignored on reading: 22222 is 22 here, and the word 0022 */
     bytes(&m.s)[0] = 242;
     bytes(&m.y)[0] = 7 + 2 * 9 + 1 * 81;
-    verdict(&m, 2, 1);
+    verdict(&m, 0, 2, 1);
     take_back_all();
 }
 
@@ -233,7 +234,7 @@ static void checks_refused(void)
     refused_check(&m, m.held, 8, c, 20);
     store(&m);
     refused_row(&m, m.held, c, 21);
-    verdict(&m, 0, 0);
+    verdict(&m, 0, 0, 0);
 
     refused_check(&m, none, 7, c, 20);
     refused_check(&m, none, 0, c, 20);
@@ -281,7 +282,7 @@ static void checks_refused(void)
     words(&m.ones)[209] |= 1; words(&m.twos)[209] |= 1;
     refused_check(&m, m.held, 7, c, 3);
     words(&m.ones)[209] = 0; words(&m.twos)[209] = 0; words(&m.ones)[2] = 0;
-    verdict(&m, 0, 0);
+    verdict(&m, 0, 0, 0);
     /* 4 in each plane: a row of 130 trits uses two bits of its third word */
     for (size_t i = 0; i < 70; i += 23) {
         words(&m.twos)[3 * i + 2] = 4;
@@ -300,7 +301,7 @@ static void checks_refused(void)
     bytes(&m.y)[0] = 255; refused_check(&m, m.held, 7, c, 5); bytes(&m.y)[0] = 0;
     bytes(&m.s)[13] = 243; refused_check(&m, m.held, 7, c, 5); bytes(&m.s)[13] = 0;
     bytes(&m.s)[0] = 243; refused_check(&m, m.held, 7, c, 5); bytes(&m.s)[0] = 242;
-    verdict(&m, 5, 0);
+    verdict(&m, 0, 5, 0);
     take_back_all();
 }
 
@@ -324,21 +325,29 @@ static void against_trits(uint64_t n, uint64_t k, uint64_t seed)
         store(&m);
     }
     for (int round = 0; round < 3; round++) {
-        uint64_t weight = 0;
+        uint64_t counts[3] = { 0, 0, 0 }; /* the trits of the full word by their value */
         for (size_t j = 0; j < r; j++) y[j] = (unsigned char)trit_of(&seed);
         for (size_t i = 0; i < k; i++) s[i] = (unsigned char)(round == 2 ? 0 : trit_of(&seed));
         for (size_t j = 0; j < r; j++) {
             unsigned t = y[j];
             for (size_t i = 0; i < k; i++) t += 2u * s[i] * key[i * r + j];
-            weight += t % 3 != 0;
+            counts[t % 3]++;
         }
-        for (size_t i = 0; i < k; i++) weight += s[i] != 0;
+        for (size_t i = 0; i < k; i++) counts[s[i]]++;
         pack_trits(y, r, bytes(&m.y));
         pack_trits(s, k, bytes(&m.s));
+        uint64_t weight = counts[1] + counts[2];
         m.held.w = weight == 0 ? 1 : weight;
-        verdict(&m, weight, weight != 0);
+        verdict(&m, counts[1], counts[2], weight != 0);
         m.held.w = weight == n ? n - 1 : weight + 1;
-        verdict(&m, weight, 0);
+        verdict(&m, counts[1], counts[2], 0);
+        /* the ones alone, or the twos alone, are no yes where the sum is another number */
+        if (counts[1] > 0 && counts[2] > 0) {
+            m.held.w = counts[1];
+            verdict(&m, counts[1], counts[2], 0);
+            m.held.w = counts[2];
+            verdict(&m, counts[1], counts[2], 0);
+        }
     }
     free(key); free(y); free(s);
     take_back_all();

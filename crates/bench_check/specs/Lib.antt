@@ -1,7 +1,8 @@
--- How often a weight was worked out. Assumes nothing.
+-- How often ones and twos were worked out. Assumes nothing.
 use Prim.Native.Nat.{ℕ, zero, suc}
+use Rattle.trits.specs.declared.Counts.{Counts}
 
--- what was worked out so many times: 0 before the first
-unfoldable pub after : ℕ → ℕ → ℕ
-after zero x = 0
-after (suc n) x = x
+-- what was worked out so many times: 0 and 0 before the first
+unfoldable pub after : ℕ → Counts → Counts
+after zero c = record { ones = 0; twos = 0 }
+after (suc n) c = c

@@ -6,7 +6,9 @@ use native.Mathlib.Omega.{arith}
 use borrow.Author.Tests.{eq-eqb, ne-eqb}
 use lib.Dec.{eqb}
 use lib.ListN.{length}
+use Rattle.trits.specs.Trit.{sumOf}
 use Rattle.trits.specs.Planes.{wordsFor, zeroWords}
+use Rattle.trits.specs.declared.Counts.{Counts}
 use Rattle.trits.specs.Refusal.{numberOf, spaceExit}
 use Rattle.trits.specs.declared.refusal.Refusal.{Refusal}
 use Rattle.trits.proofs.Refusals.{number-positive, space-zero}
@@ -20,25 +22,29 @@ use Rattle.check_tests.specs.Check.{checkRefusal, checkPackedRefusal, an
 
 -- ---- the verdict
 
-pub says-refused : (r : Refusal) (weight w : ℕ) → _≡_ {A = Checked} (record { refusal = numberOf r; yes = 0; weight = 0 }) (answered (numberOf r) weight w)
+pub says-refused : (r : Refusal) (counts : Counts) (w : ℕ)
+    → _≡_ {A = Checked} (record { refusal = numberOf r; yes = 0; ones = 0; twos = 0 }) (answered (numberOf r) counts w)
 unfolding answered
-says-refused r weight w =
+says-refused r counts w =
     let l = number-positive r in
     rw (ne-eqb (numberOf r) 0 (λ z. omega arith))
 
-pub says-yes : (weight w : ℕ) → weight ≡ w → _≡_ {A = Checked} (record { refusal = 0; yes = 1; weight = weight }) (answered 0 weight w)
+pub says-yes : (counts : Counts) (w : ℕ) → sumOf counts ≡ w
+    → _≡_ {A = Checked} (record { refusal = 0; yes = 1; ones = counts .ones; twos = counts .twos }) (answered 0 counts w)
 unfolding answered
-says-yes weight w e = rw (eq-eqb weight w e)
+says-yes counts w e = rw (eq-eqb (sumOf counts) w e)
 
-pub says-no : (weight w : ℕ) → (weight ≡ w → ⊥) → _≡_ {A = Checked} (record { refusal = 0; yes = 0; weight = weight }) (answered 0 weight w)
+pub says-no : (counts : Counts) (w : ℕ) → (sumOf counts ≡ w → ⊥)
+    → _≡_ {A = Checked} (record { refusal = 0; yes = 0; ones = counts .ones; twos = counts .twos }) (answered 0 counts w)
 unfolding answered
-says-no weight w e = rw (ne-eqb weight w e)
+says-no counts w e = rw (ne-eqb (sumOf counts) w e)
 
-pub refused-numbers : {a b : ℕ} → a ≡ b → _≡_ {A = Checked} (record { refusal = a; yes = 0; weight = 0 }) (record { refusal = b; yes = 0; weight = 0 })
+pub refused-numbers : {a b : ℕ} → a ≡ b
+    → _≡_ {A = Checked} (record { refusal = a; yes = 0; ones = 0; twos = 0 }) (record { refusal = b; yes = 0; ones = 0; twos = 0 })
 refused-numbers e = rw e
 
--- a refusal returns its number alone, whatever the weight would be
-pub refused-alike : {r : ℕ} (a b w : ℕ) → 0 < r → answered r a w ≡ answered r b w
+-- a refusal returns its number alone, whatever the counts would be
+pub refused-alike : {r : ℕ} (a b : Counts) (w : ℕ) → 0 < r → answered r a w ≡ answered r b w
 unfolding answered
 refused-alike {r} a b w l = rw (ne-eqb r 0 (λ z. omega arith))
 
@@ -88,10 +94,10 @@ leaves-packed-check c =
 pub left-zero : (plane : List ℕ) {p : List ℕ} {r n : ℕ} → r ≡ 0 → n ≡ length plane → p ≡ zeroWords n → p ≡ spaceExit r plane
 left-zero plane z l e = e ∙ ap zeroWords l ∙ space-zero plane {k = 0} (sym z) refl
 
--- ---- what a check answers, from a refusal, and from a weight
+-- ---- what a check answers, from a refusal, and from counts
 
-pub answer-kept : {r k : ℕ} (a b w : ℕ) → k ≡ r → 0 < k → answered k a w ≡ answered r b w
+pub answer-kept : {r k : ℕ} (a b : Counts) (w : ℕ) → k ≡ r → 0 < k → answered k a w ≡ answered r b w
 answer-kept a b w e l = refused-alike a b w l ∙ ap (λ (x : ℕ). answered x b w) e
 
-pub answer-new : {r k a b : ℕ} (w : ℕ) → k ≡ r → a ≡ b → answered k a w ≡ answered r b w
-answer-new w e f = ap₂ (λ (x y : ℕ). answered x y w) e f
+pub answer-new : {r k : ℕ} {a b : Counts} (w : ℕ) → k ≡ r → a ≡ b → answered k a w ≡ answered r b w
+answer-new w e f = ap₂ (λ (x : ℕ) (y : Counts). answered x y w) e f

@@ -1,3 +1,4 @@
 -- The laws of a check's tests and of its answer.
 pub mod Passed
 pub mod Answers
+pub mod AsBefore

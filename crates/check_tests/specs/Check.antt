@@ -4,15 +4,16 @@ use mathlib.Core.List.{List}
 use Prim.Native.Nat.{ℕ}
 use lib.Dec.{eqb}
 use lib.ListN.{length}
-use Rattle.trits.specs.Trit.{Trit}
+use Rattle.trits.specs.Trit.{Trit, sumOf}
 use Rattle.trits.specs.Planes.{tritAt, wordsFor}
 use Rattle.trits.specs.Refusal.{numberOf, refuse, demand, first, spaceExit, planesRefusal}
+use Rattle.trits.specs.declared.Counts.{Counts}
 use Rattle.packed.specs.Packed.{bytesFor, packedRow, packedRefusal}
 use Rattle.held_key.specs.declared.state.Held.{Held}
 use Rattle.check_tests.specs.declared.Checked.{Checked}
 use Rattle.check_tests.specs.declared.Verdict.{Verdict}
 use Rattle.check_tests.specs.declared.Verdict.the-variants.{Yes, No, Refused}
-use Rattle.verdict.specs.Verdict.{fullWeight}
+use Rattle.verdict.specs.Verdict.{fullCounts}
 use Rattle.held_key.specs.Held.{sound, rowTrits, rowWords, keyWords, heldKey}
 
 -- ---- what is lent
@@ -121,36 +122,36 @@ checkPackedRefusal c =
 
 -- ---- the answer
 
--- the weight of the full word of y and s under the held key
-unfoldable pub heldWeight : Held → List ℕ → List ℕ → (ℕ → Trit) → (ℕ → Trit) → ℕ
-heldWeight h ones twos y s = fullWeight (rowTrits h) (h .k) (heldKey h ones twos) y s
+-- the ones and twos of the full word of y and s under the held key
+unfoldable pub heldCounts : Held → List ℕ → List ℕ → (ℕ → Trit) → (ℕ → Trit) → Counts
+heldCounts h ones twos y s = fullCounts (rowTrits h) (h .k) (heldKey h ones twos) y s
 
--- the numbers that a verdict is told by: the refusal or 0, 1 for yes and 0 for all else, the weight or 0
+-- the numbers that a verdict is told by: the refusal or 0, 1 for yes and 0 for all else, the ones and the twos or 0
 abbrev pub told : Verdict → Checked
-told (Yes weight) = record { refusal = 0; yes = 1; weight = weight }
-told (No weight) = record { refusal = 0; yes = 0; weight = weight }
-told (Refused r) = record { refusal = numberOf r; yes = 0; weight = 0 }
+told (Yes counts) = record { refusal = 0; yes = 1; ones = counts .ones; twos = counts .twos }
+told (No counts) = record { refusal = 0; yes = 0; ones = counts .ones; twos = counts .twos }
+told (Refused r) = record { refusal = numberOf r; yes = 0; ones = 0; twos = 0 }
 
--- the answer is the weight, and yes exactly when that is w; a refusal returns its number alone
-unfoldable pub answered : ℕ → ℕ → ℕ → Checked
-answered refusal weight w =
+-- the answer is the ones and the twos, and yes exactly when their sum is w (request C-13); a refusal returns its number alone
+unfoldable pub answered : ℕ → Counts → ℕ → Checked
+answered refusal counts w =
     cond (eqb refusal 0)
-    (record { refusal = 0; yes = cond (eqb weight w) 1 0; weight = weight })
-    (record { refusal = refusal; yes = 0; weight = 0 })
+    (record { refusal = 0; yes = cond (eqb (sumOf counts) w) 1 0; ones = counts .ones; twos = counts .twos })
+    (record { refusal = refusal; yes = 0; ones = 0; twos = 0 })
 
--- what the check of y and s in planes weighs and answers
-abbrev pub checkWeight : Check → ℕ
-checkWeight c = heldWeight (c .held) (c .ones) (c .twos) (tritAt (c .yOnes) (c .yTwos)) (tritAt (c .sOnes) (c .sTwos))
+-- what the check of y and s in planes counts and answers
+abbrev pub checkCounts : Check → Counts
+checkCounts c = heldCounts (c .held) (c .ones) (c .twos) (tritAt (c .yOnes) (c .yTwos)) (tritAt (c .sOnes) (c .sTwos))
 
 unfoldable pub checkAnswer : Check → Checked
-checkAnswer c = answered (checkRefusal c) (checkWeight c) (c .held .w)
+checkAnswer c = answered (checkRefusal c) (checkCounts c) (c .held .w)
 
--- what the check of packed y and s weighs and answers
-abbrev pub checkPackedWeight : PackedCheck → ℕ
-checkPackedWeight c = heldWeight (c .held) (c .ones) (c .twos) (packedRow (rowTrits (c .held)) (c .y)) (packedRow (c .held .k) (c .s))
+-- what the check of packed y and s counts and answers
+abbrev pub checkPackedCounts : PackedCheck → Counts
+checkPackedCounts c = heldCounts (c .held) (c .ones) (c .twos) (packedRow (rowTrits (c .held)) (c .y)) (packedRow (c .held .k) (c .s))
 
 unfoldable pub checkPackedAnswer : PackedCheck → Checked
-checkPackedAnswer c = answered (checkPackedRefusal c) (checkPackedWeight c) (c .held .w)
+checkPackedAnswer c = answered (checkPackedRefusal c) (checkPackedCounts c) (c .held .w)
 
 -- ---- the working space at exit
 

@@ -1,2 +1,3 @@
--- The definitions of the check.
+-- The definitions of the check; then what request C-13 leaves as it was.
 pub mod Check
+pub mod AsBefore

@@ -1,20 +1,23 @@
 // A check's tests in the paper's order, and its answer.
 ghost use mathlib.Core.Path.{_≡_};
 ghost use mathlib.Core.Bool.{true};
+ghost use Prim.Native.Nat.{_≤_};
 ghost use lib.ListN.{length};
+ghost use Rattle.trits.specs.Trit.{sumOf};
 ghost use Rattle.trits.specs.Refusal.{codeOf};
 ghost use Rattle.held_key.specs.Held.{sound};
 ghost use Rattle.held_key.specs.Steps.{Whole};
 ghost use Rattle.check_tests.specs.Check.{callRefusal, planesLengths, planesContents, packedLengths, packedContents};
 ghost use Rattle.check_tests.specs.Check.{checkOf, checkRefusal, packedCheckOf, checkPackedRefusal, told, answered};
 use held_key::state::Held;
+use trits::Counts;
 use trits::refusal::Outcome;
 use trits::refusal::Refusal;
 
-// What a check answers: the weight of the full word, or the refusal.
+// What a check answers: the ones and twos of the full word, or the refusal.
 pub enum Verdict {
-    Yes(u64),
-    No(u64),
+    Yes(Counts),
+    No(Counts),
     Refused(Refusal),
 }
 
@@ -23,7 +26,8 @@ pub enum Verdict {
 pub struct Checked {
     pub refusal: u64, // its number, or 0
     pub yes: u64, // 1 for yes, 0 for all else
-    pub weight: u64, // 0 where refused
+    pub ones: u64, // 0 where refused
+    pub twos: u64, // 0 where refused
 }
 
 // The numbers of a verdict.
@@ -31,35 +35,39 @@ pub fn tell(verdict: Verdict) -> Checked
     ensures { λ r. ⌜ r ≡ told verdict ⌝ }
 {
     match verdict {
-        Verdict::Yes(weight) => Checked {
+        Verdict::Yes(counts) => Checked {
             refusal: 0,
             yes: 1,
-            weight: weight,
+            ones: counts.ones,
+            twos: counts.twos,
         },
-        Verdict::No(weight) => Checked {
+        Verdict::No(counts) => Checked {
             refusal: 0,
             yes: 0,
-            weight: weight,
+            ones: counts.ones,
+            twos: counts.twos,
         },
         Verdict::Refused(refusal) => Checked {
             refusal: trits::refusal::number(refusal),
             yes: 0,
-            weight: 0,
+            ones: 0,
+            twos: 0,
         },
     }
 }
 
-// The verdict on a weight, where nothing was refused.
-pub fn judge(tested: Outcome, weight: u64, w: u64) -> Verdict
-    ensures { λ r. ⌜ told r ≡ answered (codeOf tested) weight w ⌝ }
+// The verdict on a word's ones and twos, where nothing was refused.
+pub fn judge(tested: Outcome, counts: Counts, w: u64) -> Verdict
+    requires { ⌜ sumOf counts ≤ 16384 ⌝ }
+    ensures { λ r. ⌜ told r ≡ answered (codeOf tested) counts w ⌝ }
 {
     match tested {
         Outcome::Refused(refusal) => Verdict::Refused(refusal),
         Outcome::Done => {
-            if weight == w {
-                return Verdict::Yes(weight);
+            if counts.ones + counts.twos == w {
+                return Verdict::Yes(counts);
             }
-            Verdict::No(weight) // another weight
+            Verdict::No(counts) // another weight
         }
     }
 }

@@ -10,11 +10,11 @@ use Rattle.trits.specs.Rows.{rowPart, putWords, rowsPastEnd}
 use Rattle.trits.specs.Refusal.{first, spaceExit, planesRefusal}
 use Rattle.packed.specs.Packed.{digitOf, packedAt, packedRow, badByte, packedRefusal}
 use Rattle.held_key.specs.declared.state.Held.{Held}
-use Rattle.verdict.specs.Verdict.{timesKey, fullWord, fullWeight}
+use Rattle.verdict.specs.Verdict.{timesKey, fullWord, fullCounts}
 use Rattle.held_key.specs.Held.{numbersFit, sound, heldRow, heldKey}
 use Rattle.held_key.specs.Store.{beginRefusal, begunHeld, beginHeld, packedStoreOf, rowRefusal, storePackedRefusal, nextHeld, storedHeld, storedPlane}
 use Rattle.held_key.specs.Load.{offer, offerAll}
-use Rattle.check_tests.specs.Check.{callRefusal, planesLengths, planesContents, packedLengths, packedContents, heldWeight, answered}
+use Rattle.check_tests.specs.Check.{callRefusal, planesLengths, planesContents, packedLengths, packedContents, heldCounts, answered}
 use Rattle.check_tests.specs.Check.{checkOf, checkRefusal, checkAnswer, packedCheckOf, checkPackedRefusal, checkPackedAnswer, checkPackedWorkOnes}
 use Rattle.check_tests.specs.Check.{checkPackedWorkTwos}
 
@@ -65,31 +65,31 @@ third : storePackedRefusal (packedStoreOf (held 2) (0 ∷ 0 ∷ []) (2 ∷ 3 ∷
 unfolding storePackedRefusal first rowRefusal sound numbersFit
 third = refl
 
--- S 7 12 12 11: weight 4, yes
+-- S 7 12 12 11: three 1s and one 2, yes
 line-1 : checkPackedAnswer (packedCheckOf (held 2) 7 (0 ∷ 0 ∷ []) (2 ∷ 3 ∷ []) (7 ∷ []) (4 ∷ []) (5 ∷ []) (5 ∷ []))
-    ≡ record { refusal = 0; yes = 1; weight = 4 }
+    ≡ record { refusal = 0; yes = 1; ones = 3; twos = 1 }
 unfolding checkPackedAnswer answered checkPackedRefusal first callRefusal sound numbersFit packedLengths packedContents planesRefusal bothSet anyTo bitAt bit
-    rowsPastEnd rowPart heldRow pastEnd tritAt packedRefusal badByte heldWeight fullWeight sumTo fullWord timesKey dotV heldKey packedRow packedAt digitOf upTo
+    rowsPastEnd rowPart heldRow pastEnd tritAt packedRefusal badByte heldCounts fullCounts sumTo fullWord timesKey dotV heldKey packedRow packedAt digitOf upTo
 line-1 = refl
 
--- S 7 13 12 12: weight 3, no
+-- S 7 13 12 12: one 1 and two 2s, no
 line-2 : checkPackedAnswer (packedCheckOf (held 2) 7 (0 ∷ 0 ∷ []) (2 ∷ 3 ∷ []) (7 ∷ []) (7 ∷ []) (5 ∷ []) (5 ∷ []))
-    ≡ record { refusal = 0; yes = 0; weight = 3 }
+    ≡ record { refusal = 0; yes = 0; ones = 1; twos = 2 }
 unfolding checkPackedAnswer answered checkPackedRefusal first callRefusal sound numbersFit packedLengths packedContents planesRefusal bothSet anyTo bitAt bit
-    rowsPastEnd rowPart heldRow pastEnd tritAt packedRefusal badByte heldWeight fullWeight sumTo fullWord timesKey dotV heldKey packedRow packedAt digitOf upTo
+    rowsPastEnd rowPart heldRow pastEnd tritAt packedRefusal badByte heldCounts fullCounts sumTo fullWord timesKey dotV heldKey packedRow packedAt digitOf upTo
 line-2 = refl
 
 -- S 8 14 12 11: 22
 line-3 : checkPackedAnswer (packedCheckOf (held 2) 8 (0 ∷ 0 ∷ []) (2 ∷ 3 ∷ []) (7 ∷ []) (4 ∷ []) (5 ∷ []) (5 ∷ []))
-    ≡ record { refusal = 22; yes = 0; weight = 0 }
+    ≡ record { refusal = 22; yes = 0; ones = 0; twos = 0 }
 unfolding checkPackedAnswer answered checkPackedRefusal first callRefusal sound numbersFit
 line-3 = refl
 
 -- the first of them in planes
 line-1-planes : checkAnswer (checkOf (held 2) 7 (0 ∷ 0 ∷ []) (2 ∷ 3 ∷ []) (1 ∷ []) (2 ∷ []) (3 ∷ []) (0 ∷ []) (5 ∷ []) (5 ∷ []))
-    ≡ record { refusal = 0; yes = 1; weight = 4 }
+    ≡ record { refusal = 0; yes = 1; ones = 3; twos = 1 }
 unfolding checkAnswer answered checkRefusal first callRefusal sound numbersFit planesLengths planesContents planesRefusal bothSet anyTo bitAt bit rowsPastEnd
-    rowPart heldRow pastEnd tritAt heldWeight fullWeight sumTo fullWord timesKey dotV heldKey
+    rowPart heldRow pastEnd tritAt heldCounts fullCounts sumTo fullWord timesKey dotV heldKey
 line-1-planes = refl
 
 -- no key begun before all else; a state out of its ranges before missing rows; these before another key number; that before a length

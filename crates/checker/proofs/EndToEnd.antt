@@ -10,20 +10,21 @@ use lib.ListN.{length}
 use borrow.Author.Tests.{eq-eqb, ne-eqb, le-leb}
 use Rattle.trits.specs.Trit.{Trit}
 use Rattle.trits.specs.Planes.{onesOf, twosOf, wordsFor}
+use Rattle.trits.specs.declared.Counts.{Counts}
 use Rattle.trits.proofs.Refusals.{first-goes, exit-new}
 use Rattle.trits.proofs.Reading.{length-ones, length-twos}
 use Rattle.packed.specs.Packed.{bytesFor, packedRow, badByte}
 use Rattle.packed.proofs.Turned.{bytes-good}
 use Rattle.held_key.specs.declared.state.Held.{Held}
-use Rattle.verdict.specs.Verdict.{Key, fullWeight}
+use Rattle.verdict.specs.Verdict.{Key, fullCounts}
 use Rattle.held_key.specs.Held.{numbersFit, sound, heldKey}
 use Rattle.held_key.specs.Store.{beginRefusal, begunHeld, beginHeld, rowRefusal, nextHeld, storedHeld}
 use Rattle.held_key.specs.Store.{PackedStore, packedStoreOf, storePackedRefusal, storePackedOnes, storePackedTwos}
 use Rattle.held_key.specs.Load.{Holding, offer, offerAll}
-use Rattle.check_tests.specs.Check.{callRefusal, packedLengths, packedContents, heldWeight, answered}
-use Rattle.check_tests.specs.Check.{PackedCheck, packedCheckOf, checkPackedRefusal, checkPackedWeight, checkPackedAnswer}
+use Rattle.check_tests.specs.Check.{callRefusal, packedLengths, packedContents, heldCounts, answered}
+use Rattle.check_tests.specs.Check.{PackedCheck, packedCheckOf, checkPackedRefusal, checkPackedCounts, checkPackedAnswer}
 use Rattle.held_key.specs.Steps.{Whole}
-use Rattle.verdict.proofs.FullWord.{weight-cong}
+use Rattle.verdict.proofs.FullWord.{counts-cong}
 use Rattle.held_key.proofs.Room.{stored-packed-passed}
 use Rattle.held_key.proofs.Storing.{plane-put}
 use Rattle.held_key.proofs.Loader.{put-size}
@@ -136,16 +137,16 @@ module _ (number n k w : ℕ) (z : numbersFit number n k w ≡ true) (rows : ℕ
     unfolding checkPackedRefusal
     accepted = sym (first-goes (sym call-passes) refl (first-goes (sym lengths-pass) refl contents-pass))
 
-    weight-is : checkPackedWeight asks ≡ fullWeight (n - k) k key (packedRow (n - k) y) (packedRow k t)
-    unfolding heldWeight
-    weight-is = weight-cong (n - k) k (heldKey (heldAt k) (s .ones) (s .twos)) (packedRow (n - k) y) (packedRow k t) key
+    counts-are : checkPackedCounts asks ≡ fullCounts (n - k) k key (packedRow (n - k) y) (packedRow k t)
+    unfolding heldCounts
+    counts-are = counts-cong (n - k) k (heldKey (heldAt k) (s .ones) (s .twos)) (packedRow (n - k) y) (packedRow k t) key
         (λ i q l. ap (λ (r : ℕ → Trit). r q) (filled-row whole key (g .rows-are) i l))
 
     -- the answer is that of the rows offered
     pub answer : checkPackedAnswer (packedCheckOf (heldAt k) number (s .ones) (s .twos) y t wo wt)
-        ≡ answered 0 (fullWeight (n - k) k key (packedRow (n - k) y) (packedRow k t)) w
+        ≡ answered 0 (fullCounts (n - k) k key (packedRow (n - k) y) (packedRow k t)) w
     unfolding checkPackedAnswer
-    answer = ap₂ (λ (a b : ℕ). answered a b w) accepted weight-is
+    answer = ap₂ (λ (a : ℕ) (b : Counts). answered a b w) accepted counts-are
 
   -- begin, offer the k rows, check: whatever was held before and whatever the planes had, the answer is that of the rows offered
   pub loaded : (h : Held) (ones twos y t wo wt : List ℕ) → length ones ≡ k * wordsFor (n - k) → length twos ≡ k * wordsFor (n - k)
@@ -153,7 +154,7 @@ module _ (number n k w : ℕ) (z : numbersFit number n k w ≡ true) (rows : ℕ
       → badByte y ≡ false → badByte t ≡ false → length wo ≡ wordsFor (n - k) → length wt ≡ wordsFor (n - k)
       → let s = offerAll rows k (record { held = beginHeld h number n k w; ones = ones; twos = twos }) in
       checkPackedAnswer (packedCheckOf (s .held) number (s .ones) (s .twos) y t wo wt)
-      ≡ answered 0 (fullWeight (n - k) k key (packedRow (n - k) y) (packedRow k t)) w
+      ≡ answered 0 (fullCounts (n - k) k key (packedRow (n - k) y) (packedRow k t)) w
   loaded h ones twos y t wo wt p q yl tl yg tg ol pl =
       let g = offered ones twos p q k (le-refl k) in
       let s = offerAll rows k (record { held = heldAt 0; ones = ones; twos = twos }) in

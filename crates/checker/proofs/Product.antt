@@ -1,17 +1,20 @@
--- y - s·R-transposed, one row after the other, and the weight of the full word. Assumes nothing.
-use mathlib.Core.Path.{_≡_, sym, ap, ap₂, _∙_, fun-ext}
+-- y - s·R-transposed, one row after the other, and the ones and twos of the full word. Assumes nothing.
+use mathlib.Core.Path.{_≡_, refl, sym, ap, ap₂, _∙_, fun-ext}
 use mathlib.Core.List.{List}
 use Prim.Native.Nat.{ℕ, _+_, _-_, _≤_, _<_}
 use native.Mathlib.Numerals.{add-one}
 use native.Mathlib.Omega.{arith}
-use Rattle.trits.specs.Trit.{Trit, t0, t2, addT, subT, mulT, zipV, dotV, sumTo, weightV, nonZero, tritOf}
+use Rattle.trits.specs.Trit.{Trit, t0, t2, addT, subT, mulT, zipV, dotV, one, two, sumTo, countsV, tritOf}
 use Rattle.trits.specs.Planes.{tritAt, Reads}
 use Rattle.trits.proofs.Arithmetic.{law1, law2, law3, mul-zero}
-use Rattle.trits.proofs.Counts.{sum-add, weight-same}
-use Rattle.trits.proofs.Ends.{weight-ended}
+use Rattle.trits.specs.declared.Counts.{Counts}
+use Rattle.trits.proofs.Counting.{sum-cong, sum-add}
+use Rattle.trits.proofs.Counted.{same-counts}
+use Rattle.trits.proofs.Ends.{sum-ended}
 use Rattle.trits.proofs.Products.{dot-zero}
-use Rattle.verdict.specs.Verdict.{Key, timesKey, fullWord, fullWeight}
+use Rattle.verdict.specs.Verdict.{Key, timesKey, fullWord, fullCounts}
 use Rattle.verdict.proofs.FullWord.{full-low, full-high}
+use Rattle.checker.specs.Steps.{moreCounts, addCounts}
 
 -- one row times a trit
 module _ (u r : ℕ → Trit) (t : ℕ) where
@@ -52,21 +55,31 @@ turn-reads u R s i x e l r g = record {
   trits = g .trits ∙ ap (λ (v : ℕ → Trit). zipV subT v (zipV mulT (λ (q : ℕ). x) (R i))) (r .trits) ∙ taken-more u R s i x e;
 }
 
--- the rows taken are the trits of s that are not 0
-pub turn-weight : (s : ℕ → Trit) (i : ℕ) {a c : ℕ} (x : Trit) → x ≡ s i → a ≡ weightV s i → c ≡ nonZero x → a + c ≡ weightV s (i + 1)
+-- one trit of s more is counted
+pub turn-counts : (s : ℕ → Trit) (i : ℕ) {a c : Counts} (x : Trit) → x ≡ s i → a ≡ countsV s i → c ≡ moreCounts a x → c ≡ countsV s (i + 1)
 unfolding sumTo
-turn-weight s i {a} {c} x e p q = ap₂ (λ (y z : ℕ). y + z) p (q ∙ ap nonZero e) ∙ ap (weightV s) (sym (add-one i))
+turn-counts s i x e p q = q ∙ ap₂ moreCounts p e ∙ ap (countsV s) (sym (add-one i))
 
-module _ (m k : ℕ) (R : Key) (y s : ℕ → Trit) where
-  -- the weight of the first part's planes, with that of s, is the full word's
-  pub full-weight : (places : ℕ) → m ≤ places → ((q : ℕ) → m ≤ q → y q ≡ t0) → ((i q : ℕ) → i < k → m ≤ q → R i q ≡ t0)
-      → weightV (zipV subT y (timesKey k R s)) places + weightV s k ≡ fullWeight m k R y s
-  unfolding timesKey fullWeight
-  full-weight places l yz rz =
-      let v : ℕ → Trit = zipV subT y (timesKey k R s) in
-      let low : weightV v places ≡ weightV v m = weight-ended v m places l
-      (λ q h. ap₂ subT (yz q h) (dot-zero k s (λ j. R j q) (λ j b. ap (mulT (s j)) (rz j q b h) ∙ mul-zero (s j)))) in
-      let head : weightV v m ≡ weightV (fullWord m k R y s) m = weight-same m v (fullWord m k R y s) (λ i h. sym (full-low m k R y s i h)) in
-      let last : weightV s k ≡ sumTo (λ i. nonZero (fullWord m k R y s (m + i))) k = weight-same k s (λ i. fullWord m k R y s (m + i))
-      (λ i h. sym (full-high m k R y s i)) in
-      omega (arith, low, head, last, sum-add m k (λ i. nonZero (fullWord m k R y s i)))
+module _ (m k : ℕ) (R : Key) (y s : ℕ → Trit) (places : ℕ) (l : m ≤ places) (yz : (q : ℕ) → m ≤ q → y q ≡ t0)
+    (rz : (i q : ℕ) → i < k → m ≤ q → R i q ≡ t0) where
+  -- y less the rows that s names, as the first part's planes hold it
+  abbrev left : ℕ → Trit
+  left = zipV subT y (timesKey k R s)
+
+  left-ended : (q : ℕ) → m ≤ q → left q ≡ t0
+  unfolding timesKey
+  left-ended q h = ap₂ subT (yz q h) (dot-zero k s (λ j. R j q) (λ j b. ap (mulT (s j)) (rz j q b h) ∙ mul-zero (s j)))
+
+  -- whatever is counted of a trit, if 0 counts for nothing: the first part's planes and s together have the full word's
+  parts : (f : Trit → ℕ) → f t0 ≡ 0 → sumTo (λ i. f (left i)) places + sumTo (λ i. f (s i)) k ≡ sumTo (λ i. f (fullWord m k R y s i)) (m + k)
+  parts f z =
+      let low : sumTo (λ i. f (left i)) places ≡ sumTo (λ i. f (left i)) m = sum-ended (λ i. f (left i)) m places l (λ i h. ap f (left-ended i h) ∙ z) in
+      let head : sumTo (λ i. f (left i)) m ≡ sumTo (λ i. f (fullWord m k R y s i)) m = sum-cong m _ _ (λ i h. ap f (sym (full-low m k R y s i h))) in
+      let last : sumTo (λ i. f (s i)) k ≡ sumTo (λ i. f (fullWord m k R y s (m + i))) k = sum-cong k _ _ (λ i h. ap f (sym (full-high m k R y s i))) in
+      omega (arith, low, head, last, sum-add m k (λ i. f (fullWord m k R y s i)))
+
+  -- so have their ones and their twos
+  pub full-counts : {a d : Counts} → a ≡ countsV (zipV subT y (timesKey k R s)) places → d ≡ countsV s k
+      → addCounts a d ≡ fullCounts m k R y s
+  unfolding fullCounts
+  full-counts e f = rw (e, f) (same-counts (parts one refl) (parts two refl))

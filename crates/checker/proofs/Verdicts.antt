@@ -4,49 +4,50 @@ use mathlib.Core.Path.{_≡_, refl, sym, ap, ap₂, _∙_}
 use mathlib.Core.Logic.{_↔_}
 use mathlib.Core.Bool.{Bool, true, cond}
 use mathlib.Core.List.{List}
-use Prim.Native.Nat.{ℕ, _<_}
+use Prim.Native.Nat.{ℕ, _+_, _<_}
 use native.Mathlib.Omega.{arith}
 use native.Mathlib.Decide.{ℕ-discrete}
 use lib.Dec.{eqb}
 use lib.ListN.{length}
 use borrow.Author.Tests.{eq-eqb, ne-eqb}
-use Rattle.trits.specs.Trit.{Trit}
+use Rattle.trits.specs.Trit.{Trit, onesV, twosV, countsV, sumOf}
 use Rattle.trits.specs.Planes.{tritAt}
 use Rattle.trits.specs.Refusal.{planesRefusal}
+use Rattle.trits.specs.declared.Counts.{Counts}
 use Rattle.trits.proofs.Refusals.{first-goes, passed-first, row-ended}
 use Rattle.trits.proofs.Ends.{upto-ended}
 use Rattle.packed.specs.Packed.{bytesFor, packedRow, packedBytes}
 use Rattle.packed.proofs.RoundTrip.{packed-length, packed-back, packed-good}
 use Rattle.packed.proofs.Turned.{bytes-good}
 use Rattle.held_key.specs.declared.state.Held.{Held}
-use Rattle.verdict.specs.Verdict.{fullWeight, Extending, Found}
+use Rattle.verdict.specs.Verdict.{fullCounts, Extending, Found}
 use Rattle.held_key.specs.Held.{sound, rowTrits, heldKey}
-use Rattle.check_tests.specs.Check.{callRefusal, packedLengths, packedContents, heldWeight, answered}
+use Rattle.check_tests.specs.Check.{callRefusal, packedLengths, packedContents, heldCounts, answered}
 use Rattle.check_tests.specs.Check.{Check, checkRefusal, checkAnswer, PackedCheck, checkPackedRefusal, checkPackedAnswer}
 use Rattle.held_key.proofs.Sizes.{sizes}
-use Rattle.verdict.proofs.FullWord.{verifier, extends-once, yes-weight}
+use Rattle.verdict.proofs.FullWord.{verifier, extends-once, counts-of, yes-sum}
 use Rattle.check_tests.proofs.Passed.{Fitted, fitted, contents, check-passed}
 
 -- ---- yes
 
--- a verdict says yes exactly when its weight is w
-answered-yes : (weight w : ℕ) → (answered 0 weight w .yes ≡ 1) ↔ (weight ≡ w)
+-- a verdict says yes exactly when its ones and twos add up to w
+answered-yes : (c : Counts) (w : ℕ) → (answered 0 c w .yes ≡ 1) ↔ (sumOf c ≡ w)
 unfolding answered
-answered-yes weight w = (forth (ℕ-discrete weight w), λ e. ap (λ (t : Bool). cond {A = ℕ} t 1 0) (eq-eqb weight w e))
+answered-yes c w = (forth (ℕ-discrete (sumOf c) w), λ e. ap (λ (t : Bool). cond {A = ℕ} t 1 0) (eq-eqb (sumOf c) w e))
   where
-    forth : Dec (weight ≡ w) → _≡_ {A = ℕ} (cond (eqb weight w) 1 0) 1 → weight ≡ w
+    forth : Dec (sumOf c ≡ w) → _≡_ {A = ℕ} (cond (eqb (sumOf c) w) 1 0) 1 → sumOf c ≡ w
     forth (yes e) h = e
-    forth (no f) h = let z : _≡_ {A = ℕ} 0 1 = sym (ap (λ (t : Bool). cond {A = ℕ} t 1 0) (ne-eqb weight w f)) ∙ h in absurd (omega arith)
+    forth (no f) h = let z : _≡_ {A = ℕ} 0 1 = sym (ap (λ (t : Bool). cond {A = ℕ} t 1 0) (ne-eqb (sumOf c) w f)) ∙ h in absurd (omega arith)
 
 -- yes, where nothing is refused
 module _ (h : Held) (ones twos : List ℕ) (y s : ℕ → Trit) where
-  found : (answered 0 (heldWeight h ones twos y s) (h .w) .yes ≡ 1) ↔ Found (rowTrits h) (h .k) (h .w) (heldKey h ones twos) y s
-  unfolding heldWeight
+  found : (answered 0 (heldCounts h ones twos y s) (h .w) .yes ≡ 1) ↔ Found (rowTrits h) (h .k) (h .w) (heldKey h ones twos) y s
+  unfolding heldCounts
   found =
       let R = heldKey h ones twos in
       let v = verifier (rowTrits h) (h .k) R y s (h .w) in
-      let a = answered-yes (fullWeight (rowTrits h) (h .k) R y s) (h .w) in
-      let g = yes-weight (rowTrits h) (h .k) R y s (h .w) in
+      let a = answered-yes (fullCounts (rowTrits h) (h .k) R y s) (h .w) in
+      let g = yes-sum (rowTrits h) (h .k) R y s (h .w) in
       ((λ q. v .0 (g .1 (a .0 q))), λ f. a .1 (g .0 (v .1 f)))
 
 -- the check in planes
@@ -60,6 +61,19 @@ pub check-packed-verdict : (c : PackedCheck) → checkPackedRefusal c ≡ 0 → 
     (checkPackedAnswer c .yes ≡ 1) ↔ Found (rowTrits h) (h .k) (h .w) (heldKey h (c .ones) (c .twos)) (packedRow (rowTrits h) (c .y)) (packedRow (h .k) (c .s))
 unfolding checkPackedAnswer
 check-packed-verdict c e = rw e (found (c .held) (c .ones) (c .twos) (packedRow (rowTrits (c .held)) (c .y)) (packedRow (c .held .k) (c .s)))
+
+-- the ones and twos that a check answers are those of that word
+module _ (c : Check) (e : checkRefusal c ≡ 0) where
+  pub check-counts : (v : ℕ → Trit)
+      → Extending (rowTrits (c .held)) (c .held .k) (heldKey (c .held) (c .ones) (c .twos)) (tritAt (c .yOnes) (c .yTwos)) (tritAt (c .sOnes) (c .sTwos)) v
+      → (checkAnswer c .ones ≡ onesV v (c .held .n)) × (checkAnswer c .twos ≡ twosV v (c .held .n))
+  unfolding checkAnswer answered heldCounts
+  check-counts v x =
+      let h = c .held in
+      let all : rowTrits h + h .k ≡ h .n = omega (arith, sizes h (check-passed c e .0 .is-sound)) in
+      let f = counts-of (rowTrits h) (h .k) (heldKey h (c .ones) (c .twos)) (tritAt (c .yOnes) (c .yTwos)) (tritAt (c .sOnes) (c .sTwos)) v
+      (x .has-syndrome) (x .extends) ∙ ap (countsV v) all in
+      (rw e (ap (λ (k : Counts). k .ones) f), rw e (ap (λ (k : Counts). k .twos) f))
 
 -- and there is one such word
 pub found-once : (h : Held) (ones twos : List ℕ) (y s e f : ℕ → Trit) → sound h ≡ true → Extending (rowTrits h) (h .k) (heldKey h ones twos) y s e
@@ -130,4 +144,4 @@ module _ (c : Check) (e : checkRefusal c ≡ 0) where
   -- and it answers the same
   pub packed-agrees : checkPackedAnswer (packedOf c) ≡ checkAnswer c
   unfolding checkAnswer checkPackedAnswer
-  packed-agrees = ap₂ (λ (r x : ℕ). answered r x (h .w)) (packed-passes ∙ sym e) (ap₂ (heldWeight h (c .ones) (c .twos)) y-back s-back)
+  packed-agrees = ap₂ (λ (r : ℕ) (x : Counts). answered r x (h .w)) (packed-passes ∙ sym e) (ap₂ (heldCounts h (c .ones) (c .twos)) y-back s-back)

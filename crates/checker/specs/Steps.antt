@@ -1,9 +1,11 @@
 -- What the weighing asks of the key, y, s and the working space. No rule of the paper: code is tied to it. Assumes nothing.
 use mathlib.Core.Path.{_≡_}
 use mathlib.Core.List.{List}
-use Prim.Native.Nat.{ℕ, _*_, _≤_, _<_}
+use Prim.Native.Nat.{ℕ, _+_, _*_, _≤_, _<_}
 use lib.ListN.{length}
+use Rattle.trits.specs.Trit.{Trit, one, two}
 use Rattle.trits.specs.Planes.{Row}
+use Rattle.trits.specs.declared.Counts.{Counts}
 use Rattle.packed.specs.Packed.{bytesFor, byteTable, packedRefusal}
 use Rattle.held_key.specs.Steps.{Whole, Work}
 use Rattle.held_key.specs.declared.state.Held.{Held}
@@ -17,6 +19,13 @@ pub record ForTakeRow (held : Held) (ones twos : List ℕ) (i t : ℕ) (workOnes
   pub work : Work held workOnes workTwos
   pub row-in : i < held .k
   pub trit : t < 3
+
+-- two rows are counted together; one trit more is counted
+abbrev pub addCounts : Counts → Counts → Counts
+addCounts a b = record { ones = a .ones + b .ones; twos = a .twos + b .twos }
+
+abbrev pub moreCounts : Counts → Trit → Counts
+moreCounts c x = record { ones = c .ones + one x; twos = c .twos + two x }
 
 -- a whole key, the word under work, and s in planes
 pub record ForTakeRows (held : Held) (ones twos sOnes sTwos workOnes workTwos : List ℕ) : Type 0 where

@@ -1,11 +1,12 @@
 // The check under a held key.
-pub mod weighing; // the weight of the full word
+pub mod weighing; // the ones and twos of the full word
 
 ghost use mathlib.Core.Path.{_≡_};
 ghost use Rattle.check_tests.specs.Check.{checkOf, checkAnswer, checkWorkOnes, checkWorkTwos, told};
 ghost use Rattle.check_tests.specs.Check.{packedCheckOf, checkPackedAnswer, checkPackedWorkOnes, checkPackedWorkTwos};
 use check_tests::Verdict;
 use held_key::state::Held;
+use trits::Counts;
 
 // The check of y and s in planes under the held key.
 pub fn check(
@@ -37,9 +38,9 @@ pub fn check(
         work_twos,
     );
     if trits::refusal::code(tested) != 0 {
-        return check_tests::judge(tested, 0, held.w);
+        return check_tests::judge(tested, Counts { ones: 0, twos: 0 }, held.w);
     }
-    let weight = weighing::weigh(
+    let counts = weighing::weigh(
         held,
         ones,
         twos,
@@ -52,7 +53,7 @@ pub fn check(
     );
     planes::words::zero_words(work_ones);
     planes::words::zero_words(work_twos);
-    check_tests::judge(tested, weight, held.w)
+    check_tests::judge(tested, counts, held.w)
 }
 
 // The check of packed y and s under the held key.
@@ -81,10 +82,10 @@ pub fn check_packed(
         work_twos,
     );
     if trits::refusal::code(tested) != 0 {
-        return check_tests::judge(tested, 0, held.w);
+        return check_tests::judge(tested, Counts { ones: 0, twos: 0 }, held.w);
     }
-    let weight = weighing::weigh_packed(held, ones, twos, y, s, work_ones, work_twos);
+    let counts = weighing::weigh_packed(held, ones, twos, y, s, work_ones, work_twos);
     planes::words::zero_words(work_ones); // nothing of y and s stays
     planes::words::zero_words(work_twos);
-    check_tests::judge(tested, weight, held.w)
+    check_tests::judge(tested, counts, held.w)
 }

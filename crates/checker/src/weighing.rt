@@ -1,17 +1,18 @@
-// The rows of the key taken from y, and the weight of the full word.
+// The rows of the key taken from y, and the ones and twos of the full word.
 ghost use mathlib.Core.Path.{_≡_};
-ghost use Prim.Native.Nat.{ℕ, _<_};
+ghost use Prim.Native.Nat.{ℕ, _≤_, _<_};
 ghost use lib.ListN.{length};
-ghost use Rattle.trits.specs.Trit.{subT, mulT, nonZero, zipV, weightV, tritOf};
+ghost use Rattle.trits.specs.Trit.{subT, mulT, zipV, countsV, sumOf, tritOf};
 ghost use Rattle.trits.specs.Planes.{tritAt, Reads};
 ghost use Rattle.packed.specs.Packed.{packedRow};
 ghost use Rattle.verdict.specs.Verdict.{timesKey};
 ghost use Rattle.held_key.specs.Held.{rowTrits, heldKey};
-ghost use Rattle.check_tests.specs.Check.{heldWeight};
-ghost use Rattle.checker.specs.Steps.{ForTakeRow, ForTakeRows, ForTakeByTable, ForTakePackedRows, ForWeigh, ForWeighPacked};
+ghost use Rattle.check_tests.specs.Check.{heldCounts};
+ghost use Rattle.checker.specs.Steps.{ForTakeRow, ForTakeRows, ForTakeByTable, ForTakePackedRows, ForWeigh, ForWeighPacked, moreCounts, addCounts};
 use held_key::state::Held;
+use trits::Counts;
 
-// Row i of the key, times a trit, is taken from the word; whether a row was taken, as 1 or 0.
+// Row i of the key, times a trit, is taken from the word.
 fn take_row(
     held: Held,
     ones: &[u64],
@@ -20,27 +21,25 @@ fn take_row(
     t: u8,
     work_ones: &mut [u64],
     work_twos: &mut [u64],
-) -> u64
+)
     requires { ⌜ ForTakeRow held (now ones) (now twos) i t (now «work_ones») (now «work_twos») ⌝ }
-    ensures { λ r. ⌜ r ≡ nonZero (tritOf t) ⌝ }
     ensures { λ _. ⌜ Reads (now («work_ones» .exit)) (now («work_twos» .exit)) (length (now («work_ones» .entry)))
         (zipV subT (tritAt (now («work_ones» .entry)) (now («work_twos» .entry)))
         (zipV mulT (λ (q : ℕ). tritOf t) (heldKey held (now (ones .entry)) (now (twos .entry)) i))) ⌝ }
 {
     if t == 0 {
-        return 0;
+        return;
     }
     let row_ones = held_key::key::held_row(held, ones, i);
     let row_twos = held_key::key::held_row(held, twos, i);
     if t == 1 {
         rows::sub_row(work_ones, work_twos, row_ones, row_twos);
-        return 1;
+        return;
     }
     rows::add_row(work_ones, work_twos, row_ones, row_twos);
-    1
 }
 
-// Each row of the key, times its trit of s in planes, is taken from the word; how many rows were taken.
+// Each row of the key, times its trit of s in planes, is taken from the word.
 fn take_rows(
     held: Held,
     ones: &[u64],
@@ -49,25 +48,35 @@ fn take_rows(
     s_twos: &[u64],
     work_ones: &mut [u64],
     work_twos: &mut [u64],
-) -> u64
+)
     requires { ⌜ ForTakeRows held (now ones) (now twos) (now «s_ones») (now «s_twos») (now «work_ones») (now «work_twos») ⌝ }
-    ensures { λ r. ⌜ r ≡ weightV (tritAt (now («s_ones» .entry)) (now («s_twos» .entry))) (held .k) ⌝ }
     ensures { λ _. ⌜ Reads (now («work_ones» .exit)) (now («work_twos» .exit)) (length (now («work_ones» .entry)))
         (zipV subT (tritAt (now («work_ones» .entry)) (now («work_twos» .entry)))
         (timesKey (held .k) (heldKey held (now (ones .entry)) (now (twos .entry))) (tritAt (now («s_ones» .entry)) (now («s_twos» .entry))))) ⌝ }
 {
     let k = held.k as usize;
-    let mut taken: u64 = 0;
     let mut i = 0;
     while i < k {
         let t = planes::places::trit_at(s_ones, s_twos, i);
-        taken += take_row(held, ones, twos, i, t, work_ones, work_twos);
+        take_row(held, ones, twos, i, t, work_ones, work_twos);
         i += 1;
     }
-    taken
 }
 
-// Each row of the key, times its trit of a packed s, is taken from the word; how many rows were taken.
+// One trit more is counted.
+fn count_trit(counts: Counts, t: u8) -> Counts
+    requires { ⌜ (sumOf counts ≤ 16384) × (t < 3) ⌝ }
+    ensures { λ r. ⌜ r ≡ moreCounts counts (tritOf t) ⌝ }
+{
+    let ones = counts.ones + (t % 2) as u64; // 1 alone is odd
+    let twos = counts.twos + (t / 2) as u64;
+    Counts {
+        ones: ones,
+        twos: twos,
+    }
+}
+
+// Each row of the key, times its trit of a packed s, is taken from the word; the ones and twos of s.
 fn take_by_table(
     held: Held,
     ones: &[u64],
@@ -76,22 +85,23 @@ fn take_by_table(
     work_ones: &mut [u64],
     work_twos: &mut [u64],
     table: &[u8; 1215],
-) -> u64
+) -> Counts
     requires { ⌜ ForTakeByTable held (now ones) (now twos) (now s) (now «work_ones») (now «work_twos») (now table) ⌝ }
-    ensures { λ r. ⌜ r ≡ weightV (packedRow (held .k) (now (s .entry))) (held .k) ⌝ }
+    ensures { λ r. ⌜ r ≡ countsV (packedRow (held .k) (now (s .entry))) (held .k) ⌝ }
     ensures { λ _. ⌜ Reads (now («work_ones» .exit)) (now («work_twos» .exit)) (length (now («work_ones» .entry)))
         (zipV subT (tritAt (now («work_ones» .entry)) (now («work_twos» .entry)))
         (timesKey (held .k) (heldKey held (now (ones .entry)) (now (twos .entry))) (packedRow (held .k) (now (s .entry))))) ⌝ }
 {
     let k = held.k as usize;
-    let mut taken: u64 = 0;
+    let mut counts = Counts { ones: 0, twos: 0 };
     let mut i = 0;
     while i < k {
         let t = packing::table::trit(table, s[i / 5], i % 5);
-        taken += take_row(held, ones, twos, i, t, work_ones, work_twos);
+        take_row(held, ones, twos, i, t, work_ones, work_twos);
+        counts = count_trit(counts, t);
         i += 1;
     }
-    taken
+    counts
 }
 
 // The same; the byte table is made once.
@@ -102,9 +112,9 @@ fn take_packed_rows(
     s: &[u8],
     work_ones: &mut [u64],
     work_twos: &mut [u64],
-) -> u64
+) -> Counts
     requires { ⌜ ForTakePackedRows held (now ones) (now twos) (now s) (now «work_ones») (now «work_twos») ⌝ }
-    ensures { λ r. ⌜ r ≡ weightV (packedRow (held .k) (now (s .entry))) (held .k) ⌝ }
+    ensures { λ r. ⌜ r ≡ countsV (packedRow (held .k) (now (s .entry))) (held .k) ⌝ }
     ensures { λ _. ⌜ Reads (now («work_ones» .exit)) (now («work_twos» .exit)) (length (now («work_ones» .entry)))
         (zipV subT (tritAt (now («work_ones» .entry)) (now («work_twos» .entry)))
         (timesKey (held .k) (heldKey held (now (ones .entry)) (now (twos .entry))) (packedRow (held .k) (now (s .entry))))) ⌝ }
@@ -113,7 +123,20 @@ fn take_packed_rows(
     take_by_table(held, ones, twos, s, work_ones, work_twos, &table)
 }
 
-// The weight of the full word of y and s in planes; the working space holds its first part.
+// The ones and twos of two rows together.
+fn add_counts(first: Counts, last: Counts) -> Counts
+    requires { ⌜ (sumOf first ≤ 16384) × (sumOf last ≤ 16384) ⌝ }
+    ensures { λ r. ⌜ r ≡ addCounts first last ⌝ }
+{
+    let ones = first.ones + last.ones;
+    let twos = first.twos + last.twos;
+    Counts {
+        ones: ones,
+        twos: twos,
+    }
+}
+
+// The ones and twos of the full word of y and s in planes; the working space holds its first part.
 pub fn weigh(
     held: Held,
     ones: &[u64],
@@ -124,19 +147,20 @@ pub fn weigh(
     s_twos: &[u64],
     work_ones: &mut [u64],
     work_twos: &mut [u64],
-) -> u64
+) -> Counts
     requires { ⌜ ForWeigh held (now ones) (now twos) (now «y_ones») (now «y_twos») (now «s_ones») (now «s_twos») (now «work_ones») (now «work_twos») ⌝ }
-    ensures { λ r. ⌜ r ≡ heldWeight held (now (ones .entry)) (now (twos .entry)) (tritAt (now («y_ones» .entry)) (now («y_twos» .entry)))
+    ensures { λ r. ⌜ r ≡ heldCounts held (now (ones .entry)) (now (twos .entry)) (tritAt (now («y_ones» .entry)) (now («y_twos» .entry)))
         (tritAt (now («s_ones» .entry)) (now («s_twos» .entry))) ⌝ }
 {
     planes::words::copy_words(work_ones, y_ones);
     planes::words::copy_words(work_twos, y_twos);
-    let taken = take_rows(held, ones, twos, s_ones, s_twos, work_ones, work_twos);
-    let first = rows::weight(work_ones, work_twos);
-    first + taken // as many rows as trits of s that are not 0
+    take_rows(held, ones, twos, s_ones, s_twos, work_ones, work_twos);
+    let first = rows::count(work_ones, work_twos);
+    let last = rows::count(s_ones, s_twos);
+    add_counts(first, last)
 }
 
-// The weight of the full word of packed y and s; the working space holds its first part.
+// The ones and twos of the full word of packed y and s; the working space holds its first part.
 pub fn weigh_packed(
     held: Held,
     ones: &[u64],
@@ -145,13 +169,13 @@ pub fn weigh_packed(
     s: &[u8],
     work_ones: &mut [u64],
     work_twos: &mut [u64],
-) -> u64
+) -> Counts
     requires { ⌜ ForWeighPacked held (now ones) (now twos) (now y) (now s) (now «work_ones») (now «work_twos») ⌝ }
-    ensures { λ r. ⌜ r ≡ heldWeight held (now (ones .entry)) (now (twos .entry)) (packedRow (rowTrits held) (now (y .entry)))
+    ensures { λ r. ⌜ r ≡ heldCounts held (now (ones .entry)) (now (twos .entry)) (packedRow (rowTrits held) (now (y .entry)))
         (packedRow (held .k) (now (s .entry))) ⌝ }
 {
     packing::write::write_packed(held_key::state::row_trits(held), y, work_ones, work_twos);
     let taken = take_packed_rows(held, ones, twos, s, work_ones, work_twos);
-    let first = rows::weight(work_ones, work_twos);
-    first + taken // as many rows as trits of the packed s that are not 0
+    let first = rows::count(work_ones, work_twos);
+    add_counts(first, taken)
 }

@@ -4,7 +4,7 @@ use mathlib.Core.List.{List}
 use Prim.Native.Nat.{ℕ, _+_, _≤_}
 use lib.ListN.{getD}
 use Rattle.trits.specs.Trit.{t0, nonZero, weightV}
-use Rattle.trits.proofs.Counts.{sum-add, weight-same}
+use Rattle.trits.proofs.Counting.{sum-add, weight-same}
 use Rattle.trits.proofs.Ends.{weight-ended}
 use Rattle.matrix.specs.Linear.{Vector}
 use Rattle.matrix.specs.Orders.{Order}

@@ -10,8 +10,8 @@ use borrow.Rule.Slice.PartMut.{midOf, putMid}
 use lib.ListN.{length, getD, set, drop}
 use lib.Seq.{getD-drop}
 use lib.Bits.{bitAnd}
-use Rattle.trits.specs.Trit.{Trit, t0, t2, subT, negT, negV, zipAt}
-use Rattle.trits.specs.Planes.{bit, trit, one, two, tritAt, Apart, Reads}
+use Rattle.trits.specs.Trit.{Trit, t0, t2, subT, negT, negV, zipAt, one, two}
+use Rattle.trits.specs.Planes.{bit, trit, tritAt, Apart, Reads}
 use Rattle.trits.specs.Rows.{matrixAt}
 use Rattle.trits.proofs.Reading.{tritAt-word}
 use Rattle.trits.proofs.WordOps.{WordOp, table, addOnes, addTwos, add-op}

@@ -8,7 +8,7 @@ use borrow.Author.Tests.{eqb-true}
 use lib.Dec.{eqb}
 use lib.ListN.{length, getD}
 use Rattle.trits.specs.Trit.{nonZero, sumTo, weightV}
-use Rattle.trits.proofs.Counts.{sum-first}
+use Rattle.trits.proofs.Counting.{sum-first}
 use Rattle.matrix.specs.Linear.{Vector, elem}
 use Rattle.matrix.specs.Orders.{Order}
 use Rattle.matrix.proofs.Orders.{drop-one, order-less}

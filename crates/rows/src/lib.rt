@@ -2,9 +2,10 @@
 ghost use mathlib.Core.Path.{_≡_};
 ghost use Prim.Native.Nat.{_*_, _≤_};
 ghost use lib.ListN.{length};
-ghost use Rattle.trits.specs.Trit.{addT, subT, mulT, negV, zipV, dotV, weightV, number};
+ghost use Rattle.trits.specs.Trit.{addT, subT, mulT, negV, zipV, dotV, weightV, countsV, number};
 ghost use Rattle.trits.specs.Planes.{tritAt, Row, Reads};
 ghost use Rattle.rows.specs.Steps.{ForRowPair, ForDot};
+use trits::Counts;
 
 // The source is added to the row.
 pub fn add_row(ones: &mut [u64], twos: &mut [u64], src_ones: &[u64], src_twos: &[u64])
@@ -100,4 +101,24 @@ pub fn weight(ones: &[u64], twos: &[u64]) -> u64
         i += 1;
     }
     sum
+}
+
+// How many trits are 1, and how many are 2: the bits set in each plane, counted word by word.
+pub fn count(ones: &[u64], twos: &[u64]) -> Counts
+    requires { ⌜ Row (now ones) (now twos) ⌝ }
+    requires { ⌜ length (now ones) ≤ 65536 ⌝ }
+    ensures { λ r. ⌜ r ≡ countsV (tritAt (now (ones .entry)) (now (twos .entry))) (64 * length (now (ones .entry))) ⌝ }
+{
+    let mut in_ones: u64 = 0;
+    let mut in_twos: u64 = 0;
+    let mut i = 0;
+    while i < ones.len() {
+        in_ones += u64::count_ones(ones[i]) as u64;
+        in_twos += u64::count_ones(twos[i]) as u64;
+        i += 1;
+    }
+    Counts {
+        ones: in_ones,
+        twos: in_twos,
+    }
 }

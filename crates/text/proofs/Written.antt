@@ -13,7 +13,7 @@ use lib.ListN.{length, set, take, drop, length-append, length-take, length-drop}
 use lib.Seq.{set-split, take-at, drop-at, drop-drop, length-take-le}
 use Rattle.trits.specs.Rows.{putWords}
 use Rattle.text.specs.Numbers.{decimalTo, decimal}
-use Rattle.text.specs.Answers.{printed, yesNo, refusedWord, lineRefused, signRefused, verdictAnswer}
+use Rattle.text.specs.Answers.{printed, yesNo, onesPlusTwos, refusedWord, lineRefused, signRefused, verdictAnswer}
 use Rattle.text.specs.Steps.{pair, refusedEnd}
 
 -- one byte
@@ -146,6 +146,22 @@ refused-wrote l at refusal h hr f g i =
     let u = wrote-then l at (45 ∷ 9 ∷ 114 ∷ []) d (omega arith) f g in
     wrote-then l at ((45 ∷ 9 ∷ 114 ∷ []) ++ d) (10 ∷ []) (omega (arith, length-append (45 ∷ 9 ∷ 114 ∷ []) d)) u i
 
+counts-length : (ones twos : ℕ) → length (onesPlusTwos ones twos) ≡ length (decimal ones) + length (decimal twos) + 1
+unfolding onesPlusTwos
+counts-length ones twos = omega (arith, length-append (decimal ones) (43 ∷ decimal twos))
+
+pub counts-wrote : (l : List ℕ) (at ones twos : ℕ) → at + 41 ≤ length l → length (decimal ones) ≤ 20 → length (decimal twos) ≤ 20
+    → {a b r : ℕ} {m n p : List ℕ}
+    → Wrote l at (decimal ones) a m → Wrote m a (43 ∷ []) b n → Wrote n b (decimal twos) r p
+    → ((r ≡ at + length (onesPlusTwos ones twos)) × (r ≤ at + 41)) × (p ≡ putWords at l (onesPlusTwos ones twos))
+unfolding onesPlusTwos
+counts-wrote l at ones twos h ho ht f g i =
+    let d = decimal ones in
+    let e = decimal twos in
+    let u = wrote-then l at d (43 ∷ []) (omega arith) f g in
+    let v = wrote-as l at (append-assoc d (43 ∷ []) e) (wrote-then l at (d ++ (43 ∷ [])) e (omega (arith, length-append d (43 ∷ []))) u i) in
+    ((v .0, omega (arith, v .0, counts-length ones twos)), v .1)
+
 refused-length : (refusal : ℕ) → length (refusedEnd refusal) ≡ length (decimal refusal) + 4
 unfolding refusedEnd refusedWord
 refused-length refusal = omega (arith, length-append (decimal refusal) (10 ∷ []))
@@ -168,20 +184,21 @@ module _ (l : List ℕ) (h : 96 ≤ length l) where
         wrote-then l 0 (pair key formula) (refusedEnd refusal) (omega (arith, f .0, refused-length refusal)) (omega (arith, f .0), f .1) g
         ))
 
-    pub verdict-wrote : (weight : ℕ) (t : Bool) → length (decimal weight) ≤ 20 → {a b c r : ℕ} {m n o p : List ℕ}
+    pub verdict-wrote : (ones twos : ℕ) (t : Bool) → {a b c r : ℕ} {m n o p : List ℕ}
         → ((a ≡ length (pair key formula)) × (a ≤ 42)) × (m ≡ putWords 0 l (pair key formula))
-        → Wrote m a (decimal weight) b n → Wrote n b (9 ∷ []) c o → Wrote o c (yesNo t ++ (10 ∷ [])) r p
-        → (r ≡ length (verdictAnswer key formula weight t)) × (p ≡ putWords 0 l (verdictAnswer key formula weight t))
+        → ((b ≡ a + length (onesPlusTwos ones twos)) × (b ≤ a + 41)) × (n ≡ putWords a m (onesPlusTwos ones twos))
+        → Wrote n b (9 ∷ []) c o → Wrote o c (yesNo t ++ (10 ∷ [])) r p
+        → (r ≡ length (verdictAnswer key formula ones twos t)) × (p ≡ putWords 0 l (verdictAnswer key formula ones twos t))
     unfolding verdictAnswer printed
-    verdict-wrote weight t hw f g i j =
-        let d = decimal weight in
+    verdict-wrote ones twos t f g i j =
+        let d = onesPlusTwos ones twos in
         let x = pair key formula in
         let y = yesNo t ++ (10 ∷ []) in
-        let u = wrote-then l 0 x d (omega (arith, f .0)) (omega (arith, f .0), f .1) g in
-        let v = wrote-then l 0 (x ++ d) (9 ∷ []) (omega (arith, f .0, length-append x d)) u i in
-        let w = wrote-then l 0 (x ++ d ++ (9 ∷ [])) y (omega (arith, f .0, word-length t, length-append x d, length-append (x ++ d) (9 ∷ []))) v j in
+        let u = wrote-then l 0 x d (omega (arith, f .0, g .0)) (omega (arith, f .0), f .1) (g .0 .0, g .1) in
+        let v = wrote-then l 0 (x ++ d) (9 ∷ []) (omega (arith, f .0, g .0, length-append x d)) u i in
+        let w = wrote-then l 0 (x ++ d ++ (9 ∷ [])) y (omega (arith, f .0, g .0, word-length t, length-append x d, length-append (x ++ d) (9 ∷ []))) v j in
         let e : x ++ d ++ (9 ∷ []) ++ y ≡ x ++ (d ++ (9 ∷ y)) = append-assoc (x ++ d) (9 ∷ []) y ∙ append-assoc x d (9 ∷ y) in
-        wrote-front l (verdictAnswer key formula weight t) (wrote-as l 0 (e ∙ pair-front key formula (d ++ (9 ∷ y))) w)
+        wrote-front l (verdictAnswer key formula ones twos t) (wrote-as l 0 (e ∙ pair-front key formula (d ++ (9 ∷ y))) w)
       where
         word-length : (t : Bool) → length (yesNo t ++ (10 ∷ [])) ≤ 4
         word-length true = omega arith

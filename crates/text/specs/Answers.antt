@@ -1,4 +1,4 @@
--- The lines that are printed: key, formula, weight, verdict ("Held key and lines of text"). Assumes nothing.
+-- The lines that are printed: key, formula, weight, verdict ("Held key and lines of text"; request C-13 for the weight). Assumes nothing.
 use mathlib.Core.Bool.{Bool, cond}
 use mathlib.Core.List.{List, [], _∷_, _++_}
 use Prim.Native.Nat.{ℕ}
@@ -25,9 +25,13 @@ unfoldable pub header : List ℕ
 header = printed (107 ∷ 101 ∷ 121 ∷ []) (102 ∷ 111 ∷ 114 ∷ 109 ∷ 117 ∷ 108 ∷ 97 ∷ []) (119 ∷ 101 ∷ 105 ∷ 103 ∷ 104 ∷ 116 ∷ [])
     (118 ∷ 101 ∷ 114 ∷ 100 ∷ 105 ∷ 99 ∷ 116 ∷ [])
 
+-- the weight as it is printed: ones, a plus sign, twos
+unfoldable pub onesPlusTwos : ℕ → ℕ → List ℕ
+onesPlusTwos ones twos = decimal ones ++ (43 ∷ decimal twos)
+
 -- the answer to an S line that is not refused
-unfoldable pub verdictAnswer : ℕ → ℕ → ℕ → Bool → List ℕ
-verdictAnswer key formula weight yes′ = printed (decimal key) (decimal formula) (decimal weight) (yesNo yes′)
+unfoldable pub verdictAnswer : ℕ → ℕ → ℕ → ℕ → Bool → List ℕ
+verdictAnswer key formula ones twos yes′ = printed (decimal key) (decimal formula) (onesPlusTwos ones twos) (yesNo yes′)
 
 -- the answer to a well-formed S line that is refused
 unfoldable pub signRefused : ℕ → ℕ → ℕ → List ℕ

@@ -6,7 +6,7 @@ ghost use lib.ListN.{length, drop};
 ghost use Rattle.trits.specs.Rows.{putWords};
 ghost use Rattle.text.specs.Numbers.{decimal};
 ghost use lib.Dec.{eqb};
-ghost use Rattle.text.specs.Answers.{yesNo, header, verdictAnswer, signRefused, lineRefused};
+ghost use Rattle.text.specs.Answers.{yesNo, onesPlusTwos, header, verdictAnswer, signRefused, lineRefused};
 ghost use Rattle.text.specs.Steps.{pair, refusedEnd};
 
 // A byte at a place.
@@ -77,6 +77,17 @@ fn put_refused(out: &mut [u8], at: usize, refusal: u64) -> usize
     put_byte(out, b, 10)
 }
 
+// The weight: ones, a plus sign, twos.
+fn put_counts(out: &mut [u8], at: usize, ones: u64, twos: u64) -> usize
+    requires { ⌜ at + 41 ≤ length (now out) ⌝ }
+    ensures { λ r. ⌜ (r ≡ at + length (onesPlusTwos ones twos)) × (r ≤ at + 41) ⌝ }
+    ensures { λ _. ⌜ now (out .exit) ≡ putWords at (now (out .entry)) (onesPlusTwos ones twos) ⌝ }
+{
+    let a = put_decimal(out, at, ones);
+    let b = put_byte(out, a, 43);
+    put_decimal(out, b, twos)
+}
+
 // Yes or no, to the line's end.
 fn put_word(out: &mut [u8], at: usize, yes: u64) -> usize
     requires { ⌜ at + 4 ≤ length (now out) ⌝ }
@@ -90,13 +101,13 @@ fn put_word(out: &mut [u8], at: usize, yes: u64) -> usize
 }
 
 // The answer to an S line that is not refused.
-pub fn put_verdict(out: &mut [u8], key: u64, formula: u64, weight: u64, yes: u64) -> usize
+pub fn put_verdict(out: &mut [u8], key: u64, formula: u64, ones: u64, twos: u64, yes: u64) -> usize
     requires { ⌜ 96 ≤ length (now out) ⌝ }
-    ensures { λ r. ⌜ r ≡ length (verdictAnswer key formula weight (eqb yes 1)) ⌝ }
-    ensures { λ _. ⌜ now (out .exit) ≡ putWords 0 (now (out .entry)) (verdictAnswer key formula weight (eqb yes 1)) ⌝ }
+    ensures { λ r. ⌜ r ≡ length (verdictAnswer key formula ones twos (eqb yes 1)) ⌝ }
+    ensures { λ _. ⌜ now (out .exit) ≡ putWords 0 (now (out .entry)) (verdictAnswer key formula ones twos (eqb yes 1)) ⌝ }
 {
     let a = put_pair(out, key, formula);
-    let b = put_decimal(out, a, weight);
+    let b = put_counts(out, a, ones, twos);
     let c = put_byte(out, b, 9);
     put_word(out, c, yes)
 }

@@ -37,7 +37,7 @@ unfolding refusalPrints
 printed-refusal r f = rw (ne-eqb r 0 f)
 
 module _ (number formula : ℕ) (c : Checked) where
-  pub sign-verdict : c .refusal ≡ 0 → verdictAnswer number formula (c .weight) (eqb (c .yes) 1) ≡ signPrints number formula c
+  pub sign-verdict : c .refusal ≡ 0 → verdictAnswer number formula (c .ones) (c .twos) (eqb (c .yes) 1) ≡ signPrints number formula c
   unfolding signPrints
   sign-verdict e = rw (eq-eqb (c .refusal) 0 e)
 

@@ -82,7 +82,7 @@ signAnswer kept number y s = checkAnswer (signCheck kept number y s)
 -- the answer to an S line: the verdict, or the refusal
 unfoldable pub signPrints : ℕ → ℕ → Checked → List ℕ
 signPrints number formula c =
-    cond (eqb (c .refusal) 0) (verdictAnswer number formula (c .weight) (eqb (c .yes) 1)) (signRefused number formula (c .refusal))
+    cond (eqb (c .refusal) 0) (verdictAnswer number formula (c .ones) (c .twos) (eqb (c .yes) 1)) (signRefused number formula (c .refusal))
 
 -- a line that prints only its refusal
 unfoldable pub refusalPrints : ℕ → List ℕ

@@ -121,7 +121,14 @@ fn print_sign(number: u64, formula: u64, checked: Checked, out: &mut [u8]) -> us
     ensures { λ _. ⌜ now (out .exit) ≡ putWords 0 (now (out .entry)) (signPrints number formula checked) ⌝ }
 {
     if checked.refusal == 0 {
-        return text::answers::put_verdict(out, number, formula, checked.weight, checked.yes);
+        return text::answers::put_verdict(
+            out,
+            number,
+            formula,
+            checked.ones,
+            checked.twos,
+            checked.yes,
+        );
     }
     text::answers::put_sign_refused(out, number, formula, checked.refusal)
 }

@@ -9,11 +9,12 @@ use native.Mathlib.Omega.{arith}
 use borrow.Author.Tests.{eq-eqb, ne-eqb, lt-ltb, le-ltb}
 use lib.ListN.{length, getD}
 use lib.Bits.{bitAnd}
-use Rattle.trits.specs.Trit.{Trit, t0, nonZero, sumTo, weightV, putV, upTo}
+use Rattle.trits.specs.Trit.{Trit, t0, nonZero, one, two, sumTo, weightV, countsV, putV, upTo}
 use Rattle.trits.specs.Planes.{bit, trit, bitAt, tritAt, zeroWords, pastEnd, Row, Reads, Holds}
 use Rattle.trits.proofs.Bits.{bit-none}
 use Rattle.trits.proofs.Lists.{zero-at}
-use Rattle.trits.proofs.Counts.{sum-add}
+use Rattle.trits.proofs.Counting.{sum-add}
+use Rattle.trits.proofs.Counted.{same-counts}
 use Rattle.trits.proofs.Reading.{read-holds, same-words}
 use Rattle.trits.proofs.Tests.{past-zero}
 
@@ -81,13 +82,21 @@ unfolding sumTo
 none-past zero f h = refl
 none-past (suc k) f h = omega (arith, none-past k f h, h k)
 
--- the weight of the words is the weight of the row
-pub weight-ended : (v : ℕ → Trit) (m n : ℕ) → m ≤ n → ((i : ℕ) → m ≤ i → v i ≡ t0) → weightV v n ≡ weightV v m
-weight-ended v m n l z =
+-- a sum over the words' places is the sum over the row's
+pub sum-ended : (f : ℕ → ℕ) (m n : ℕ) → m ≤ n → ((i : ℕ) → m ≤ i → f i ≡ 0) → sumTo f n ≡ sumTo f m
+sum-ended f m n l z =
     let k = n - m in
     let e : n ≡ m + k = omega arith in
-    ap (weightV v) e ∙ sum-add m k (λ i. nonZero (v i))
-    ∙ ap (λ (x : ℕ). weightV v m + x) (none-past k (λ i. nonZero (v (m + i))) (λ i. ap nonZero (z (m + i) (omega arith)))) ∙ add-zero (weightV v m)
+    ap (sumTo f) e ∙ sum-add m k f ∙ ap (λ (x : ℕ). sumTo f m + x) (none-past k (λ i. f (m + i)) (λ i. z (m + i) (omega arith))) ∙ add-zero (sumTo f m)
+
+-- so the weight of the words is the weight of the row
+pub weight-ended : (v : ℕ → Trit) (m n : ℕ) → m ≤ n → ((i : ℕ) → m ≤ i → v i ≡ t0) → weightV v n ≡ weightV v m
+weight-ended v m n l z = sum-ended (λ i. nonZero (v i)) m n l (λ i h. ap nonZero (z i h))
+
+-- and the ones and twos of the words are those of the row
+pub counts-ended : (v : ℕ → Trit) (m n : ℕ) → m ≤ n → ((i : ℕ) → m ≤ i → v i ≡ t0) → countsV v n ≡ countsV v m
+counts-ended v m n l z =
+    same-counts (sum-ended (λ i. one (v i)) m n l (λ i h. ap one (z i h))) (sum-ended (λ i. two (v i)) m n l (λ i h. ap two (z i h)))
 
 -- planes with no bit in both and none past the length are determined by their trits
 pub determined : {o t o′ t′ : List ℕ} (n m : ℕ) → Row o t → Row o′ t′ → length o ≡ n → length o′ ≡ n

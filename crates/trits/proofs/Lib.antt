@@ -1,4 +1,4 @@
--- The laws that the functions' proofs cite, and that callers may.
+-- The laws that the functions' proofs cite, and that callers may; with them, computed cases.
 pub mod Arithmetic
 pub mod Bits
 pub mod Lists
@@ -6,7 +6,8 @@ pub mod Reading
 pub mod WordOps
 pub mod Patches
 pub mod Parts
-pub mod Counts
+pub mod Counted
+pub mod Counting
 pub mod Products
 pub mod Tests
 pub mod Put

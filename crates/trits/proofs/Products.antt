@@ -8,19 +8,12 @@ use mir.Syntax.{w64}
 use mir.Val.{Fits}
 use lib.Bits.{and-lt, or-lt}
 use lib.Count.{ones, ones-le}
-use Rattle.trits.specs.Trit.{Trit, t0, t1, t2, addT, mulT, number, tritOf, sumTo, dotV}
-use Rattle.trits.specs.Planes.{one, two, tritAt, Apart}
+use Rattle.trits.specs.Trit.{Trit, t0, t1, t2, addT, mulT, number, tritOf, one, two, sumTo, onesV, twosV, dotV, zipV}
+use Rattle.trits.specs.Planes.{tritAt, Apart}
 use Rattle.trits.proofs.Reading.{tritAt-place}
 use Rattle.trits.proofs.WordOps.{mulOnes, mulTwos, mul-op, op-ones, op-twos}
-use Rattle.trits.proofs.Counts.{count-word}
+use Rattle.trits.proofs.Counting.{count-word}
 use Rattle.trits.proofs.Arithmetic.{tritOf-add, number-tritOf}
-
--- the counts of the products that are 1, and of those that are 2
-abbrev pub onesOfDot : (ℕ → Trit) → (ℕ → Trit) → ℕ → ℕ
-onesOfDot u v m = sumTo (λ i. one (mulT (u i) (v i))) m
-
-abbrev pub twosOfDot : (ℕ → Trit) → (ℕ → Trit) → ℕ → ℕ
-twosOfDot u v m = sumTo (λ i. two (mulT (u i) (v i))) m
 
 coded-number : (x : Trit) → tritOf (one x + 2 * two x) ≡ x
 coded-number t0 = refl
@@ -33,17 +26,17 @@ unfolding dotV
 dot-zero zero u v h = refl
 dot-zero (suc n) u v h = ap₂ addT (dot-zero n u v (λ i k. h i (omega arith))) (h n (omega arith))
 
-pub dot-counts : (u v : ℕ → Trit) (m : ℕ) → tritOf (onesOfDot u v m + 2 * twosOfDot u v m) ≡ dotV u v m
+pub dot-counts : (u v : ℕ → Trit) (m : ℕ) → tritOf (onesV (zipV mulT u v) m + 2 * twosV (zipV mulT u v) m) ≡ dotV u v m
 unfolding sumTo dotV
 dot-counts u v zero = refl
 dot-counts u v (suc m) =
     let x = mulT (u m) (v m) in
-    let a = onesOfDot u v m in
-    let b = twosOfDot u v m in
+    let a = onesV (zipV mulT u v) m in
+    let b = twosV (zipV mulT u v) m in
     let e : (a + one x) + 2 * (b + two x) ≡ (a + 2 * b) + (one x + 2 * two x) = omega arith in
     ap tritOf e ∙ tritOf-add (a + 2 * b) (one x + 2 * two x) ∙ ap₂ addT (dot-counts u v m) (coded-number x)
 
-pub dot-number : (u v : ℕ → Trit) (m s d : ℕ) → s ≡ onesOfDot u v m → d ≡ twosOfDot u v m → (s + 2 * d) % 3 ≡ number (dotV u v m)
+pub dot-number : (u v : ℕ → Trit) (m s d : ℕ) → s ≡ onesV (zipV mulT u v) m → d ≡ twosV (zipV mulT u v) m → (s + 2 * d) % 3 ≡ number (dotV u v m)
 dot-number u v m s d p q =
     sym (number-tritOf (s + 2 * d)) ∙ ap₂ (λ (x y : ℕ). number (tritOf (x + 2 * y))) p q ∙ ap number (dot-counts u v m)
 
@@ -69,15 +62,15 @@ module _ {uo ut vo vt : List ℕ} {i : ℕ} (k : Known uo ut vo vt i) where
   pub other-le : ones (mulTwos (getD uo i 0) (getD ut i 0) (getD vo i 0) (getD vt i 0)) ≤ 64
   other-le = ones-le 64 _ other-lt
 
-  pub same-turn : (s : ℕ) → s ≡ onesOfDot (tritAt uo ut) (tritAt vo vt) (64 * i)
-      → s + ones (mulOnes (getD uo i 0) (getD ut i 0) (getD vo i 0) (getD vt i 0)) ≡ onesOfDot (tritAt uo ut) (tritAt vo vt) (64 * (i + 1))
+  pub same-turn : (s : ℕ) → s ≡ onesV (zipV mulT (tritAt uo ut) (tritAt vo vt)) (64 * i)
+      → s + ones (mulOnes (getD uo i 0) (getD ut i 0) (getD vo i 0) (getD vt i 0)) ≡ onesV (zipV mulT (tritAt uo ut) (tritAt vo vt)) (64 * (i + 1))
   same-turn s =
       count-word (λ p. one (mulT (tritAt uo ut p) (tritAt vo vt p))) i _ s same-lt (λ b h.
       op-ones mul-op (getD uo i 0) (getD ut i 0) (getD vo i 0) (getD vt i 0) (k .ua .word i) (k .va .word i) b
       ∙ ap₂ (λ (x y : Trit). one (mulT x y)) (sym (tritAt-place i b h uo ut)) (sym (tritAt-place i b h vo vt)))
 
-  pub other-turn : (s : ℕ) → s ≡ twosOfDot (tritAt uo ut) (tritAt vo vt) (64 * i)
-      → s + ones (mulTwos (getD uo i 0) (getD ut i 0) (getD vo i 0) (getD vt i 0)) ≡ twosOfDot (tritAt uo ut) (tritAt vo vt) (64 * (i + 1))
+  pub other-turn : (s : ℕ) → s ≡ twosV (zipV mulT (tritAt uo ut) (tritAt vo vt)) (64 * i)
+      → s + ones (mulTwos (getD uo i 0) (getD ut i 0) (getD vo i 0) (getD vt i 0)) ≡ twosV (zipV mulT (tritAt uo ut) (tritAt vo vt)) (64 * (i + 1))
   other-turn s =
       count-word (λ p. two (mulT (tritAt uo ut p) (tritAt vo vt p))) i _ s other-lt (λ b h.
       op-twos mul-op (getD uo i 0) (getD ut i 0) (getD vo i 0) (getD vt i 0) (k .ua .word i) (k .va .word i) b

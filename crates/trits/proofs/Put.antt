@@ -13,8 +13,8 @@ use lib.Seq.{getD-set-same, getD-set-other}
 use lib.Dec.{eqb, lit<}
 use lib.Bits.{bitAnd, bitOr, bitXor, and-mask, and-lt, or-lt, xor-lt, and-zero-r, or-zero-r, xor-zero-r}
 use lib.Pow.{pow-lt}
-use Rattle.trits.specs.Trit.{Trit, number, tritOf, putV}
-use Rattle.trits.specs.Planes.{bit, trit, one, two, bitAt, tritAt, withBit, Row, Reads}
+use Rattle.trits.specs.Trit.{Trit, number, tritOf, putV, one, two}
+use Rattle.trits.specs.Planes.{bit, trit, bitAt, tritAt, withBit, Row, Reads}
 use Rattle.trits.proofs.Bits.{bit-and, bit-or, bit-xor, bit-lt, bit-none, bit-first, bit-next, from-bits, from-lt, bit-from, bits-eq}
 use Rattle.trits.proofs.Reading.{one-lt, two-lt, trit-of, and-one-two}
 

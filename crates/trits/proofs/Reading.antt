@@ -9,8 +9,8 @@ use native.Mathlib.Decide.{decLt}
 use lib.ListN.{length, getD, List·getD-eq-default}
 use lib.Bits.{bitAnd, and-lt, and-comm}
 use lib.Dec.{lit<}
-use Rattle.trits.specs.Trit.{Trit, t0, t1, t2, negT, negV}
-use Rattle.trits.specs.Planes.{bit, fromBits, trit, one, two, bitAt, tritAt, onesOf, twosOf, Apart, Row, Holds, Reads}
+use Rattle.trits.specs.Trit.{Trit, t0, t1, t2, negT, negV, one, two}
+use Rattle.trits.specs.Planes.{bit, fromBits, trit, bitAt, tritAt, onesOf, twosOf, Apart, Row, Holds, Reads}
 use Rattle.trits.proofs.Bits.{bit-and, bit-lt, bit-none, bits-eq, from-lt, bit-from, from-bits}
 use Rattle.trits.proofs.Lists.{length-tabulate, getD-tabulate, tabulated}
 

@@ -15,8 +15,8 @@ use lib.ListN.{length, getD, List·getD-eq-default}
 use lib.Dec.{eqb}
 use lib.Bits.{bitAnd, bitOr, and-lt, or-lt}
 use lib.Pow.{shr-lt, shr-shr, pow-pos}
-use Rattle.trits.specs.Trit.{Trit, t0, t1, t2, anyTo}
-use Rattle.trits.specs.Planes.{bit, trit, one, two, bitAt, tritAt, onesOf, twosOf, bothAt, eitherAt, bothSet, pastEnd, wordsFor, Apart}
+use Rattle.trits.specs.Trit.{Trit, t0, t1, t2, anyTo, one, two}
+use Rattle.trits.specs.Planes.{bit, trit, bitAt, tritAt, onesOf, twosOf, bothAt, eitherAt, bothSet, pastEnd, wordsFor, Apart}
 use Rattle.trits.proofs.Bits.{bit-and, bit-or, bit-lt, bit-none, bits-eq}
 use Rattle.trits.proofs.Reading.{bitAt-place, read-past, ones-bit, twos-bit, length-ones, holds-reads}
 use Rattle.trits.proofs.WordOps.{no-bits}

@@ -7,8 +7,8 @@ use native.Mathlib.Omega.{arith}
 use lib.Dec.{T, eqb, eqb→eq}
 use lib.Pow.{pow-pos}
 use lib.Bits.{bitAnd, bitOr, bitXor}
-use Rattle.trits.specs.Trit.{Trit, addT, negT, mulT}
-use Rattle.trits.specs.Planes.{bit, trit, one, two}
+use Rattle.trits.specs.Trit.{Trit, addT, negT, mulT, one, two}
+use Rattle.trits.specs.Planes.{bit, trit}
 use Rattle.trits.proofs.Bits.{bit-and, bit-or, bit-xor, bit-lt, bit-none, bits-eq}
 use Rattle.trits.proofs.Reading.{coded, trit-of, and-one-two}
 use Rattle.trits.proofs.Arithmetic.{every, at}

@@ -6,7 +6,7 @@ use Prim.Native.Nat.{ℕ, zero, suc, _+_, _-_, _*_, _/_, _%_, _^_}
 use lib.ListN.{length, getD}
 use lib.Bits.{bitAnd}
 use lib.Dec.{eqb}
-use Rattle.trits.specs.Trit.{Trit, t0, t1, t2, upTo, anyTo}
+use Rattle.trits.specs.Trit.{Trit, t0, t1, t2, one, two, upTo, anyTo}
 
 -- ---- bits
 
@@ -23,17 +23,7 @@ fromBits f (suc k) = f 0 + 2 * fromBits (λ i. f (suc i)) k
 unfoldable pub withBit : ℕ → ℕ → ℕ → ℕ
 withBit b c w = fromBits (λ k. cond (eqb k b) c (bit k w)) 64
 
--- ---- trit 1 sets its bit in the ones plane, trit 2 in the twos plane
-
-abbrev pub one : Trit → ℕ
-one t0 = 0
-one t1 = 1
-one t2 = 0
-
-abbrev pub two : Trit → ℕ
-two t0 = 0
-two t1 = 0
-two t2 = 1
+-- ---- trit 1 sets its bit in the ones plane, trit 2 in the twos plane: a trit's bits there are `one` and `two` of it
 
 -- the trit of a bit of the ones plane and a bit of the twos plane (both set is no trit: such planes are refused, 3)
 abbrev pub trit : ℕ → ℕ → Trit

@@ -2,6 +2,7 @@
 use Prim.Native.Nat.{ℕ, zero, suc, _+_, _-_, _*_}
 use mathlib.Core.Bool.{Bool, true, false, _&&_, _||_, cond}
 use lib.Dec.{eqb, leb, ltb}
+use Rattle.trits.specs.declared.Counts.{Counts}
 
 -- ---- a trit is 0, 1 or 2
 
@@ -61,6 +62,18 @@ nonZero t0 = 0
 nonZero t1 = 1
 nonZero t2 = 1
 
+-- 1 where the trit is 1
+abbrev pub one : Trit → ℕ
+one t0 = 0
+one t1 = 1
+one t2 = 0
+
+-- 1 where the trit is 2
+abbrev pub two : Trit → ℕ
+two t0 = 0
+two t1 = 0
+two t2 = 1
+
 -- ---- sums and tests over the places below m
 
 unfoldable pub sumTo : (ℕ → ℕ) → ℕ → ℕ
@@ -77,6 +90,21 @@ anyTo p (suc m) = anyTo p m || p m
 -- |v| of the first m places: how many of them are not 0
 abbrev pub weightV : (ℕ → Trit) → ℕ → ℕ
 weightV v m = sumTo (λ i. nonZero (v i)) m
+
+-- how many of them are 1, and how many are 2 (request C-13, "ones and twos apart")
+abbrev pub onesV : (ℕ → Trit) → ℕ → ℕ
+onesV v m = sumTo (λ i. one (v i)) m
+
+abbrev pub twosV : (ℕ → Trit) → ℕ → ℕ
+twosV v m = sumTo (λ i. two (v i)) m
+
+-- both numbers
+abbrev pub countsV : (ℕ → Trit) → ℕ → Counts
+countsV v m = record { ones = onesV v m; twos = twosV v m }
+
+-- their sum, which is the weight (`counts-weight` of the laws)
+abbrev pub sumOf : Counts → ℕ
+sumOf c = c .ones + c .twos
 
 -- the sum of the products of the first m places
 unfoldable pub dotV : (ℕ → Trit) → (ℕ → Trit) → ℕ → Trit

@@ -6,7 +6,7 @@ use native.Mathlib.Omega.{arith}
 use Rattle.trits.specs.Trit.{Trit, t0, t1, t2, addT, number, dotV, sumTo}
 use Rattle.trits.specs.Planes.{tabulate}
 use Rattle.trits.specs.InDigits.{vector}
-use Rattle.verdict.specs.Verdict.{timesKey, fullWord, fullWeight, saysYes, syndrome, Found}
+use Rattle.verdict.specs.Verdict.{timesKey, fullWord, fullCounts, saysYes, syndrome, Found}
 use Rattle.verdict.specs.Cases.{key4, y4, Cases}
 
 -- x + 1 is 1 only for 0
@@ -33,17 +33,19 @@ none-12 f =
     absurd (omega arith)
 
 pub cases : Cases
-unfolding dotV sumTo tabulate timesKey fullWord fullWeight saysYes
+unfolding dotV sumTo tabulate timesKey fullWord fullCounts saysYes
 cases = record {
   full-11 = refl;
-  weight-11 = refl;
+  counts-11 = refl;
   yes-11 = refl;
   full-12 = refl;
-  weight-12 = refl;
+  counts-12 = refl;
   no-12 = refl;
   none-12 = none-12;
   full-00 = refl;
+  counts-00 = refl;
   yes-00 = refl;
   full-112 = refl;
+  counts-112 = refl;
   full-121 = refl;
 }

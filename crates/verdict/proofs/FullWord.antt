@@ -1,4 +1,4 @@
--- The full word of y and s is the one word that has the syndrome y and extends s, under any key; so its weight is the answer. Assumes nothing.
+-- The full word of y and s is the one word that has the syndrome y and extends s, under any key; so its ones and twos are the answer. Assumes nothing.
 use mathlib.Core.Path.{_≡_, refl, sym, ap, ap₂, _∙_, subst}
 use mathlib.Core.Bool.{Bool, true, false, cond}
 use mathlib.Core.Logic.{_↔_}
@@ -6,10 +6,10 @@ use Prim.Native.Nat.{ℕ, zero, suc, _+_, _-_, _<_}
 use native.Mathlib.Omega.{arith}
 use borrow.Author.Tests.{lt-ltb, le-ltb, ltb-true, ltb-false, eqb-true, eq-eqb}
 use lib.Dec.{ltb}
-use Rattle.trits.specs.Trit.{Trit, addT, subT, mulT, nonZero, dotV, weightV}
+use Rattle.trits.specs.Trit.{Trit, addT, subT, mulT, dotV, weightV, countsV, sumOf}
 use Rattle.trits.proofs.Arithmetic.{law2}
-use Rattle.trits.proofs.Counts.{sum-cong}
-use Rattle.verdict.specs.Verdict.{Key, timesKey, fullWord, fullWeight, saysYes, syndrome, HasSyndrome, Extends, Extending, Found}
+use Rattle.trits.proofs.Counting.{counts-same, counts-weight}
+use Rattle.verdict.specs.Verdict.{Key, timesKey, fullWord, fullCounts, saysYes, syndrome, HasSyndrome, Extends, Extending, Found}
 
 -- s·R-transposed reads k trits of s and k rows
 pub times-key-cong : (k : ℕ) (R Q : Key) (s t : ℕ → Trit) (j : ℕ) → ((i : ℕ) → i < k → s i ≡ t i) → ((i : ℕ) → i < k → R i j ≡ Q i j)
@@ -37,12 +37,12 @@ module _ (m k : ℕ) (R : Key) (y s : ℕ → Trit) where
       let e : (m + i) - m ≡ i = omega arith in
       rw (le-ltb (m + i) m (omega arith), e)
 
-  -- the weight reads k rows of the key
-  pub weight-cong : (Q : Key) → ((i q : ℕ) → i < k → R i q ≡ Q i q) → fullWeight m k R y s ≡ fullWeight m k Q y s
-  unfolding fullWeight fullWord
-  weight-cong Q g =
-      sum-cong (m + k) (λ q. nonZero (fullWord m k R y s q)) (λ q. nonZero (fullWord m k Q y s q))
-      (λ q h. ap (λ (x : Trit). nonZero (cond (ltb q m) (subT (y q) x) (s (q - m)))) (times-key-cong k R Q s s q (λ i l. refl) (λ i l. g i q l)))
+  -- the counts read k rows of the key
+  pub counts-cong : (Q : Key) → ((i q : ℕ) → i < k → R i q ≡ Q i q) → fullCounts m k R y s ≡ fullCounts m k Q y s
+  unfolding fullCounts fullWord
+  counts-cong Q g =
+      counts-same (m + k) (fullWord m k R y s) (fullWord m k Q y s)
+      (λ q h. ap (λ (x : Trit). cond (ltb q m) (subT (y q) x) (s (q - m))) (times-key-cong k R Q s s q (λ i l. refl) (λ i l. g i q l)))
 
   pub full-extends : Extends m k (fullWord m k R y s) s
   full-extends i l = full-high i
@@ -69,21 +69,29 @@ module _ (m k : ℕ) (R : Key) (y s : ℕ → Trit) where
           let back : m + (q - m) ≡ q = omega (arith, ltb-false q m t) in
           subst (λ (x : ℕ). e x ≡ fullWord m k R y s x) back (b (q - m) (omega (arith, ltb-false q m t)) ∙ sym (full-high (q - m)))
 
-  -- the answer is the weight of that word, and yes where that is w
-  pub weight-of : (e : ℕ → Trit) → HasSyndrome m k R e y → Extends m k e s → fullWeight m k R y s ≡ weightV e (m + k)
-  unfolding fullWeight
-  weight-of e a b = sum-cong (m + k) (λ q. nonZero (fullWord m k R y s q)) (λ q. nonZero (e q)) (λ q h. ap nonZero (sym (full-unique e a b q h)))
+  -- the answer is the ones and twos of that word, and yes where its weight is w
+  pub counts-of : (e : ℕ → Trit) → HasSyndrome m k R e y → Extends m k e s → fullCounts m k R y s ≡ countsV e (m + k)
+  unfolding fullCounts
+  counts-of e a b = counts-same (m + k) (fullWord m k R y s) e (λ q h. sym (full-unique e a b q h))
 
-  pub yes-weight : (w : ℕ) → (saysYes m k w R y s ≡ true) ↔ (fullWeight m k R y s ≡ w)
+  pub full-weight : sumOf (fullCounts m k R y s) ≡ weightV (fullWord m k R y s) (m + k)
+  unfolding fullCounts
+  full-weight = counts-weight (fullWord m k R y s) (m + k)
+
+  pub yes-sum : (w : ℕ) → (saysYes m k w R y s ≡ true) ↔ (sumOf (fullCounts m k R y s) ≡ w)
   unfolding saysYes
-  yes-weight w = (eqb-true (fullWeight m k R y s) w, eq-eqb (fullWeight m k R y s) w)
+  yes-sum w = (eqb-true (sumOf (fullCounts m k R y s)) w, eq-eqb (sumOf (fullCounts m k R y s)) w)
 
   -- yes exactly when some word of weight w that has the syndrome extends s
   pub verifier : (w : ℕ) → (saysYes m k w R y s ≡ true) ↔ Found m k w R y s
-  unfolding fullWeight
   verifier w = (
-    (λ h. record { word = fullWord m k R y s; weighs = yes-weight w .0 h; extending = record { has-syndrome = full-syndrome; extends = full-extends } }),
-    λ f. yes-weight w .1 (weight-of (f .word) (f .extending .has-syndrome) (f .extending .extends) ∙ f .weighs),
+    (λ h. record {
+      word = fullWord m k R y s;
+      weighs = sym full-weight ∙ yes-sum w .0 h;
+      extending = record { has-syndrome = full-syndrome; extends = full-extends };
+    }),
+    λ f. yes-sum w .1
+        (ap sumOf (counts-of (f .word) (f .extending .has-syndrome) (f .extending .extends)) ∙ counts-weight (f .word) (m + k) ∙ f .weighs),
   )
 
   -- no two words of one syndrome extend the same signature

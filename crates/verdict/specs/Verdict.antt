@@ -4,7 +4,8 @@ use mathlib.Core.Path.{_≡_}
 use mathlib.Core.Bool.{Bool, cond}
 use Prim.Native.Nat.{ℕ, _+_, _-_, _<_}
 use lib.Dec.{eqb, ltb}
-use Rattle.trits.specs.Trit.{Trit, addT, subT, dotV, weightV}
+use Rattle.trits.specs.Trit.{Trit, addT, subT, dotV, weightV, countsV, sumOf}
+use Rattle.trits.specs.declared.Counts.{Counts}
 
 -- a key (identity | R) as it is held: k rows of m = n-k trits, row i being column i of R
 abbrev pub Key : Type 0
@@ -18,13 +19,13 @@ timesKey k R s j = dotV s (λ i. R i j) k
 unfoldable pub fullWord : ℕ → ℕ → Key → (ℕ → Trit) → (ℕ → Trit) → ℕ → Trit
 fullWord m k R y s q = cond (ltb q m) (subT (y q) (timesKey k R s q)) (s (q - m))
 
--- the answer: its weight
-unfoldable pub fullWeight : ℕ → ℕ → Key → (ℕ → Trit) → (ℕ → Trit) → ℕ
-fullWeight m k R y s = weightV (fullWord m k R y s) (m + k)
+-- the answer: how many of its trits are 1, and how many are 2, in place of its weight (request C-13)
+unfoldable pub fullCounts : ℕ → ℕ → Key → (ℕ → Trit) → (ℕ → Trit) → Counts
+fullCounts m k R y s = countsV (fullWord m k R y s) (m + k)
 
--- and yes where that is w
+-- and yes where their sum, which is its weight, is w
 unfoldable pub saysYes : ℕ → ℕ → ℕ → Key → (ℕ → Trit) → (ℕ → Trit) → Bool
-saysYes m k w R y s = eqb (fullWeight m k R y s) w
+saysYes m k w R y s = eqb (sumOf (fullCounts m k R y s)) w
 
 -- the syndrome of a word: its first m trits plus t·R-transposed, t being its last k
 unfoldable pub syndrome : ℕ → ℕ → Key → (ℕ → Trit) → ℕ → Trit

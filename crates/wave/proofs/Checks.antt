@@ -5,6 +5,7 @@ use Prim.Native.Nat.{ℕ, _<_}
 use native.Mathlib.Decide.{ℕ-discrete}
 use borrow.Author.Tests.{ne-eqb}
 use Rattle.trits.specs.Planes.{tritAt}
+use Rattle.trits.specs.declared.Counts.{Counts}
 use Rattle.packed.specs.Packed.{packedRow}
 use Rattle.matrix.specs.Linear.{Vector}
 use Rattle.held_key.specs.Held.{rowTrits}
@@ -14,9 +15,9 @@ use Rattle.checker.proofs.Verdicts.{check-verdict, check-packed-verdict, found-
 use Rattle.wave.specs.Verifier.{HeldExtending, HeldFound}
 
 -- the number that an answer tells
-answered-number : (r weight w : ℕ) → answered r weight w .refusal ≡ 0 → r ≡ 0
+answered-number : (r : ℕ) (counts : Counts) (w : ℕ) → answered r counts w .refusal ≡ 0 → r ≡ 0
 unfolding answered
-answered-number r weight w e = by (ℕ-discrete r 0)
+answered-number r counts w e = by (ℕ-discrete r 0)
   where
     by : Dec (r ≡ 0) → r ≡ 0
     by (yes q) = q

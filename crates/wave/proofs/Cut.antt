@@ -6,7 +6,7 @@ use native.Mathlib.Omega.{arith}
 use lib.ListN.{length, getD, length-drop}
 use lib.Seq.{length-take-le}
 use Rattle.trits.specs.Trit.{isSet, upTo}
-use Rattle.trits.proofs.Counts.{weight-same}
+use Rattle.trits.proofs.Counting.{weight-same}
 use Rattle.trits.proofs.Ends.{upto-in}
 use Rattle.matrix.specs.Linear.{Vector, zeros, times, solve, orZeros, without, fill}
 use Rattle.matrix.proofs.Greedy.{pivots-elem}

@@ -16,7 +16,7 @@ demand-three =
       packed-verifier = packed-says-yes;
       one-word = one-word;
       packed-one-word = packed-one-word;
-      -- what is stored is what was packed, and a released word has the syndrome and weight w
+      -- what is stored is what was packed, and a released word has the syndrome and weight w, which its ones and twos add up to
       end-to-end = end-to-end;
       end-to-end-planes = end-to-end-planes;
     }

@@ -1,17 +1,20 @@
--- A built key's rows, packed and stored, then y and the s of a release, packed: the check answers yes, with weight w. Assumes nothing.
+-- A built key's rows, packed and stored, then y and the s of a release, packed: the check answers yes, with the ones and twos of the released word,
+-- which add up to w. Assumes nothing.
 use mathlib.Core.Path.{_≡_, refl, sym, ap, ap₂, _∙_}
 use mathlib.Core.Bool.{true, false, not, and-eq-true-iff}
 use mathlib.Core.List.{List}
-use Prim.Native.Nat.{ℕ, _-_, _*_, _%_, _≤_, _<_}
+use Prim.Native.Nat.{ℕ, _+_, _-_, _*_, _%_, _≤_, _<_}
 use native.Mathlib.Nat.{le-refl}
 use native.Mathlib.Omega.{arith}
 use borrow.Author.Tests.{eq-eqb, leb-true, le-leb, le-ltb}
 use lib.Dec.{eqb, leb}
 use lib.ListN.{length}
-use Rattle.trits.specs.Trit.{weightV, upTo}
+use Rattle.trits.specs.Trit.{onesV, twosV, countsV, sumOf, upTo}
 use Rattle.trits.specs.Planes.{tritAt, wordsFor, onesOf, twosOf}
 use Rattle.trits.specs.Rows.{rowPart}
 use Rattle.trits.specs.Refusal.{planesRefusal}
+use Rattle.trits.specs.declared.Counts.{Counts}
+use Rattle.trits.proofs.Counting.{counts-same, counts-weight}
 use Rattle.trits.proofs.Refusals.{exit-new, passed-first, first-goes, row-ended}
 use Rattle.trits.proofs.Reading.{length-ones, length-twos}
 use Rattle.trits.proofs.Ends.{upto-in, upto-out, upto-ended}
@@ -20,8 +23,8 @@ use Rattle.packed.specs.Calls.{packOf, packRefusal, packExit}
 use Rattle.packed.proofs.RoundTrip.{packed-length, packed-back, packed-good}
 use Rattle.matrix.specs.Linear.{Vector}
 use Rattle.matrix.proofs.Places.{or-false-left, or-false-right}
-use Rattle.verdict.specs.Verdict.{Key, fullWeight}
-use Rattle.verdict.proofs.FullWord.{weight-cong, weight-of}
+use Rattle.verdict.specs.Verdict.{Key, fullCounts}
+use Rattle.verdict.proofs.FullWord.{counts-cong, counts-of}
 use Rattle.held_key.specs.Held.{numbersFit}
 use Rattle.held_key.specs.declared.state.Held.{Held}
 use Rattle.check_tests.specs.declared.Checked.{Checked}
@@ -41,12 +44,12 @@ use Rattle.calls.specs.Lent.{secretOf, pairDiffers}
 use Rattle.calls.specs.BuildCall.{BuildCall, keyRowWords, keyExit}
 use Rattle.calls.specs.DrawCall.{DrawCall, choicesDiffer, drawLengthsDiffer, drawAnswer, wordOf, sExit}
 use Rattle.calls.proofs.Secrets.{pair-same, differs}
-use Rattle.wave.specs.Terms.{Built, builtKey, sized, Under, KeyTerms}
-use Rattle.wave.specs.Verifier.{Host, packedKeyRow, carried, carriedCheck, carriedPlanes, yes}
+use Rattle.wave.specs.Terms.{Built, builtKey, sized, Under, HandsOut, KeyTerms}
+use Rattle.wave.specs.Verifier.{Host, packedKeyRow, carried, carriedCheck, carriedPlanes, yes, Accepts}
 use Rattle.wave.proofs.Written.{written-passes}
 use Rattle.wave.proofs.Passed.{DrawPassed, draw-call}
 use Rattle.wave.proofs.Checks.{packed-not-refused}
-use Rattle.wave.proofs.ReachCalls.{few, built-ones, built-twos, built-row, handed-ones, handed-twos, handed-signature, drawn-terms}
+use Rattle.wave.proofs.ReachCalls.{few, built-ones, built-twos, built-row, handed-word, handed-ones, handed-twos, handed-signature, drawn-terms}
 
 -- ---- a call of `pack`
 
@@ -183,32 +186,40 @@ module _ (z : Sizes) (i : BuildCall) (b : Built z i) (g w : ℕ) (l : DrawCall) 
   s-back : packedRow (dim z) sPacked ≡ s
   s-back = ap (packedRow (dim z)) s-is ∙ packed-back (dim z) s ∙ upto-ended s (dim z) (λ q k. upto-out (signature Z (wordOf Z l)) (dim z) q k)
 
-  -- ---- the weight
+  -- ---- the ones and twos
 
-  terms : KeyTerms z i g w (l .y .ones) (l .y .twos) (wordOf Z l)
+  abbrev e : Vector
+  e = wordOf Z l
+
+  terms : KeyTerms z i g w (l .y .ones) (l .y .twos) e
   terms = drawn-terms z i b g w l u d
 
-  weight-is : fullWeight (codim z) (dim z) (λ j. packedRow (codim z) (packedKeyRow z i m j)) (packedRow (codim z) yPacked) (packedRow (dim z) sPacked) ≡ w
-  weight-is =
+  counts-are : fullCounts (codim z) (dim z) (λ j. packedRow (codim z) (packedKeyRow z i m j)) (packedRow (codim z) yPacked) (packedRow (dim z) sPacked)
+      ≡ countsV e (places z)
+  counts-are =
       let K : Key = λ j. packedRow (codim z) (packedKeyRow z i m j) in
-      ap₂ (fullWeight (codim z) (dim z) K) y-back s-back
-      ∙ weight-cong (codim z) (dim z) K y s (builtKey z i) (λ j q h. ap (λ (v : Vector). v q) (row-back j h))
-      ∙ weight-of (codim z) (dim z) (builtKey z i) y s (wordOf Z l) (terms .has-syndrome) (λ k h. sym (upto-in (signature Z (wordOf Z l)) (dim z) k h))
-      ∙ ap (weightV (wordOf Z l)) (codim-dim Z (sizes-fit Z (passed .sizes))) ∙ terms .weighs
+      ap₂ (fullCounts (codim z) (dim z) K) y-back s-back
+      ∙ counts-cong (codim z) (dim z) K y s (builtKey z i) (λ j q h. ap (λ (v : Vector). v q) (row-back j h))
+      ∙ counts-of (codim z) (dim z) (builtKey z i) y s e (terms .has-syndrome) (λ k h. sym (upto-in (signature Z e) (dim z) k h))
+      ∙ ap (countsV e) (codim-dim Z (sizes-fit Z (passed .sizes)))
+
+  -- they add up to w
+  sum-is : sumOf (countsV e (places z)) ≡ w
+  sum-is = counts-weight e (places z) ∙ terms .weighs
 
   -- the answer
-  pub end-to-end : checkPackedAnswer (carriedCheck z i g w l m) ≡ yes w
+  packed-answer : checkPackedAnswer (carriedCheck z i g w l m) ≡ yes (onesV e (places z)) (twosV e (places z))
   unfolding answered
-  end-to-end =
+  packed-answer =
       loaded (m .number) (z .n) (dim z) w (fits-held Z (m .number) (passed .sizes) (m .number-fits)) (packedKeyRow z i m) row-size row-good (m .before)
       (m .ones) (m .twos) yPacked sPacked (m .workOnes) (m .workTwos)
       (m .ones-size ∙ ap (λ (x : ℕ). dim z * wordsFor x) (sym size)) (m .twos-size ∙ ap (λ (x : ℕ). dim z * wordsFor x) (sym size))
       (ap length y-is ∙ packed-length (codim z) y ∙ ap bytesFor (sym size)) (ap length s-is ∙ packed-length (dim z) s)
       (ap badByte y-is ∙ packed-good (codim z) y) (ap badByte s-is ∙ packed-good (dim z) s)
       (m .work-ones-size ∙ ap wordsFor (sym size)) (m .work-twos-size ∙ ap wordsFor (sym size))
-      ∙ ap (λ (x : ℕ). answered 0 x w)
-      (ap (λ (k : ℕ). fullWeight k (dim z) (λ j. packedRow k (packedKeyRow z i m j)) (packedRow k yPacked) (packedRow (dim z) sPacked)) size ∙ weight-is)
-      ∙ rw (eq-eqb w w refl)
+      ∙ ap (λ (x : Counts). answered 0 x w)
+      (ap (λ (k : ℕ). fullCounts k (dim z) (λ j. packedRow k (packedKeyRow z i m j)) (packedRow k yPacked) (packedRow (dim z) sPacked)) size ∙ counts-are)
+      ∙ rw (eq-eqb (sumOf (countsV e (places z))) w sum-is)
 
   -- ---- the same with y and s in planes
 
@@ -228,7 +239,7 @@ module _ (z : Sizes) (i : BuildCall) (b : Built z i) (g w : ℕ) (l : DrawCall) 
       (le-refl (dim z)) .held-is
 
   packed-passed : checkPackedRefusal (carriedCheck z i g w l m) ≡ 0
-  packed-passed = packed-not-refused (carriedCheck z i g w l m) (ap (λ (x : Checked). x .refusal) end-to-end)
+  packed-passed = packed-not-refused (carriedCheck z i g w l m) (ap (λ (x : Checked). x .refusal) packed-answer)
 
   call-passes : callRefusal (key .held) (m .number) (length (key .ones)) (length (key .twos)) (length (m .workOnes)) (length (m .workTwos)) ≡ 0
   unfolding checkPackedRefusal
@@ -259,22 +270,43 @@ module _ (z : Sizes) (i : BuildCall) (b : Built z i) (g w : ℕ) (l : DrawCall) 
   contents-pass : planesContents (key .held) (key .ones) (key .twos) (l .y .ones) (l .y .twos) (sExit Z l .ones) (sExit Z l .twos) ≡ 0
   unfolding planesContents
   contents-pass =
-      let e : rowTrits (key .held) ≡ codim z = ap (λ (h : Held). rowTrits h) held-is ∙ size in
+      let f : rowTrits (key .held) ≡ codim z = ap (λ (h : Held). rowTrits h) held-is ∙ size in
       let k : key .held .k ≡ dim z = ap (λ (h : Held). h .k) held-is in
       sym (first-goes (sym rows-pass) refl
-      (first-goes (sym (ap (planesRefusal (l .y .ones) (l .y .twos) 1) e ∙ passed .syndrome)) refl
+      (first-goes (sym (ap (planesRefusal (l .y .ones) (l .y .twos) 1) f ∙ passed .syndrome)) refl
       (sym (ap (planesRefusal (sExit Z l .ones) (sExit Z l .twos) 1) k ∙ s-passes))))
 
   planes-passed-all : checkRefusal (carriedPlanes z i g w l m) ≡ 0
   unfolding checkRefusal
   planes-passed-all = sym (first-goes (sym call-passes) refl (first-goes (sym lengths-pass) refl (sym contents-pass)))
 
-  pub end-to-end-planes : checkAnswer (carriedPlanes z i g w l m) ≡ yes w
-  end-to-end-planes =
-      let e : rowTrits (key .held) ≡ codim z = ap (λ (h : Held). rowTrits h) held-is ∙ size in
+  planes-answer : checkAnswer (carriedPlanes z i g w l m) ≡ yes (onesV e (places z)) (twosV e (places z))
+  planes-answer =
+      let f : rowTrits (key .held) ≡ codim z = ap (λ (h : Held). rowTrits h) held-is ∙ size in
       let k : key .held .k ≡ dim z = ap (λ (h : Held). h .k) held-is in
       let t : tritAt (sExit Z l .ones) (sExit Z l .twos) ≡ s = handed-signature Z l d in
       sym (packed-agrees (carriedPlanes z i g w l m) planes-passed-all)
       ∙ ap₂ (λ (a b : List ℕ). checkPackedAnswer (packedCheckOf (key .held) (m .number) (key .ones) (key .twos) a b (m .workOnes) (m .workTwos)))
-      (ap (λ (x : ℕ). packedBytes x y) e ∙ sym y-is) (ap₂ packedBytes k t ∙ sym s-is)
-      ∙ end-to-end
+      (ap (λ (x : ℕ). packedBytes x y) f ∙ sym y-is) (ap₂ packedBytes k t ∙ sym s-is)
+      ∙ packed-answer
+
+-- ---- the word handed out is the word drawn, and so are its ones and twos
+
+module _ (z : Sizes) (i : BuildCall) (b : Built z i) (g w : ℕ) (l : DrawCall) (e : Vector) (u : Under z i l) (h : HandsOut (sized z g w) l e) (m : Host z) where
+  handed : countsV (wordOf (sized z g w) l) (places z) ≡ countsV e (places z)
+  handed =
+      counts-same (places z) (wordOf (sized z g w) l) e
+      (λ q k. sym (ap (λ (v : Vector). v q) (handed-word (sized z g w) l (h .passed)) ∙ upto-in (wordOf (sized z g w) l) (places z) q k) ∙ h .word q k)
+
+  accepts : {answer : Checked} → answer ≡ yes (onesV (wordOf (sized z g w) l) (places z)) (twosV (wordOf (sized z g w) l) (places z)) → Accepts z w e answer
+  accepts a =
+      let f = a ∙ ap (λ (c : Counts). yes (c .ones) (c .twos)) handed in record {
+        says = f;
+        adds-up = ap (λ (x : Checked). x .ones + x .twos) a ∙ sum-is z i b g w l u (h .passed) m;
+      }
+
+  pub end-to-end : Accepts z w e (checkPackedAnswer (carriedCheck z i g w l m))
+  end-to-end = accepts (packed-answer z i b g w l u (h .passed) m)
+
+  pub end-to-end-planes : Accepts z w e (checkAnswer (carriedPlanes z i g w l m))
+  end-to-end-planes = accepts (planes-answer z i b g w l u (h .passed) m)

@@ -10,7 +10,7 @@ use lib.Dec.{ltb}
 use lib.ListN.{length, getD, take, drop, length-drop, length-append}
 use lib.Seq.{take-at, drop-at, take-append-add}
 use Rattle.trits.specs.Trit.{Trit, t0, t1, isSet}
-use Rattle.trits.proofs.Counts.{weight-same}
+use Rattle.trits.proofs.Counting.{weight-same}
 use Rattle.matrix.specs.Linear.{Vector, zeros, times, elem, orZeros, fill, pivots, rank, without, range}
 use Rattle.matrix.specs.Orders.{Distinct, Order}
 use Rattle.matrix.proofs.Field.{zero-or, refuted}

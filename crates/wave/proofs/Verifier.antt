@@ -4,12 +4,13 @@ use mathlib.Core.Bool.{true}
 use mathlib.Core.List.{List}
 use Prim.Native.Nat.{ℕ}
 use lib.ListN.{take}
-use Rattle.trits.specs.Trit.{weightV}
+use Rattle.trits.specs.Trit.{countsV, sumOf}
+use Rattle.trits.proofs.Counting.{counts-weight}
 use Rattle.matrix.specs.Linear.{Vector}
 use Rattle.matrix.specs.Orders.{Order}
 use Rattle.matrix.proofs.Greedy.{Kept}
-use Rattle.verdict.specs.Verdict.{Key, fullWeight, saysYes}
-use Rattle.verdict.proofs.FullWord.{weight-of, yes-weight}
+use Rattle.verdict.specs.Verdict.{Key, fullCounts, saysYes}
+use Rattle.verdict.proofs.FullWord.{counts-of, yes-sum}
 use Rattle.scheme.specs.declared.sizes.Sizes.{Sizes}
 use Rattle.scheme.specs.Sizes.{places, dim, codim, sizesFit}
 use Rattle.scheme.specs.Secret.{Secret, secretMatrix}
@@ -22,15 +23,15 @@ use Rattle.wave.specs.Vectors.{Released, Releases}
 use Rattle.wave.proofs.Reach.{reach}
 
 module _ (z : Sizes) (s : Secret) (start p : List ℕ) (R : Key) (re : Released z s start p R) where
-  -- the signature of a word that a draw releases is accepted, with weight w
+  -- the signature of a word that a draw releases is accepted, with the ones and twos of that word
   pub released-accepted : (g w : ℕ) → sizesFit (sized z g w) ≡ true → (y e : Vector) → Releases (sized z g w) s p y e
-      → (fullWeight (codim z) (dim z) R y (signature z e) ≡ w) × (saysYes (codim z) (dim z) w R y (signature z e) ≡ true)
+      → (fullCounts (codim z) (dim z) R y (signature z e) ≡ countsV e (places z)) × (saysYes (codim z) (dim z) w R y (signature z e) ≡ true)
   released-accepted g w h y e r =
       let t = reach z s start p R re g w h y e .0 r in
-      let c : fullWeight (codim z) (dim z) R y (signature z e) ≡ w =
-      weight-of (codim z) (dim z) R y (signature z e) e (t .has-syndrome) (λ i l. refl)
-      ∙ ap (weightV e) (codim-dim z (build-passed z s start (re .given) (re .passed) .ranges)) ∙ t .weighs in
-      (c, yes-weight (codim z) (dim z) R y (signature z e) w .1 c)
+      let c : fullCounts (codim z) (dim z) R y (signature z e) ≡ countsV e (places z) =
+      counts-of (codim z) (dim z) R y (signature z e) e (t .has-syndrome) (λ i l. refl)
+      ∙ ap (countsV e) (codim-dim z (build-passed z s start (re .given) (re .passed) .ranges)) in
+      (c, yes-sum (codim z) (dim z) R y (signature z e) w .1 (ap sumOf c ∙ counts-weight e (places z) ∙ t .weighs))
 
   -- the build ended with n-k columns kept: p is an order of the n places, and the columns at its first n-k places are independent
   pub build-ended : (arranged (codim z) (places z) (secretMatrix z s) start .kept ≡ codim z) × Order (places z) p

@@ -7,8 +7,8 @@ use native.Mathlib.Omega.{arith}
 use lib.Dec.{lit<}
 use lib.ListN.{length, getD, take, drop, length-drop, List·getD-eq-default}
 use lib.Seq.{take-all, drop-at, take-append-le, drop-append-le}
-use Rattle.trits.specs.Trit.{upTo}
-use Rattle.trits.specs.Planes.{fromBits, one, two, tritAt, onesOf, twosOf, zeroWords, wordsFor}
+use Rattle.trits.specs.Trit.{upTo, one, two}
+use Rattle.trits.specs.Planes.{fromBits, tritAt, onesOf, twosOf, zeroWords, wordsFor}
 use Rattle.trits.specs.Rows.{rowPart, rowsOf}
 use Rattle.trits.specs.Refusal.{planesRefusal}
 use Rattle.trits.proofs.Bits.{from-lt}

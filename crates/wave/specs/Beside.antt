@@ -78,9 +78,9 @@ pub record Beside : Type 0 where
   pub none-0212 : (e : Vector) → HandsOut (sizes4 0 4) (draw4 start1 1 0 1 0) e → ⊥
   -- ---- from build to verdict
 
-  -- y = 12 and the s of the release 2111, which is 11, under the first key: yes with weight 4, as the paper's example of lines has it
-  pub carried-2111 : checkPackedAnswer (carriedCheck (sizes4 0 4) (build4 start1) 0 4 (draw4 start1 0 1 1 0) host4) ≡ yes 4
+  -- y = 12 and the s of the release 2111, which is 11, under the first key: yes with three 1s and one 2, as the paper's example of lines has it
+  pub carried-2111 : checkPackedAnswer (carriedCheck (sizes4 0 4) (build4 start1) 0 4 (draw4 start1 0 1 1 0) host4) ≡ yes 3 1
   -- the s of the release 2221
-  pub carried-2221 : checkPackedAnswer (carriedCheck (sizes4 0 4) (build4 start1) 0 4 (draw4 start1 0 0 0 1) host4) ≡ yes 4
+  pub carried-2221 : checkPackedAnswer (carriedCheck (sizes4 0 4) (build4 start1) 0 4 (draw4 start1 0 0 0 1) host4) ≡ yes 1 3
   -- the same key at w = 2, and the s of the release 0102
-  pub carried-0102 : checkPackedAnswer (carriedCheck (sizes4 0 4) (build4 start1) 0 2 (draw4 start1 0 0 1 0) host4) ≡ yes 2
+  pub carried-0102 : checkPackedAnswer (carriedCheck (sizes4 0 4) (build4 start1) 0 2 (draw4 start1 0 0 1 0) host4) ≡ yes 1 1

@@ -13,9 +13,9 @@ use Rattle.check_tests.specs.Check.{Check, checkAnswer, PackedCheck, checkPacke
 use Rattle.scheme.specs.declared.sizes.Sizes.{Sizes}
 use Rattle.scheme.specs.Sizes.{sizesFit}
 use Rattle.calls.specs.BuildCall.{BuildCall}
-use Rattle.calls.specs.DrawCall.{DrawCall, drawAnswer}
-use Rattle.wave.specs.Terms.{Built, sized, LentSyndrome, LentAs, Under, SomeDraw, KeyTerms}
-use Rattle.wave.specs.Verifier.{HeldExtending, HeldFound, Host, carriedCheck, carriedPlanes, yes}
+use Rattle.calls.specs.DrawCall.{DrawCall}
+use Rattle.wave.specs.Terms.{Built, sized, LentSyndrome, LentAs, Under, HandsOut, SomeDraw, KeyTerms}
+use Rattle.wave.specs.Verifier.{HeldExtending, HeldFound, Host, carriedCheck, carriedPlanes, Accepts}
 
 pub record DemandThree : Type 0 where
   -- every syndrome: each y of n-k trits can be lent
@@ -37,9 +37,11 @@ pub record DemandThree : Type 0 where
   pub packed-one-word : (c : PackedCheck) → checkPackedAnswer c .refusal ≡ 0 → (y s e f : Vector) → HeldExtending (c .held) (c .ones) (c .twos) y s e
       → HeldExtending (c .held) (c .ones) (c .twos) y s f
       → (q : ℕ) → q < c .held .n → e q ≡ f q
-  -- end to end: pack the rows of a built key, begin, store them, pack y and the s of a release, check: yes, with weight w
-  pub end-to-end : (z : Sizes) (i : BuildCall) → Built z i → (g w : ℕ) (l : DrawCall) → Under z i l → drawAnswer (sized z g w) l ≡ 0 → (m : Host z)
-      → checkPackedAnswer (carriedCheck z i g w l m) ≡ yes w
+  -- end to end: pack the rows of a built key, begin, store them, pack y and the s of a release, check: yes, with the ones and
+  -- twos of the released word e, which add up to w
+  pub end-to-end : (z : Sizes) (i : BuildCall) → Built z i → (g w : ℕ) (l : DrawCall) (e : Vector) → Under z i l → HandsOut (sized z g w) l e → (m : Host z)
+      → Accepts z w e (checkPackedAnswer (carriedCheck z i g w l m))
   -- and with y and s in planes
-  pub end-to-end-planes : (z : Sizes) (i : BuildCall) → Built z i → (g w : ℕ) (l : DrawCall) → Under z i l → drawAnswer (sized z g w) l ≡ 0 → (m : Host z)
-      → checkAnswer (carriedPlanes z i g w l m) ≡ yes w
+  pub end-to-end-planes : (z : Sizes) (i : BuildCall) → Built z i → (g w : ℕ) (l : DrawCall) (e : Vector) → Under z i l → HandsOut (sized z g w) l e
+      → (m : Host z)
+      → Accepts z w e (checkAnswer (carriedPlanes z i g w l m))

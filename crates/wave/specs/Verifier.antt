@@ -2,8 +2,9 @@
 -- signature on their way from the editor to the module ("The two halves"). Assumes nothing.
 use mathlib.Core.Path.{_≡_}
 use mathlib.Core.List.{List}
-use Prim.Native.Nat.{ℕ, _*_, _≤_, _<_}
+use Prim.Native.Nat.{ℕ, _+_, _*_, _≤_, _<_}
 use lib.ListN.{length}
+use Rattle.trits.specs.Trit.{onesV, twosV}
 use Rattle.trits.specs.Planes.{wordsFor}
 use Rattle.trits.specs.Rows.{rowPart}
 use Rattle.packed.specs.Packed.{bytesFor}
@@ -17,7 +18,7 @@ use Rattle.held_key.specs.Store.{beginHeld}
 use Rattle.held_key.specs.Load.{Holding, offerAll}
 use Rattle.check_tests.specs.Check.{Check, PackedCheck}
 use Rattle.scheme.specs.declared.sizes.Sizes.{Sizes}
-use Rattle.scheme.specs.Sizes.{dim, codim}
+use Rattle.scheme.specs.Sizes.{places, dim, codim}
 use Rattle.calls.specs.BuildCall.{BuildCall, keyRowWords, keyExit}
 use Rattle.calls.specs.DrawCall.{DrawCall, sExit}
 use Rattle.wave.specs.Terms.{sized}
@@ -93,6 +94,11 @@ carriedPlanes z i g w l m = record {
   workTwos = m .workTwos;
 }
 
--- yes, with that weight
-abbrev pub yes : ℕ → Checked
-yes weight = record { refusal = 0; yes = 1; weight = weight }
+-- yes, with these ones and twos
+abbrev pub yes : ℕ → ℕ → Checked
+yes ones twos = record { refusal = 0; yes = 1; ones = ones; twos = twos }
+
+-- what a check answers to the s of a released word e: yes, with the ones and twos of that word, and they add up to w
+pub record Accepts (z : Sizes) (w : ℕ) (e : Vector) (answer : Checked) : Type 0 where
+  pub says : answer ≡ yes (onesV e (places z)) (twosV e (places z))
+  pub adds-up : answer .ones + answer .twos ≡ w

@@ -4,6 +4,11 @@ pub fn weight(v: &[u8]) -> usize {
     v.iter().filter(|t| **t != 0).count()
 }
 
+/// How many trits are 1, and how many are 2.
+pub fn ones_and_twos(v: &[u8]) -> (usize, usize) {
+    (v.iter().filter(|t| **t == 1).count(), v.iter().filter(|t| **t == 2).count())
+}
+
 pub fn plus(a: &[u8], b: &[u8]) -> Vec<u8> {
     assert_eq!(a.len(), b.len());
     a.iter().zip(b).map(|(x, y)| (x + y) % 3).collect()

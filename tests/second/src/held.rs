@@ -1,6 +1,6 @@
 //! The module's half: the held key, its rows, and the verdict.
 
-use crate::algebra::{take_out, weight};
+use crate::algebra::{ones_and_twos, take_out};
 use crate::packing::{bytes, unpacked};
 use crate::planes::{fault, read, words, write_row};
 
@@ -28,7 +28,8 @@ pub struct Stored {
 pub struct Checked {
     pub refusal: u64,
     pub yes: u64,
-    pub weight: u64,
+    pub ones: u64,
+    pub twos: u64,
 }
 
 /// What the checker knows of the sizes, and the key number: each in its range.
@@ -90,7 +91,7 @@ pub fn full_word(rows: &[Vec<u8>], y: &[u8], s: &[u8]) -> Vec<u8> {
 
 #[allow(clippy::too_many_arguments)]
 pub fn check(held: Held, number: u64, ones: &[u64], twos: &[u64], y: &[u8], s: &[u8], work_ones: &mut [u64], work_twos: &mut [u64]) -> Checked {
-    let refused = |refusal| Checked { refusal, yes: 0, weight: 0 };
+    let refused = |refusal| Checked { refusal, yes: 0, ones: 0, twos: 0 };
     let found = state_refusal(&held);
     if found != 0 {
         return refused(found);
@@ -118,6 +119,6 @@ pub fn check(held: Held, number: u64, ones: &[u64], twos: &[u64], y: &[u8], s: &
     let word = full_word(&read(ones, twos, k, m), &unpacked(y, m), &unpacked(s, k));
     work_ones.fill(0);
     work_twos.fill(0);
-    let weight = weight(&word) as u64;
-    Checked { refusal: 0, yes: (weight == held.w) as u64, weight }
+    let (ones, twos) = ones_and_twos(&word);
+    Checked { refusal: 0, yes: ((ones + twos) as u64 == held.w) as u64, ones: ones as u64, twos: twos as u64 }
 }

@@ -1,6 +1,6 @@
 //! The line program: text in, text out.
 
-use crate::algebra::weight;
+use crate::algebra::ones_and_twos;
 use crate::held::{full_word, in_range};
 
 struct Key {
@@ -65,8 +65,8 @@ fn store(held: &mut Option<Key>, row: Vec<u8>) -> Result<(), u64> {
     Ok(())
 }
 
-/// An S line's weight and verdict, or its refusal.
-fn verdict(held: &Option<Key>, number: u64, y: &[u8], s: &[u8]) -> Result<(usize, bool), u64> {
+/// An S line's ones and twos and its verdict, or its refusal.
+fn verdict(held: &Option<Key>, number: u64, y: &[u8], s: &[u8]) -> Result<(usize, usize, bool), u64> {
     let key = held.as_ref().ok_or(20u64)?;
     if (key.rows.len() as u64) < key.k {
         return Err(20);
@@ -77,8 +77,8 @@ fn verdict(held: &Option<Key>, number: u64, y: &[u8], s: &[u8]) -> Result<(usize
     if y.len() as u64 != key.n - key.k || s.len() as u64 != key.k {
         return Err(2);
     }
-    let weight = weight(&full_word(&key.rows, y, s));
-    Ok((weight, weight as u64 == key.w))
+    let (ones, twos) = ones_and_twos(&full_word(&key.rows, y, s));
+    Ok((ones, twos, (ones + twos) as u64 == key.w))
 }
 
 /// What the program prints for this input.
@@ -103,7 +103,7 @@ pub fn run(input: &[u8]) -> Vec<u8> {
             Some(Line::K(row)) => store(&mut held, row).err(),
             Some(Line::S(number, formula, y, s)) => {
                 match verdict(&held, number, &y, &s) {
-                    Ok((weight, yes)) => out.push_str(&format!("{number}\t{formula}\t{weight}\t{}\n", if yes { "yes" } else { "no" })),
+                    Ok((ones, twos, yes)) => out.push_str(&format!("{number}\t{formula}\t{ones}+{twos}\t{}\n", if yes { "yes" } else { "no" })),
                     Err(refusal) => out.push_str(&format!("{number}\t{formula}\t-\tr{refusal}\n")),
                 }
                 None

@@ -39,6 +39,11 @@ fn nonzero(word: &[u8]) -> usize {
     word.iter().filter(|t| **t != 0).count()
 }
 
+/// How many trits are this one.
+fn held_by(word: &[u8], trit: u8) -> u64 {
+    word.iter().filter(|t| **t == trit).count() as u64
+}
+
 fn column(rows: &[Vec<u8>], q: usize) -> Vec<u8> {
     rows.iter().map(|r| r[q]).collect()
 }
@@ -294,7 +299,8 @@ fn releases_are_right(s: &Secret, key: &Key, sampled: usize, rng: &mut Rng) -> u
     draws
 }
 
-/// For every y, s and w: the check says yes exactly when some word of weight w with that syndrome extends s, and there is at most one such word.
+/// For every y, s and w: the check says yes exactly when some word of weight w with that syndrome extends s, and there is at most one such word, whose ones
+/// and twos it answers.
 fn verdicts_are_right(key: &Key, n: usize) {
     let k = key.rows.len();
     let (ones, twos) = planes(&key.rows);
@@ -309,7 +315,8 @@ fn verdicts_are_right(key: &Key, n: usize) {
                 let answer = check(held, 3, &ones, &twos, &packed(&y), &packed(&s), &mut [9], &mut [9]);
                 assert_eq!(answer.refusal, 0);
                 assert_eq!(answer.yes == 1, extends.iter().any(|e| nonzero(e) == w));
-                assert!(answer.yes <= 1 && answer.weight == nonzero(extends[0]) as u64);
+                assert!(answer.yes <= 1);
+                assert_eq!((answer.ones, answer.twos), (held_by(extends[0], 1), held_by(extends[0], 2)));
             }
         }
     }

@@ -1,6 +1,6 @@
 //! Every worked example of the paper, starred or not, and cases that the starred ones leave out.
 
-use second::algebra::weight;
+use second::algebra::{ones_and_twos, weight};
 use second::draw::{draw, draw_word, drawn_word, Choices, DrawWords};
 use second::held::{begin, check, full_word, store_row, Checked, Held};
 use second::key::{build, build_key, column_rule, secret_matrix, Key, Secret, SecretWords, Sizes};
@@ -27,6 +27,7 @@ fn choices(v_trit: u8, u_value: u8) -> Choices {
 fn trits_in_words() {
     assert_eq!(planes(&rows(&["120"])), (vec![1], vec![2]));
     assert_eq!(weight(&row("120")), 2);
+    assert_eq!(ones_and_twos(&row("2111")), (3, 1));
     // rows follow each other, each beginning a new word
     assert_eq!(planes(&rows(&["1", "2"])), (vec![1, 0], vec![0, 1]));
     let long: Vec<u8> = (0..65).map(|i| (i == 64) as u8 * 2 + (i == 63) as u8).collect();
@@ -155,11 +156,11 @@ fn through_the_border() {
     assert_eq!((two.refusal, two.held.rows, ones, twos), (0, 2, [0, 0], [2, 3]));
     assert_eq!(store_row(two.held, &mut ones, &mut twos, &[0]).refusal, 21);
     let ask = |number, y: &str, s: &str| check(two.held, number, &ones, &twos, &packed(&row(y)), &packed(&row(s)), &mut [1], &mut [2]);
-    assert_eq!(ask(7, "12", "11"), Checked { refusal: 0, yes: 1, weight: 4 });
-    assert_eq!(ask(7, "12", "12"), Checked { refusal: 0, yes: 0, weight: 3 });
-    assert_eq!(ask(8, "12", "11"), Checked { refusal: 22, yes: 0, weight: 0 });
+    assert_eq!(ask(7, "12", "11"), Checked { refusal: 0, yes: 1, ones: 3, twos: 1 });
+    assert_eq!(ask(7, "12", "12"), Checked { refusal: 0, yes: 0, ones: 1, twos: 2 });
+    assert_eq!(ask(8, "12", "11"), Checked { refusal: 22, yes: 0, ones: 0, twos: 0 });
     let at_two = Held { w: 2, ..two.held };
-    assert_eq!(check(at_two, 7, &ones, &twos, &packed(&row("12")), &[0], &mut [1], &mut [2]), Checked { refusal: 0, yes: 1, weight: 2 });
+    assert_eq!(check(at_two, 7, &ones, &twos, &packed(&row("12")), &[0], &mut [1], &mut [2]), Checked { refusal: 0, yes: 1, ones: 1, twos: 1 });
 }
 
 #[test]
@@ -186,7 +187,7 @@ fn gap_of_all() {
 #[test]
 fn lines_example() {
     let text = "P 7 4 2 4\nK 02\nK 22\nS 7 12 12 11\nS 7 13 12 12\nS 8 14 12 11\n".replace(' ', "\t");
-    let answer = "key formula weight verdict\n7 12 4 yes\n7 13 3 no\n8 14 - r22\n".replace(' ', "\t");
+    let answer = "key formula weight verdict\n7 12 3+1 yes\n7 13 1+2 no\n8 14 - r22\n".replace(' ', "\t");
     assert_eq!(second::lines::run(text.as_bytes()), answer.as_bytes());
     // a last line without its line end counts
     assert_eq!(second::lines::run(text.trim_end().as_bytes()), answer.as_bytes());

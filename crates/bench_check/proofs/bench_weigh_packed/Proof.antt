@@ -1,17 +1,26 @@
--- A refusal is told before anything is touched; else the weight is told, and both planes of the working space are zeroed.
+-- A refusal is told before anything is touched; else the ones and twos are told, and both planes of the working space are zeroed.
 -- Assumes nothing.
 use mathlib.Core.Path.{sym, _∙_}
 use native.Mathlib.Omega.{arith}
 use borrow.Author.Needs.{needs}
+use denote.Ref.{now}
 use Rattle.trits.proofs.Refusals.{positive, left-kept}
 use Rattle.check_tests.proofs.Passed.{whole, check-packed-passed}
 use Rattle.check_tests.proofs.Answers.{answer-kept, answer-new, leaves-packed-check, left-zero}
+use Rattle.checker.specs.Steps.{ForWeighPacked}
+use Rattle.bench_check.proofs.Laws.{after-few}
 use Rattle.bench_check.proofs.bench_weigh_packed.Statement.{statement}
 use Rattle.bench_check.proofs.bench_weigh_packed.Tie as tie
 
--- The places that the last answer looks back to, each from a later one.
+-- The places that the answers look back to, each from a later one; the place past the tests after the first return.
+abbrev start-from-slice-known2 : tie.After-slice-known2 → tie.Start
+start-from-slice-known2 c = c .before .before .before .before .before .before
+
+abbrev weigh-packed-times-from-slice-known6 : tie.After-slice-known6 → tie.After-weigh-packed-times
+weigh-packed-times-from-slice-known6 c = c .before .before .before .before .before .before .before .before .before .before .before .before
+
 abbrev weigh-packed-times-from-judge2 : tie.After-judge2 → tie.After-weigh-packed-times
-weigh-packed-times-from-judge2 c = c .before .before .before .before .before .before .before .before .before .before .before .before .before
+weigh-packed-times-from-judge2 c = weigh-packed-times-from-slice-known6 (c .before)
 
 abbrev else1-from-judge2 : tie.After-judge2 → tie.Else1
 else1-from-judge2 c = weigh-packed-times-from-judge2 c .before .before .before
@@ -23,7 +32,7 @@ code-requires : tie.Need-code-requires
 code-requires c κs = tt
 
 judge-requires : tie.Need-judge-requires
-judge-requires c κs = tt
+judge-requires c κs = omega arith
 
 tell-requires : tie.Need-tell-requires
 tell-requires c κs = tt
@@ -38,19 +47,27 @@ returns : tie.Need-returns
 returns c =
     let l = positive (λ z. c .before .before .if1 .taken (c .before .before .before .code .ensures ∙ z)) in
     let e = c .before .before .before .before .test-packed-check .ensures in
-    (c .tell .ensures ∙ c .before .judge .ensures ∙ answer-kept 0 _ _ e l, left-kept _ e l (leaves-packed-check _), left-kept _ e l (leaves-packed-check _))
+    (c .tell .ensures ∙ c .before .judge .ensures ∙ answer-kept _ _ _ e l, left-kept _ e l (leaves-packed-check _), left-kept _ e l (leaves-packed-check _))
+
+-- The entry, from the place past the tests.
+abbrev start-from-else1 : tie.Else1 → tie.Start
+start-from-else1 c = start-from-slice-known2 (c .before .before .before .before .before)
+
+-- past the tests the key is whole, and y, s and the working space are in order
+ready : (c : tie.Else1) → let a = start-from-else1 c .args in
+    ForWeighPacked (a .held) (now (a .ones)) (now (a .twos)) (now (a .y)) (now (a .s)) (now (a .work-ones)) (now (a .work-twos))
+ready c =
+    let (called, lengths, contents) =
+    check-packed-passed _ (sym (c .before .before .test-packed-check .ensures) ∙ sym (c .before .code .ensures) ∙ c .if1 .left) in record {
+      whole = whole called;
+      lengths = lengths;
+      contents = contents;
+      work-ones = called .work-ones;
+      work-twos = called .work-twos;
+    }
 
 weigh-packed-times-requires : tie.Need-weigh-packed-times-requires
-weigh-packed-times-requires c κs =
-    let p =
-    check-packed-passed _ (sym (c .before .before .before .before .test-packed-check .ensures) ∙ sym (c .before .before .before .code .ensures)
-    ∙ c .before .before .if1 .left) in record {
-      whole = whole (p .0);
-      lengths = p .1;
-      contents = p .2;
-      work-ones = p .0 .work-ones;
-      work-twos = p .0 .work-twos;
-    }
+weigh-packed-times-requires c κs = ready (c .before .before)
 
 zero-words-requires : tie.Need-zero-words-requires
 zero-words-requires c κs = tt
@@ -59,7 +76,10 @@ zero-words-requires-2 : tie.Need-zero-words-requires-2
 zero-words-requires-2 c κs = tt
 
 judge-requires-2 : tie.Need-judge-requires-2
-judge-requires-2 c κs = tt
+judge-requires-2 c κs =
+    let after-weigh-packed-times = weigh-packed-times-from-slice-known6 c in
+    let else1 = after-weigh-packed-times .before .before .before in
+    after-few (start-from-else1 else1 .args .times) _ _ (ready else1 .whole) (after-weigh-packed-times .weigh-packed-times .ensures)
 
 tell-requires-2 : tie.Need-tell-requires-2
 tell-requires-2 c κs = tt

@@ -1,4 +1,4 @@
--- Each turn works out the same weight (`after-turn`); the working space keeps its lengths.
+-- Each turn works out the same ones and twos (`after-turn`); the working space keeps its lengths.
 -- Assumes nothing.
 use Prim.Native.Nat.{_-_, _≤_}
 use mathlib.Core.Path.{_≡_, refl, _∙_}
@@ -6,19 +6,19 @@ use native.Mathlib.Omega.{arith}
 use lib.ListN.{length}
 use Rattle.packed.specs.Packed.{packedRow}
 use Rattle.held_key.specs.Held.{rowTrits}
-use Rattle.check_tests.specs.Check.{heldWeight}
+use Rattle.check_tests.specs.Check.{heldCounts}
 use Rattle.bench_check.specs.{after}
 use Rattle.bench_check.proofs.Laws.{after-turn}
 use Rattle.bench_check.proofs.weigh_packed_times.Statement.{statement}
 use Rattle.bench_check.proofs.weigh_packed_times.Tie as tie
 
 abbrev Inv-loop : tie.InvT-loop
-Inv-loop held ones twos y s work-ones₀ work-twos₀ times weight₀ i₀ work-ones work-twos weight i =
+Inv-loop held ones twos y s work-ones₀ work-twos₀ times counts₀ i₀ work-ones work-twos counts i =
     (i ≤ times) × (length work-ones ≡ length work-ones₀) × (length work-twos ≡ length work-twos₀)
-    × (weight ≡ after i (heldWeight held ones twos (packedRow (rowTrits held) y) (packedRow (held .k) s)))
+    × (counts ≡ after i (heldCounts held ones twos (packedRow (rowTrits held) y) (packedRow (held .k) s)))
 
 abbrev μ-loop : tie.MeasureT-loop
-μ-loop held ones twos y s work-ones₀ work-twos₀ times weight₀ i₀ work-ones work-twos weight i = times - i
+μ-loop held ones twos y s work-ones₀ work-twos₀ times counts₀ i₀ work-ones work-twos counts i = times - i
 
 -- The places that the answers look back to, each from a later one.
 abbrev start-from-at-loop : tie.At-loop Inv-loop μ-loop → tie.Start Inv-loop μ-loop

@@ -1,23 +1,23 @@
--- Each turn works out the same weight (`after-turn`); the working space keeps its lengths.
+-- Each turn works out the same ones and twos (`after-turn`); the working space keeps its lengths.
 -- Assumes nothing.
 use Prim.Native.Nat.{_-_, _≤_}
 use mathlib.Core.Path.{_≡_, refl, _∙_}
 use native.Mathlib.Omega.{arith}
 use lib.ListN.{length}
 use Rattle.trits.specs.Planes.{tritAt}
-use Rattle.check_tests.specs.Check.{heldWeight}
+use Rattle.check_tests.specs.Check.{heldCounts}
 use Rattle.bench_check.specs.{after}
 use Rattle.bench_check.proofs.Laws.{after-turn}
 use Rattle.bench_check.proofs.weigh_times.Statement.{statement}
 use Rattle.bench_check.proofs.weigh_times.Tie as tie
 
 abbrev Inv-loop : tie.InvT-loop
-Inv-loop held ones twos y-ones y-twos s-ones s-twos work-ones₀ work-twos₀ times weight₀ i₀ work-ones work-twos weight i =
+Inv-loop held ones twos y-ones y-twos s-ones s-twos work-ones₀ work-twos₀ times counts₀ i₀ work-ones work-twos counts i =
     (i ≤ times) × (length work-ones ≡ length work-ones₀) × (length work-twos ≡ length work-twos₀)
-    × (weight ≡ after i (heldWeight held ones twos (tritAt y-ones y-twos) (tritAt s-ones s-twos)))
+    × (counts ≡ after i (heldCounts held ones twos (tritAt y-ones y-twos) (tritAt s-ones s-twos)))
 
 abbrev μ-loop : tie.MeasureT-loop
-μ-loop held ones twos y-ones y-twos s-ones s-twos work-ones₀ work-twos₀ times weight₀ i₀ work-ones work-twos weight i = times - i
+μ-loop held ones twos y-ones y-twos s-ones s-twos work-ones₀ work-twos₀ times counts₀ i₀ work-ones work-twos counts i = times - i
 
 -- The places that the answers look back to, each from a later one.
 abbrev start-from-at-loop : tie.At-loop Inv-loop μ-loop → tie.Start Inv-loop μ-loop

@@ -1,19 +1,28 @@
--- A refusal is judged before anything is touched; else the weight is judged, and both planes of the working space are zeroed.
+-- A refusal is judged before anything is touched; else the ones and twos are judged, and both planes of the working space are zeroed.
 -- Assumes nothing.
 use mathlib.Core.Path.{sym, _∙_}
 use native.Mathlib.Omega.{arith}
 use borrow.Author.Needs.{needs}
+use denote.Ref.{now}
 use Rattle.trits.proofs.Refusals.{positive, left-kept}
 use Rattle.check_tests.specs.Check.{checkAnswer}
 use Rattle.check_tests.proofs.Passed.{whole, check-passed}
 use Rattle.check_tests.proofs.Answers.{answer-kept, answer-new, leaves-check, left-zero}
+use Rattle.checker.specs.Steps.{ForWeigh}
+use Rattle.checker.proofs.Weighed.{few-counts}
 use Rattle.checker.proofs.Spaces.{check-spaces}
 use Rattle.checker.proofs.check.Statement.{statement}
 use Rattle.checker.proofs.check.Tie as tie
 
--- The places that the last answer looks back to, each from a later one.
+-- The places that the answers look back to, each from a later one; the place past the tests after the first return.
+abbrev start-from-slice-known2 : tie.After-slice-known2 → tie.Start
+start-from-slice-known2 c = c .before .before .before .before .before .before .before .before
+
+abbrev weigh-from-slice-known6 : tie.After-slice-known6 → tie.After-weigh
+weigh-from-slice-known6 c = c .before .before .before .before .before .before .before .before .before .before .before .before
+
 abbrev weigh-from-judge2 : tie.After-judge2 → tie.After-weigh
-weigh-from-judge2 c = c .before .before .before .before .before .before .before .before .before .before .before .before .before
+weigh-from-judge2 c = weigh-from-slice-known6 (c .before)
 
 abbrev else1-from-judge2 : tie.After-judge2 → tie.Else1
 else1-from-judge2 c = weigh-from-judge2 c .before .before .before
@@ -25,7 +34,7 @@ code-requires : tie.Need-code-requires
 code-requires c κs = tt
 
 judge-requires : tie.Need-judge-requires
-judge-requires c κs = tt
+judge-requires c κs = omega arith
 
 same-length : tie.Need-same-length
 same-length c = search needs
@@ -38,22 +47,31 @@ unfolding checkAnswer
 returns c =
     let l = positive (λ z. c .before .if1 .taken (c .before .before .code .ensures ∙ z)) in
     let e = c .before .before .before .test-check .ensures in (
-      c .judge .ensures ∙ answer-kept 0 _ _ (e ∙ check-spaces _ _ _ _ _ _ _ _ _ _ _ _ (omega arith) (omega arith)) l,
+      c .judge .ensures ∙ answer-kept _ _ _ (e ∙ check-spaces _ _ _ _ _ _ _ _ _ _ _ _ (omega arith) (omega arith)) l,
       left-kept _ (e ∙ check-spaces _ _ _ _ _ _ _ _ _ _ _ _ (omega arith) (omega arith)) l (leaves-check _),
       left-kept _ (e ∙ check-spaces _ _ _ _ _ _ _ _ _ _ _ _ (omega arith) (omega arith)) l (leaves-check _),
     )
 
-weigh-requires : tie.Need-weigh-requires
-weigh-requires c κs =
-    let p =
-    check-passed _ (sym (c .before .before .before .before .test-check .ensures) ∙ sym (c .before .before .before .code .ensures)
-    ∙ c .before .before .if1 .left) in record {
-      whole = whole (p .0);
-      lengths = p .1;
-      contents = p .2;
-      work-ones = p .0 .work-ones;
-      work-twos = p .0 .work-twos;
+-- The entry, from the place past the tests.
+abbrev start-from-else1 : tie.Else1 → tie.Start
+start-from-else1 c = start-from-slice-known2 (c .before .before .before .before .before)
+
+-- past the tests the key is whole, and y, s and the working space are in order
+ready : (c : tie.Else1) → let a = start-from-else1 c .args in
+    ForWeigh (a .held) (now (a .ones)) (now (a .twos)) (now (a .y-ones)) (now (a .y-twos)) (now (a .s-ones)) (now (a .s-twos))
+    (now (a .work-ones)) (now (a .work-twos))
+ready c =
+    let (called, lengths, contents) =
+    check-passed _ (sym (c .before .before .test-check .ensures) ∙ sym (c .before .code .ensures) ∙ c .if1 .left) in record {
+      whole = whole called;
+      lengths = lengths;
+      contents = contents;
+      work-ones = called .work-ones;
+      work-twos = called .work-twos;
     }
+
+weigh-requires : tie.Need-weigh-requires
+weigh-requires c κs = ready (c .before .before)
 
 zero-words-requires : tie.Need-zero-words-requires
 zero-words-requires c κs = tt
@@ -62,7 +80,9 @@ zero-words-requires-2 : tie.Need-zero-words-requires-2
 zero-words-requires-2 c κs = tt
 
 judge-requires-2 : tie.Need-judge-requires-2
-judge-requires-2 c κs = tt
+judge-requires-2 c κs =
+    let after-weigh = weigh-from-slice-known6 c in
+    few-counts _ _ (ready (after-weigh .before .before .before) .whole) (after-weigh .weigh .ensures)
 
 same-length-3 : tie.Need-same-length-3
 same-length-3 c = search needs

@@ -6,16 +6,16 @@ use native.Mathlib.Omega.{arith}
 use lib.ListN.{length}
 use denote.Ref.{now}
 use Rattle.trits.specs.Planes.{tritAt}
-use Rattle.trits.specs.Trit.{sumTo}
-use Rattle.trits.proofs.Products.{Known, onesOfDot, twosOfDot, same-le, other-le, same-turn, other-turn, dot-number}
+use Rattle.trits.specs.Trit.{mulT, sumTo, onesV, twosV, zipV}
+use Rattle.trits.proofs.Products.{Known, same-le, other-le, same-turn, other-turn, dot-number}
 use Rattle.rows.proofs.dot.Statement.{statement}
 use Rattle.rows.proofs.dot.Tie as tie
 
 abbrev Inv-loop : tie.InvT-loop
 Inv-loop a-ones a-twos b-ones b-twos ones₀ twos₀ i₀ ones twos i =
     (i ≤ length a-ones) × (ones ≤ 64 * i) × (twos ≤ 64 * i)
-    × (ones ≡ onesOfDot (tritAt a-ones a-twos) (tritAt b-ones b-twos) (64 * i))
-    × (twos ≡ twosOfDot (tritAt a-ones a-twos) (tritAt b-ones b-twos) (64 * i))
+    × (ones ≡ onesV (zipV mulT (tritAt a-ones a-twos) (tritAt b-ones b-twos)) (64 * i))
+    × (twos ≡ twosV (zipV mulT (tritAt a-ones a-twos) (tritAt b-ones b-twos)) (64 * i))
 
 abbrev μ-loop : tie.MeasureT-loop
 μ-loop a-ones a-twos b-ones b-twos ones₀ twos₀ i₀ ones twos i = length a-ones - i

@@ -7,7 +7,7 @@ use lib.ListN.{length}
 use denote.Ref.{now}
 use Rattle.trits.specs.Planes.{tritAt}
 use Rattle.trits.specs.Trit.{sumTo, weightV}
-use Rattle.trits.proofs.Counts.{count-le, weight-turn, weight-le}
+use Rattle.trits.proofs.Counting.{count-le, weight-turn, weight-le}
 use Rattle.rows.proofs.weight.Statement.{statement}
 use Rattle.rows.proofs.weight.Tie as tie
 

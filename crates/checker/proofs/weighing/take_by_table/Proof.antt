@@ -1,14 +1,14 @@
--- After i turns the first i rows, each times its trit of s, are taken, and `taken` is the weight of these trits.
+-- After i turns the first i rows, each times its trit of s, are taken, and `counts` has the ones and twos of these trits.
 -- Assumes nothing.
-use Prim.Native.Nat.{ℕ, _+_, _-_, _/_, _%_, _≤_}
+use Prim.Native.Nat.{ℕ, _+_, _-_, _/_, _%_, _≤_, _<_}
 use mathlib.Core.Path.{_≡_, refl, ap, _∙_}
 use native.Mathlib.Omega.{arith}
 use lib.ListN.{length, getD}
 use denote.Ref.{now}
-use Rattle.trits.specs.Trit.{subT, zipV, tritOf, weightV, sumTo}
+use Rattle.trits.specs.Trit.{subT, zipV, tritOf, countsV, sumOf, sumTo}
 use Rattle.trits.specs.Planes.{tritAt, Reads}
 use Rattle.trits.proofs.Reading.{reads-to}
-use Rattle.trits.proofs.Counts.{weight-le}
+use Rattle.trits.proofs.Counting.{counts-le}
 use Rattle.packed.specs.Packed.{packedRow}
 use Rattle.packed.proofs.Digits.{digit-lt}
 use Rattle.packed.proofs.Keeping.{bytes-small}
@@ -16,18 +16,18 @@ use Rattle.packed.proofs.Turned.{bytes-passed}
 use Rattle.verdict.specs.Verdict.{timesKey}
 use Rattle.held_key.specs.Held.{heldKey}
 use Rattle.held_key.proofs.Sizes.{sizes}
-use Rattle.checker.proofs.Product.{taken-none, turn-reads, turn-weight}
+use Rattle.checker.proofs.Product.{taken-none, turn-reads, turn-counts}
 use Rattle.packed.proofs.Digits.{packed-trit}
 use Rattle.checker.proofs.weighing.take_by_table.Statement.{statement}
 use Rattle.checker.proofs.weighing.take_by_table.Tie as tie
 
 abbrev Inv-loop : tie.InvT-loop
-Inv-loop held ones twos s work-ones₀ work-twos₀ table k taken₀ i₀ work-ones work-twos taken i =
-    (i ≤ held .k) × (taken ≡ weightV (packedRow (held .k) s) i)
+Inv-loop held ones twos s work-ones₀ work-twos₀ table k counts₀ i₀ work-ones work-twos counts i =
+    (i ≤ held .k) × (counts ≡ countsV (packedRow (held .k) s) i)
     × Reads work-ones work-twos (length work-ones₀) (zipV subT (tritAt work-ones₀ work-twos₀) (timesKey i (heldKey held ones twos) (packedRow (held .k) s)))
 
 abbrev μ-loop : tie.MeasureT-loop
-μ-loop held ones twos s work-ones₀ work-twos₀ table k taken₀ i₀ work-ones work-twos taken i = held .k - i
+μ-loop held ones twos s work-ones₀ work-twos₀ table k counts₀ i₀ work-ones work-twos counts i = held .k - i
 
 -- The places that the answers look back to, each from a later one.
 abbrev start-from-slice-known2 : tie.After-slice-known2 Inv-loop μ-loop → tie.Start Inv-loop μ-loop
@@ -48,16 +48,12 @@ trit-read c =
     let a = start-from-at-loop at-loop .args in
     packed-trit (now (a .s)) (a .held .k) (at-loop .loop .i) (c .trit .result) (omega arith) (c .trit .ensures)
 
--- with this row, the rows taken are the trits of s up to i that are not 0
-counted : (c : tie.After-take-row Inv-loop μ-loop) → let at-loop = c .before .before .before .before .before .before in
-    let a = start-from-at-loop at-loop .args in
-    at-loop .loop .taken + c .take-row .result ≡ weightV (packedRow (a .held .k) (now (a .s))) (at-loop .loop .i + 1)
-counted c =
-    let after-trit = c .before .before .before in
-    let at-loop = after-trit .before .before .before in
-    let a = start-from-at-loop at-loop .args in
-    turn-weight (packedRow (a .held .k) (now (a .s))) (at-loop .loop .i) (tritOf (after-trit .trit .result)) (trit-read after-trit) (at-loop .loop .inv .1)
-    (c .take-row .ensures .0)
+-- and below 3
+trit-lt : (c : tie.After-trit Inv-loop μ-loop) → c .trit .result < 3
+trit-lt c =
+    let at-loop = c .before .before .before in
+    let s = now (start-from-at-loop at-loop .args .s) in
+    omega (arith, c .trit .ensures, digit-lt (getD s (at-loop .loop .i / 5) 0) (at-loop .loop .i % 5))
 
 loop-holds : tie.Need-loop-holds Inv-loop μ-loop
 unfolding sumTo
@@ -97,25 +93,28 @@ take-row-requires c κs =
       readable = start .pre .readable;
       work = record { row = v .row; size = v .size ∙ start .pre .work .size };
       row-in = omega arith;
-      trit = omega (arith, c .before .before .trit .ensures, digit-lt (getD (now (start .args .s)) (at-loop .loop .i / 5) 0) (at-loop .loop .i % 5));
+      trit = trit-lt (c .before .before);
     }
 
-add-taken : tie.Need-add-taken Inv-loop μ-loop
-add-taken c =
+count-trit-requires : tie.Need-count-trit-requires Inv-loop μ-loop
+count-trit-requires c κs =
     let after-take-row = c .before .before .before .before in
-    let at-loop = after-take-row .before .before .before .before .before .before in
+    let after-trit = after-take-row .before .before .before in
+    let at-loop = after-trit .before .before .before in
     let start = start-from-at-loop at-loop in
-    let a = start .args in
-    omega (
-      arith,
-      counted after-take-row,
-      weight-le (packedRow (a .held .k) (now (a .s))) (at-loop .loop .i + 1),
-      sizes (a .held) (start .pre .whole .is-sound),
+    let v = packedRow (start .args .held .k) (now (start .args .s)) in (
+      omega (
+        arith,
+        ap sumOf (at-loop .loop .inv .1),
+        counts-le v (at-loop .loop .i),
+        sizes (start .args .held) (start .pre .whole .is-sound),
+      ),
+      trit-lt after-trit,
     )
 
 add-i : tie.Need-add-i Inv-loop μ-loop
 add-i c =
-    let start = start-from-take-row (c .before .before .before .before) in
+    let start = start-from-take-row (c .before .before .before .before .before) in
     omega (arith, sizes (start .args .held) (start .pre .whole .is-sound))
 
 loop-less : tie.Need-loop-less Inv-loop μ-loop
@@ -124,15 +123,16 @@ loop-less c =
 
 loop-again : tie.Need-loop-again Inv-loop μ-loop
 loop-again c =
-    let after-take-row = c .before .before .before .before in
+    let after-take-row = c .before .before .before .before .before in
     let after-trit = after-take-row .before .before .before in
     let at-loop = after-trit .before .before .before in
     let a = start-from-at-loop at-loop .args in
     let v = at-loop .loop .inv .2 in (
       omega arith,
-      counted after-take-row,
+      turn-counts (packedRow (a .held .k) (now (a .s))) (at-loop .loop .i) (tritOf (after-trit .trit .result)) (trit-read after-trit)
+          (at-loop .loop .inv .1) (c .count-trit .ensures),
       turn-reads (tritAt (now (a .work-ones)) (now (a .work-twos))) (heldKey (a .held) (now (a .ones)) (now (a .twos))) (packedRow (a .held .k) (now (a .s)))
-          (at-loop .loop .i) (tritOf (after-trit .trit .result)) (trit-read after-trit) (v .size) v (after-take-row .take-row .ensures .1),
+          (at-loop .loop .i) (tritOf (after-trit .trit .result)) (trit-read after-trit) (v .size) v (after-take-row .take-row .ensures),
     )
 
 same-length : tie.Need-same-length Inv-loop μ-loop
@@ -149,7 +149,7 @@ returns c =
     let a = start .args in
     let l = c .before .loop in
     let e : l .i ≡ a .held .k = omega arith in (
-      l .inv .1 ∙ ap (weightV (packedRow (a .held .k) (now (a .s)))) e,
+      l .inv .1 ∙ ap (countsV (packedRow (a .held .k) (now (a .s)))) e,
       reads-to (l .inv .2) (ap (λ (x : ℕ). zipV subT (tritAt (now (a .work-ones)) (now (a .work-twos)))
           (timesKey x (heldKey (a .held) (now (a .ones)) (now (a .twos))) (packedRow (a .held .k) (now (a .s))))) e),
     )
@@ -164,7 +164,7 @@ take-by-table-spec =
     shared-slice-read-trit
     trit-requires
     take-row-requires
-    add-taken
+    count-trit-requires
     add-i
     loop-less
     loop-again

@@ -1,12 +1,11 @@
 -- A trit 1 takes the row, a trit 2 adds it, and at 0 no row is looked at.
 -- Assumes nothing.
-use Prim.Native.Nat.{ℕ}
 use mathlib.Core.Path.{_≡_, refl, sym, ap, ap₂, _∙_, subst₂}
 use native.Mathlib.Omega.{arith}
 use borrow.Author.Needs.{needs}
 use lib.ListN.{length}
 use denote.Ref.{now}
-use Rattle.trits.specs.Trit.{subT, addT, zipV, tritOf, nonZero}
+use Rattle.trits.specs.Trit.{subT, addT, zipV}
 use Rattle.trits.specs.Planes.{tritAt, Row, Reads}
 use Rattle.trits.proofs.Reading.{reads-to}
 use Rattle.held_key.specs.Held.{heldKey}
@@ -37,14 +36,11 @@ lent c =
 returns : tie.Need-returns
 returns c =
     let s = c .before .before .before .before .before in
-    let a = s .args in (
-      ap (λ (x : ℕ). nonZero (tritOf x)) (sym (c .if1 .taken)),
-      record {
-        row = s .pre .work .row;
-        size = refl;
-        trits = take-none (tritAt (now (a .work-ones)) (now (a .work-twos))) (heldKey (a .held) (now (a .ones)) (now (a .twos)) (a .i)) (a .t) (c .if1 .taken);
-      },
-    )
+    let a = s .args in record {
+      row = s .pre .work .row;
+      size = refl;
+      trits = take-none (tritAt (now (a .work-ones)) (now (a .work-twos))) (heldKey (a .held) (now (a .ones)) (now (a .twos)) (a .i)) (a .t) (c .if1 .taken);
+    }
 
 held-row-requires : tie.Need-held-row-requires
 held-row-requires c κs = search needs
@@ -70,11 +66,9 @@ returns-2 c =
     let then2 = after-sub-row .before .before .before in
     let a = start-from-held-row2 (then2 .before) .args in
     let u = tritAt (now (a .work-ones)) (now (a .work-twos)) in
-    let z = then2 .if2 .taken in (
-      ap (λ (x : ℕ). nonZero (tritOf x)) (sym z),
-      reads-to (after-sub-row .sub-row .ensures)
-          (ap (zipV subT u) (lent (then2 .before) .trits) ∙ take-known u (heldKey (a .held) (now (a .ones)) (now (a .twos)) (a .i)) (a .t) z),
-    )
+    reads-to (after-sub-row .sub-row .ensures)
+    (ap (zipV subT u) (lent (then2 .before) .trits)
+    ∙ take-known u (heldKey (a .held) (now (a .ones)) (now (a .twos)) (a .i)) (a .t) (then2 .if2 .taken))
 
 add-row-requires : tie.Need-add-row-requires
 add-row-requires c κs =
@@ -96,11 +90,9 @@ returns-3 c =
     let s = start-from-held-row2 after-held-row2 in
     let a = s .args in
     let u = tritAt (now (a .work-ones)) (now (a .work-twos)) in
-    let z : a .t ≡ 2 = omega (arith, after-held-row2 .before .before .if1 .left, else2 .if2 .left, s .pre .trit) in (
-      ap (λ (x : ℕ). nonZero (tritOf x)) (sym z),
-      reads-to (after-add-row .add-row .ensures)
-          (ap (zipV addT u) (lent after-held-row2 .trits) ∙ take-two u (heldKey (a .held) (now (a .ones)) (now (a .twos)) (a .i)) (a .t) z),
-    )
+    let z : a .t ≡ 2 = omega (arith, after-held-row2 .before .before .if1 .left, else2 .if2 .left, s .pre .trit) in
+    reads-to (after-add-row .add-row .ensures)
+    (ap (zipV addT u) (lent after-held-row2 .trits) ∙ take-two u (heldKey (a .held) (now (a .ones)) (now (a .twos)) (a .i)) (a .t) z)
 
 pub take-row-spec : {M : Type 1} → statement M
 take-row-spec =

@@ -1,4 +1,4 @@
--- After i turns the first i rows, each times its trit of s, are taken, and `taken` is the weight of these trits.
+-- After i turns the first i rows, each times its trit of s, are taken.
 -- Assumes nothing.
 use Prim.Native.Nat.{ℕ, _+_, _-_, _≤_}
 use mathlib.Core.Path.{_≡_, refl, ap, _∙_}
@@ -8,22 +8,22 @@ use denote.Ref.{now}
 use Rattle.trits.specs.Trit.{subT, zipV, tritOf, weightV, sumTo}
 use Rattle.trits.specs.Planes.{tritAt, Reads}
 use Rattle.trits.proofs.Reading.{reads-to}
-use Rattle.trits.proofs.Counts.{weight-le}
+use Rattle.trits.proofs.Counting.{weight-le}
 use Rattle.trits.proofs.Arithmetic.{number-lt, trit-number}
 use Rattle.verdict.specs.Verdict.{timesKey}
 use Rattle.held_key.specs.Held.{heldKey}
 use Rattle.held_key.proofs.Sizes.{sizes}
-use Rattle.checker.proofs.Product.{taken-none, turn-reads, turn-weight}
+use Rattle.checker.proofs.Product.{taken-none, turn-reads}
 use Rattle.checker.proofs.weighing.take_rows.Statement.{statement}
 use Rattle.checker.proofs.weighing.take_rows.Tie as tie
 
 abbrev Inv-loop : tie.InvT-loop
-Inv-loop held ones twos s-ones s-twos work-ones₀ work-twos₀ k taken₀ i₀ work-ones work-twos taken i =
-    (i ≤ held .k) × (taken ≡ weightV (tritAt s-ones s-twos) i)
+Inv-loop held ones twos s-ones s-twos work-ones₀ work-twos₀ k i₀ work-ones work-twos i =
+    (i ≤ held .k)
     × Reads work-ones work-twos (length work-ones₀) (zipV subT (tritAt work-ones₀ work-twos₀) (timesKey i (heldKey held ones twos) (tritAt s-ones s-twos)))
 
 abbrev μ-loop : tie.MeasureT-loop
-μ-loop held ones twos s-ones s-twos work-ones₀ work-twos₀ k taken₀ i₀ work-ones work-twos taken i = held .k - i
+μ-loop held ones twos s-ones s-twos work-ones₀ work-twos₀ k i₀ work-ones work-twos i = held .k - i
 
 -- The places that the answers look back to, each from a later one.
 abbrev start-from-slice-known2 : tie.After-slice-known2 Inv-loop μ-loop → tie.Start Inv-loop μ-loop
@@ -40,24 +40,11 @@ trit-read : (c : tie.After-trit-at Inv-loop μ-loop) → let a = start-from-at-l
     tritOf (c .trit-at .result) ≡ tritAt (now (a .s-ones)) (now (a .s-twos)) (c .before .before .loop .i)
 trit-read c = ap tritOf (c .trit-at .ensures) ∙ trit-number _
 
--- with this row, the rows taken are the trits of s up to i that are not 0
-counted : (c : tie.After-take-row Inv-loop μ-loop) → let at-loop = c .before .before .before .before .before in
-    let a = start-from-at-loop at-loop .args in
-    at-loop .loop .taken + c .take-row .result ≡ weightV (tritAt (now (a .s-ones)) (now (a .s-twos))) (at-loop .loop .i + 1)
-counted c =
-    let after-trit-at = c .before .before .before in
-    let at-loop = after-trit-at .before .before in
-    let a = start-from-at-loop at-loop .args in
-    turn-weight (tritAt (now (a .s-ones)) (now (a .s-twos))) (at-loop .loop .i) (tritOf (after-trit-at .trit-at .result)) (trit-read after-trit-at)
-    (at-loop .loop .inv .1) (c .take-row .ensures .0)
-
 loop-holds : tie.Need-loop-holds Inv-loop μ-loop
-unfolding sumTo
 loop-holds c =
     let start = start-from-slice-known2 c in
     let a = start .args in (
       omega arith,
-      refl,
       record {
         row = start .pre .work .row;
         size = refl;
@@ -75,26 +62,13 @@ take-row-requires : tie.Need-take-row-requires Inv-loop μ-loop
 take-row-requires c κs =
     let at-loop = c .before .before .before .before in
     let start = start-from-at-loop at-loop in
-    let v = at-loop .loop .inv .2 in record {
+    let v = at-loop .loop .inv .1 in record {
       whole = start .pre .whole;
       readable = start .pre .readable;
       work = record { row = v .row; size = v .size ∙ start .pre .work .size };
       row-in = omega arith;
       trit = omega (arith, c .before .before .trit-at .ensures, number-lt (tritAt (now (start .args .s-ones)) (now (start .args .s-twos)) (at-loop .loop .i)));
     }
-
-add-taken : tie.Need-add-taken Inv-loop μ-loop
-add-taken c =
-    let after-take-row = c .before .before .before .before in
-    let at-loop = after-take-row .before .before .before .before .before in
-    let start = start-from-at-loop at-loop in
-    let a = start .args in
-    omega (
-      arith,
-      counted after-take-row,
-      weight-le (tritAt (now (a .s-ones)) (now (a .s-twos))) (at-loop .loop .i + 1),
-      sizes (a .held) (start .pre .whole .is-sound),
-    )
 
 add-i : tie.Need-add-i Inv-loop μ-loop
 add-i c =
@@ -111,12 +85,11 @@ loop-again c =
     let after-trit-at = after-take-row .before .before .before in
     let at-loop = after-trit-at .before .before in
     let a = start-from-at-loop at-loop .args in
-    let v = at-loop .loop .inv .2 in (
+    let v = at-loop .loop .inv .1 in (
       omega arith,
-      counted after-take-row,
       turn-reads (tritAt (now (a .work-ones)) (now (a .work-twos))) (heldKey (a .held) (now (a .ones)) (now (a .twos)))
           (tritAt (now (a .s-ones)) (now (a .s-twos))) (at-loop .loop .i) (tritOf (after-trit-at .trit-at .result)) (trit-read after-trit-at)
-          (v .size) v (after-take-row .take-row .ensures .1),
+          (v .size) v (after-take-row .take-row .ensures),
     )
 
 same-length : tie.Need-same-length Inv-loop μ-loop
@@ -132,11 +105,9 @@ returns c =
     let start = start-from-at-loop (c .before) in
     let a = start .args in
     let l = c .before .loop in
-    let e : l .i ≡ a .held .k = omega arith in (
-      l .inv .1 ∙ ap (weightV (tritAt (now (a .s-ones)) (now (a .s-twos)))) e,
-      reads-to (l .inv .2) (ap (λ (x : ℕ). zipV subT (tritAt (now (a .work-ones)) (now (a .work-twos)))
-          (timesKey x (heldKey (a .held) (now (a .ones)) (now (a .twos))) (tritAt (now (a .s-ones)) (now (a .s-twos))))) e),
-    )
+    let e : l .i ≡ a .held .k = omega arith in
+    reads-to (l .inv .1) (ap (λ (x : ℕ). zipV subT (tritAt (now (a .work-ones)) (now (a .work-twos)))
+    (timesKey x (heldKey (a .held) (now (a .ones)) (now (a .twos))) (tritAt (now (a .s-ones)) (now (a .s-twos))))) e)
 
 pub take-rows-spec : {M : Type 1} → statement M
 take-rows-spec =
@@ -147,7 +118,6 @@ take-rows-spec =
     loop-holds
     trit-at-requires
     take-row-requires
-    add-taken
     add-i
     loop-less
     loop-again

@@ -1,4 +1,4 @@
--- The working space is y, then y less the rows that s names; its weight and the number of these rows are the weight of the full word (`weighed`).
+-- The working space is y, then y less the rows that s names; its ones and twos with those of s are the full word's (`weighed`).
 -- Assumes nothing.
 use Prim.Native.Nat.{ℕ}
 use mathlib.Core.Path.{_≡_, sym, ap, _∙_}
@@ -6,9 +6,10 @@ use native.Mathlib.Omega.{arith}
 use borrow.Author.Needs.{needs}
 use lib.ListN.{length}
 use denote.Ref.{now}
+use Rattle.trits.specs.Trit.{sumOf}
 use Rattle.trits.specs.Refusal.{planesRefusal}
 use Rattle.trits.proofs.Reading.{reads-to}
-use Rattle.trits.proofs.Counts.{weight-le}
+use Rattle.trits.proofs.Counting.{counts-le}
 use Rattle.packed.specs.Packed.{packedRow, bytesFor, packedRefusal}
 use Rattle.held_key.specs.Held.{rowTrits}
 use Rattle.held_key.proofs.Sizes.{sizes}
@@ -32,8 +33,8 @@ shared-slice-known2-from-write-packed c = c .before .before .before .before .bef
 abbrev write-packed-from-take-packed-rows : tie.After-take-packed-rows → tie.After-write-packed
 write-packed-from-take-packed-rows c = c .before .before .before .before .before .before .before
 
-abbrev take-packed-rows-from-weight-arg2 : tie.After-weight-arg2 → tie.After-take-packed-rows
-take-packed-rows-from-weight-arg2 c = c .before .before .before .before .before .before
+abbrev take-packed-rows-from-count-arg2 : tie.After-count-arg2 → tie.After-take-packed-rows
+take-packed-rows-from-count-arg2 c = c .before .before .before .before .before .before
 
 -- y and s have the lengths that the key asks
 fitting : (s : tie.Start) → let a = s .args in (length (now (a .y)) ≡ bytesFor (rowTrits (a .held))) × (length (now (a .s)) ≡ bytesFor (a .held .k))
@@ -75,30 +76,26 @@ take-packed-rows-requires c κs =
       s-tested = passed s .2;
     }
 
-weight-requires : tie.Need-weight-requires
-weight-requires c κs =
-    let after-take-packed-rows = take-packed-rows-from-weight-arg2 c in
+count-requires : tie.Need-count-requires
+count-requires c κs =
+    let after-take-packed-rows = take-packed-rows-from-count-arg2 c in
     let after-write-packed = write-packed-from-take-packed-rows after-take-packed-rows in
     let s = start-from-write-packed after-write-packed in
     let r = after-take-packed-rows .take-packed-rows .ensures .1 in (
-      r .row .same,
+      r .row,
       omega (arith, r .size, after-write-packed .write-packed .ensures .size, s .pre .work-ones, sizes (s .args .held) (s .pre .whole .is-sound)),
     )
 
-add-result : tie.Need-add-result
-add-result c =
-    let after-take-packed-rows = take-packed-rows-from-weight-arg2 (c .before) in
+add-counts-requires : tie.Need-add-counts-requires
+add-counts-requires c κs =
+    let after-take-packed-rows = take-packed-rows-from-count-arg2 (c .before) in
     let after-write-packed = write-packed-from-take-packed-rows after-take-packed-rows in
     let s = start-from-write-packed after-write-packed in
     let a = s .args in
-    omega (
-      arith,
-      at-most (after-take-packed-rows .take-packed-rows .ensures .1) (c .weight .ensures),
-      after-take-packed-rows .take-packed-rows .ensures .0,
-      weight-le (packedRow (a .held .k) (now (a .s))) (a .held .k),
-      after-write-packed .write-packed .ensures .size,
-      s .pre .work-ones,
-      sizes (a .held) (s .pre .whole .is-sound),
+    let few = sizes (a .held) (s .pre .whole .is-sound) in
+    let (counted, taken) = after-take-packed-rows .take-packed-rows .ensures in (
+      omega (arith, at-most taken (c .count .ensures), after-write-packed .write-packed .ensures .size, s .pre .work-ones, few),
+      omega (arith, ap sumOf counted, counts-le (packedRow (a .held .k) (now (a .s))) (a .held .k), few),
     )
 
 same-length : tie.Need-same-length
@@ -109,14 +106,17 @@ same-length-2 c = search needs
 
 returns : tie.Need-returns
 returns c =
-    let after-take-packed-rows = take-packed-rows-from-weight-arg2 (c .before) in
+    let after-count = c .before in
+    let after-take-packed-rows = take-packed-rows-from-count-arg2 (after-count .before) in
     let after-write-packed = write-packed-from-take-packed-rows after-take-packed-rows in
     let s = start-from-write-packed after-write-packed in
     let a = s .args in
-    weighed (packedRow (rowTrits (a .held)) (now (a .y))) (packedRow (a .held .k) (now (a .s))) (s .pre .whole) (passed s .0)
+    let (counted, taken) = after-take-packed-rows .take-packed-rows .ensures in
+    c .add-counts .ensures
+    ∙ weighed (packedRow (rowTrits (a .held)) (now (a .y))) (packedRow (a .held .k) (now (a .s))) (s .pre .whole) (passed s .0)
     (packed-out (now (a .y)) (rowTrits (a .held))) (reads-to (after-write-packed .write-packed .ensures)
     (ap (λ (m : ℕ). packedRow m (now (a .y))) (after-write-packed .before .before .before .row-trits .ensures))) (s .pre .work-ones)
-    (after-take-packed-rows .take-packed-rows .ensures .1) (c .weight .ensures) (after-take-packed-rows .take-packed-rows .ensures .0)
+    taken (after-count .count .ensures) counted
 
 pub weigh-packed-spec : {M : Type 1} → statement M
 weigh-packed-spec =
@@ -125,8 +125,8 @@ weigh-packed-spec =
     row-trits-requires
     write-packed-requires
     take-packed-rows-requires
-    weight-requires
-    add-result
+    count-requires
+    add-counts-requires
     same-length
     same-length-2
     returns)

@@ -5,7 +5,7 @@ use mathlib.Core.Path.{ap₂}
 use native.Mathlib.Omega.{arith}
 use denote.Ref.{now}
 use Rattle.trits.specs.Rows.{matrixAt}
-use Rattle.trits.proofs.Counts.{weight-le}
+use Rattle.trits.proofs.Counting.{weight-le}
 use Rattle.grid.proofs.weights.pair_weight.Statement.{statement}
 use Rattle.grid.proofs.weights.pair_weight.Tie as tie
 

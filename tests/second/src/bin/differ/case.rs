@@ -221,6 +221,11 @@ impl Outcome {
     pub fn refusal(&self) -> u64 {
         self.answer[0]
     }
+
+    /// Of a check: the ones and twos of the full word together.
+    pub fn weight(&self) -> u64 {
+        self.answer[2] + self.answer[3]
+    }
 }
 
 pub fn held(numbers: &[u64]) -> Held {
@@ -237,7 +242,7 @@ pub fn stored(answer: Stored) -> Vec<u64> {
 }
 
 pub fn checked(answer: Checked) -> Vec<u64> {
-    vec![answer.refusal, answer.yes, answer.weight]
+    vec![answer.refusal, answer.yes, answer.ones, answer.twos]
 }
 
 /// What the second implementation makes of a case.

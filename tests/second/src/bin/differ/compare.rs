@@ -22,8 +22,8 @@ pub struct Comparer {
 /// The refusal, and for a check its verdict.
 fn told(call: Call, answer: &[u64]) -> String {
     match (call, answer) {
-        (Call::Check, [0, 1, _]) => "yes".to_string(),
-        (Call::Check, [0, 0, _]) => "no".to_string(),
+        (Call::Check, [0, 1, _, _]) => "yes".to_string(),
+        (Call::Check, [0, 0, _, _]) => "no".to_string(),
         _ => answer[0].to_string(),
     }
 }

@@ -106,7 +106,7 @@ pub fn large_keys(c: &mut Comparer, thorough: bool) {
         }
         // the weight that comes out is the one asked for
         let mut case = make::check(&mut c.rng, n, k);
-        let weight = c.compare(&case, &[]).answer[2];
+        let weight = c.compare(&case, &[]).weight();
         case.numbers[4] = weight.max(1);
         c.compare(&case, &[]);
     }
@@ -246,7 +246,10 @@ pub fn round_trip(c: &mut Comparer, shape: &Shape) -> bool {
     let work = || Buffer::Words(vec![!0; words(m)]);
     let case = Case::new(Call::Check, state, vec![ones, twos, Buffer::Bytes(y), Buffer::Bytes(s), work(), work()]);
     let verdict = c.compare(&case, &["round trip".to_string()]);
-    if verdict.answer != [0, 1, w as u64] {
+    // yes, with the bits of each plane of the released word, which add up to w
+    let set = |buffer: &Buffer| buffer.words().iter().map(|w| w.count_ones() as u64).sum::<u64>();
+    let (in_ones, in_twos) = (set(&released.buffers[17]), set(&released.buffers[18]));
+    if verdict.answer != [0, 1, in_ones, in_twos] || in_ones + in_twos != w as u64 {
         c.report(&case, &["round trip".to_string()], &format!("a released word is answered {:?}", verdict.answer));
     }
     // one trit of s, of y, of the key changed
@@ -358,9 +361,9 @@ fn by_chance(c: &mut Comparer) {
     }
     let outcome = c.damaged(&case, &list);
     // a check that was not refused is asked for its own weight too
-    if call == Call::Check && count == 0 && outcome.answer[2] > 0 {
+    if call == Call::Check && count == 0 && outcome.weight() > 0 {
         let mut asked = case.clone();
-        asked.numbers[4] = outcome.answer[2];
+        asked.numbers[4] = outcome.weight();
         c.compare(&asked, &[]);
     }
 }

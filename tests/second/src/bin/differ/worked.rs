@@ -78,10 +78,10 @@ pub fn cases(c: &mut Comparer) {
     let zero = Words(vec![0; 6]);
     expect(c, draw(4, "1", "1"), &[14], &[(17, one(1)), (18, one(2)), (19, one(3)), (20, one(4)), (21, zero.clone()), (22, zero)]);
 
-    expect(c, check(7, 4, "12", "11"), &[0, 1, 4], &[(4, one(0)), (5, one(0))]);
-    expect(c, check(7, 4, "12", "12"), &[0, 0, 3], &[(4, one(0)), (5, one(0))]);
-    expect(c, check(8, 4, "12", "11"), &[22, 0, 0], &[(4, one(5)), (5, one(6))]);
-    expect(c, check(7, 2, "12", "00"), &[0, 1, 2], &[(4, one(0)), (5, one(0))]);
+    expect(c, check(7, 4, "12", "11"), &[0, 1, 3, 1], &[(4, one(0)), (5, one(0))]);
+    expect(c, check(7, 4, "12", "12"), &[0, 0, 1, 2], &[(4, one(0)), (5, one(0))]);
+    expect(c, check(8, 4, "12", "11"), &[22, 0, 0, 0], &[(4, one(5)), (5, one(6))]);
+    expect(c, check(7, 2, "12", "00"), &[0, 1, 1, 1], &[(4, one(0)), (5, one(0))]);
 
     for (n, refusal) in [(4, 0), (16384, 0), (2, 1), (16386, 1)] {
         let state = if refusal == 0 { vec![refusal, 1, 0, n, 2, 1, 0] } else { vec![refusal, 0, 0, 0, 0, 0, 0] };

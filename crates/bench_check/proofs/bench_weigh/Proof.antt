@@ -16,11 +16,8 @@ use Rattle.bench_check.proofs.bench_weigh.Tie as tie
 abbrev start-from-slice-known2 : tie.After-slice-known2 → tie.Start
 start-from-slice-known2 c = c .before .before .before .before .before .before .before .before
 
-abbrev weigh-times-from-slice-known6 : tie.After-slice-known6 → tie.After-weigh-times
-weigh-times-from-slice-known6 c = c .before .before .before .before .before .before .before .before .before .before .before .before
-
 abbrev weigh-times-from-judge2 : tie.After-judge2 → tie.After-weigh-times
-weigh-times-from-judge2 c = weigh-times-from-slice-known6 (c .before)
+weigh-times-from-judge2 c = c .before .before .before .before .before .before .before .before .before .before .before .before .before
 
 abbrev else1-from-judge2 : tie.After-judge2 → tie.Else1
 else1-from-judge2 c = weigh-times-from-judge2 c .before .before .before
@@ -78,7 +75,8 @@ zero-words-requires-2 c κs = tt
 
 judge-requires-2 : tie.Need-judge-requires-2
 judge-requires-2 c κs =
-    let after-weigh-times = weigh-times-from-slice-known6 c in
+    let after-zero-words = c .before .before .before .before .before .before in
+    let after-weigh-times = after-zero-words .before .before .before .before .before .before in
     let else1 = after-weigh-times .before .before .before in
     after-few (start-from-else1 else1 .args .times) _ _ (ready else1 .whole) (after-weigh-times .weigh-times .ensures)
 

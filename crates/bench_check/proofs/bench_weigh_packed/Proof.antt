@@ -16,11 +16,8 @@ use Rattle.bench_check.proofs.bench_weigh_packed.Tie as tie
 abbrev start-from-slice-known2 : tie.After-slice-known2 → tie.Start
 start-from-slice-known2 c = c .before .before .before .before .before .before
 
-abbrev weigh-packed-times-from-slice-known6 : tie.After-slice-known6 → tie.After-weigh-packed-times
-weigh-packed-times-from-slice-known6 c = c .before .before .before .before .before .before .before .before .before .before .before .before
-
 abbrev weigh-packed-times-from-judge2 : tie.After-judge2 → tie.After-weigh-packed-times
-weigh-packed-times-from-judge2 c = weigh-packed-times-from-slice-known6 (c .before)
+weigh-packed-times-from-judge2 c = c .before .before .before .before .before .before .before .before .before .before .before .before .before
 
 abbrev else1-from-judge2 : tie.After-judge2 → tie.Else1
 else1-from-judge2 c = weigh-packed-times-from-judge2 c .before .before .before
@@ -77,7 +74,8 @@ zero-words-requires-2 c κs = tt
 
 judge-requires-2 : tie.Need-judge-requires-2
 judge-requires-2 c κs =
-    let after-weigh-packed-times = weigh-packed-times-from-slice-known6 c in
+    let after-zero-words = c .before .before .before .before .before .before in
+    let after-weigh-packed-times = after-zero-words .before .before .before .before .before .before in
     let else1 = after-weigh-packed-times .before .before .before in
     after-few (start-from-else1 else1 .args .times) _ _ (ready else1 .whole) (after-weigh-packed-times .weigh-packed-times .ensures)
 

@@ -18,11 +18,8 @@ use Rattle.checker.proofs.check_packed.Tie as tie
 abbrev start-from-slice-known2 : tie.After-slice-known2 → tie.Start
 start-from-slice-known2 c = c .before .before .before .before .before .before
 
-abbrev weigh-packed-from-slice-known6 : tie.After-slice-known6 → tie.After-weigh-packed
-weigh-packed-from-slice-known6 c = c .before .before .before .before .before .before .before .before .before .before .before .before
-
 abbrev weigh-packed-from-judge2 : tie.After-judge2 → tie.After-weigh-packed
-weigh-packed-from-judge2 c = weigh-packed-from-slice-known6 (c .before)
+weigh-packed-from-judge2 c = c .before .before .before .before .before .before .before .before .before .before .before .before .before
 
 abbrev else1-from-judge2 : tie.After-judge2 → tie.Else1
 else1-from-judge2 c = weigh-packed-from-judge2 c .before .before .before
@@ -80,7 +77,8 @@ zero-words-requires-2 c κs = tt
 
 judge-requires-2 : tie.Need-judge-requires-2
 judge-requires-2 c κs =
-    let after-weigh-packed = weigh-packed-from-slice-known6 c in
+    let after-zero-words = c .before .before .before .before .before .before in
+    let after-weigh-packed = after-zero-words .before .before .before .before .before .before in
     few-counts _ _ (ready (after-weigh-packed .before .before .before) .whole) (after-weigh-packed .weigh-packed .ensures)
 
 same-length-3 : tie.Need-same-length-3

@@ -97,8 +97,8 @@ fn take_by_table(
     let mut i = 0;
     while i < k {
         let t = packing::table::trit(table, s[i / 5], i % 5);
-        take_row(held, ones, twos, i, t, work_ones, work_twos);
         counts = count_trit(counts, t);
+        take_row(held, ones, twos, i, t, work_ones, work_twos);
         i += 1;
     }
     counts

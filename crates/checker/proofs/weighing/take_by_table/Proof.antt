@@ -37,7 +37,7 @@ abbrev start-from-at-loop : tie.At-loop Inv-loop μ-loop → tie.Start Inv-loop 
 start-from-at-loop c = c .before .before .before .before .before .before
 
 abbrev start-from-take-row : tie.After-take-row Inv-loop μ-loop → tie.Start Inv-loop μ-loop
-start-from-take-row c = start-from-at-loop (c .before .before .before .before .before .before)
+start-from-take-row c = start-from-at-loop (c .before .before .before .before .before .before .before)
 
 -- the trit read is that of s
 trit-read : (c : tie.After-trit Inv-loop μ-loop) → let at-loop = c .before .before .before in
@@ -84,23 +84,9 @@ trit-requires c κs =
       digit = omega (arith, b);
     }
 
-take-row-requires : tie.Need-take-row-requires Inv-loop μ-loop
-take-row-requires c κs =
-    let at-loop = c .before .before .before .before .before in
-    let start = start-from-at-loop at-loop in
-    let v = at-loop .loop .inv .2 in record {
-      whole = start .pre .whole;
-      readable = start .pre .readable;
-      work = record { row = v .row; size = v .size ∙ start .pre .work .size };
-      row-in = omega arith;
-      trit = trit-lt (c .before .before);
-    }
-
 count-trit-requires : tie.Need-count-trit-requires Inv-loop μ-loop
 count-trit-requires c κs =
-    let after-take-row = c .before .before .before .before in
-    let after-trit = after-take-row .before .before .before in
-    let at-loop = after-trit .before .before .before in
+    let at-loop = c .before .before .before in
     let start = start-from-at-loop at-loop in
     let v = packedRow (start .args .held .k) (now (start .args .s)) in (
       omega (
@@ -109,12 +95,25 @@ count-trit-requires c κs =
         counts-le v (at-loop .loop .i),
         sizes (start .args .held) (start .pre .whole .is-sound),
       ),
-      trit-lt after-trit,
+      trit-lt c,
     )
+
+take-row-requires : tie.Need-take-row-requires Inv-loop μ-loop
+take-row-requires c κs =
+    let after-trit = c .before .before .before in
+    let at-loop = after-trit .before .before .before in
+    let start = start-from-at-loop at-loop in
+    let v = at-loop .loop .inv .2 in record {
+      whole = start .pre .whole;
+      readable = start .pre .readable;
+      work = record { row = v .row; size = v .size ∙ start .pre .work .size };
+      row-in = omega arith;
+      trit = trit-lt after-trit;
+    }
 
 add-i : tie.Need-add-i Inv-loop μ-loop
 add-i c =
-    let start = start-from-take-row (c .before .before .before .before .before) in
+    let start = start-from-take-row (c .before .before .before .before) in
     omega (arith, sizes (start .args .held) (start .pre .whole .is-sound))
 
 loop-less : tie.Need-loop-less Inv-loop μ-loop
@@ -123,14 +122,15 @@ loop-less c =
 
 loop-again : tie.Need-loop-again Inv-loop μ-loop
 loop-again c =
-    let after-take-row = c .before .before .before .before .before in
-    let after-trit = after-take-row .before .before .before in
+    let after-take-row = c .before .before .before .before in
+    let after-count-trit = after-take-row .before .before .before in
+    let after-trit = after-count-trit .before in
     let at-loop = after-trit .before .before .before in
     let a = start-from-at-loop at-loop .args in
     let v = at-loop .loop .inv .2 in (
       omega arith,
       turn-counts (packedRow (a .held .k) (now (a .s))) (at-loop .loop .i) (tritOf (after-trit .trit .result)) (trit-read after-trit)
-          (at-loop .loop .inv .1) (c .count-trit .ensures),
+          (at-loop .loop .inv .1) (after-count-trit .count-trit .ensures),
       turn-reads (tritAt (now (a .work-ones)) (now (a .work-twos))) (heldKey (a .held) (now (a .ones)) (now (a .twos))) (packedRow (a .held .k) (now (a .s)))
           (at-loop .loop .i) (tritOf (after-trit .trit .result)) (trit-read after-trit) (v .size) v (after-take-row .take-row .ensures),
     )
@@ -163,8 +163,8 @@ take-by-table-spec =
     loop-holds
     shared-slice-read-trit
     trit-requires
-    take-row-requires
     count-trit-requires
+    take-row-requires
     add-i
     loop-less
     loop-again

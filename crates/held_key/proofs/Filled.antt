@@ -8,7 +8,7 @@ use native.Mathlib.Decide.{ℕ-discrete}
 use native.Mathlib.Omega.{arith}
 use lib.Dec.{eqb}
 use lib.ListN.{length, getD}
-use Rattle.trits.specs.Trit.{Trit, t0, one}
+use Rattle.trits.specs.Trit.{Trit, t0}
 use Rattle.trits.specs.Planes.{bit, bitAt, tritAt, onesOf, twosOf, bothAt, bothSet, pastEnd}
 use Rattle.trits.specs.Rows.{rowPart, putWords, rowsPastEnd}
 use Rattle.trits.specs.Refusal.{planesRefusal}

@@ -3,11 +3,11 @@ use mathlib.Core.Path.{_≡_, refl, sym, ap}
 use mathlib.Core.Bool.{true, false, true≢false}
 use mathlib.Core.Logic.{_⊎_, inl, inr}
 use mathlib.Core.List.{List, [], _∷_}
-use Prim.Native.Nat.{ℕ, zero, suc, _+_, _<_}
+use Prim.Native.Nat.{ℕ, zero, suc, _<_}
 use native.Mathlib.Omega.{arith}
 use borrow.Author.Tests.{ne-eqb}
 use lib.ListN.{length, getD}
-use Rattle.trits.specs.Trit.{Trit, number, isSet, dotV, anyTo, sumTo, upTo}
+use Rattle.trits.specs.Trit.{number, isSet, dotV, anyTo, sumTo, upTo}
 use Rattle.trits.specs.Planes.{bit, fromBits, bitAt, tritAt, tabulate, onesOf, twosOf, zeroWords, bothSet, pastEnd}
 use Rattle.trits.specs.Rows.{rowsOf, rowPart, matrixAt, putWords, rowsPastEnd}
 use Rattle.trits.specs.Refusal.{first, spaceExit, planesRefusal}
@@ -25,12 +25,12 @@ use Rattle.check_tests.specs.Check.{callRefusal, packedLengths, packedContents,
 use Rattle.scheme.specs.Sizes.{sizesFit}
 use Rattle.scheme.specs.Secret.{noZero, secretMatrix, hasZero}
 use Rattle.scheme.specs.Build.{arrange, arranged, rowOfR, buildRefusal}
-use Rattle.scheme.specs.Draw.{choicesFit, placed, pivotsV, suppliedV, drawV, pivotsU, suppliedU, drawU, drawn, drawRefusal, signature}
+use Rattle.scheme.specs.Draw.{choicesFit, placed, pivotsV, suppliedV, drawV, pivotsU, suppliedU, drawU, drawn, drawRefusal}
 use Rattle.calls.specs.Lent.{secretDiffers, secretRefusal}
 use Rattle.calls.specs.BuildCall.{keyDiffers, buildLengthsDiffer, buildAnswer, orderExit, keyOnesOf, keyTwosOf, keyExit, buildWorkExit}
 use Rattle.calls.specs.DrawCall.{choicesDiffer, drawLengthsDiffer, choicesRefusal, drawAnswer, wordOf, wordExit, sExit, drawWorkExit}
-use Rattle.wave.specs.Terms.{Terms, builtKey, LentSyndrome, Under, HandsOut}
-use Rattle.wave.specs.Examples.{sizes4, secret4, start1, key1, start2, p2, key2, y4, build4, draw4}
+use Rattle.wave.specs.Terms.{Terms, builtKey, LentSyndrome, HandsOut}
+use Rattle.wave.specs.Examples.{sizes4, secret4, start1, key1, p2, key2, y4, draw4}
 use Rattle.wave.specs.Beside.{Beside, secretR, keyR}
 
 -- ---- the places below 2, and the list of place 0

@@ -26,8 +26,7 @@ use Rattle.scheme.specs.Build.{arrange, arranged, rowOfR, buildRefusal}
 use Rattle.scheme.specs.Draw.{placed, signature, pivotsV, suppliedV, drawV, pivotsU, suppliedU, drawU, drawn, drawRefusal}
 use Rattle.calls.specs.Lent.{secretDiffers, secretRefusal}
 use Rattle.calls.specs.BuildCall.{keyDiffers, buildLengthsDiffer, buildAnswer, orderExit, keyOnesOf, keyTwosOf, keyExit, buildWorkExit}
-use Rattle.calls.specs.DrawCall.{DrawCall, choicesDiffer, drawLengthsDiffer, choicesRefusal, drawAnswer, wordOf, wordExit, sExit, drawWorkExit}
-use Rattle.wave.specs.Terms.{Under}
+use Rattle.calls.specs.DrawCall.{choicesDiffer, drawLengthsDiffer, choicesRefusal, drawAnswer, wordOf, wordExit, sExit, drawWorkExit}
 use Rattle.wave.specs.Examples.{sizes4, start1, build4}
 use Rattle.wave.specs.Starred.{NoDrawMakes1200, gap4, Starred}
 use Rattle.wave.proofs.ReachCalls.{handed-signature, drawn-terms}

@@ -2,8 +2,7 @@
 -- key carried to the module. More stand in trits, packed, matrix, verdict, scheme and checker. Assumes nothing.
 use mathlib.Core.Path.{_≡_}
 use mathlib.Core.Bool.{true}
-use mathlib.Core.List.{List, [], _∷_}
-use Prim.Native.Nat.{ℕ}
+use mathlib.Core.List.{[], _∷_}
 use Rattle.matrix.specs.Linear.{Vector}
 use Rattle.trits.specs.InDigits.{vector, digits, matrix, digitRows}
 use Rattle.verdict.specs.Verdict.{Key}

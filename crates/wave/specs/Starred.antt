@@ -1,10 +1,10 @@
 -- The starred cases of the paper ("At the edges"), in its order: each as a value of the definitions, and as a call with every lent word. Assumes nothing.
 use mathlib.Core.Path.{_≡_}
 use mathlib.Core.Bool.{true}
-use mathlib.Core.List.{List, [], _∷_}
+use mathlib.Core.List.{[], _∷_}
 use Prim.Native.Nat.{ℕ}
 use Rattle.packed.specs.Packed.{packedRow, packedBytes}
-use Rattle.packed.specs.Calls.{packOf, packRefusal, packExit, unpackOf, unpackRefusal, unpackOnes, unpackTwos}
+use Rattle.packed.specs.Calls.{packOf, packExit, unpackOf, unpackRefusal, unpackOnes, unpackTwos}
 use Rattle.trits.specs.InDigits.{vector, digits, matrix, digitRows}
 use Rattle.verdict.specs.Verdict.{fullWord, saysYes}
 use Rattle.scheme.specs.Build.{arranged, keyOrder, keyRow}

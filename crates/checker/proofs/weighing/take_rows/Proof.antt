@@ -1,14 +1,13 @@
 -- After i turns the first i rows, each times its trit of s, are taken.
 -- Assumes nothing.
-use Prim.Native.Nat.{ℕ, _+_, _-_, _≤_}
+use Prim.Native.Nat.{ℕ, _-_, _≤_}
 use mathlib.Core.Path.{_≡_, refl, ap, _∙_}
 use native.Mathlib.Omega.{arith}
 use lib.ListN.{length}
 use denote.Ref.{now}
-use Rattle.trits.specs.Trit.{subT, zipV, tritOf, weightV, sumTo}
+use Rattle.trits.specs.Trit.{subT, zipV, tritOf}
 use Rattle.trits.specs.Planes.{tritAt, Reads}
 use Rattle.trits.proofs.Reading.{reads-to}
-use Rattle.trits.proofs.Counting.{weight-le}
 use Rattle.trits.proofs.Arithmetic.{number-lt, trit-number}
 use Rattle.verdict.specs.Verdict.{timesKey}
 use Rattle.held_key.specs.Held.{heldKey}

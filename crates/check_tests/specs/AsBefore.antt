@@ -11,10 +11,10 @@ use Rattle.check_tests.specs.declared.Checked.{Checked}
 use Rattle.check_tests.specs.Check.{Check, PackedCheck, checkRefusal, checkPackedRefusal, answered}
 
 -- how a word of m trits is counted: `countsV` now, and before it the weight as one number
-abbrev pub Counting : Type 0
-Counting = (ℕ → Trit) → ℕ → Counts
+abbrev pub CountRule : Type 0
+CountRule = (ℕ → Trit) → ℕ → Counts
 
-abbrev pub weightAlone : Counting
+abbrev pub weightAlone : CountRule
 weightAlone v m = record { ones = weightV v m; twos = 0 }
 
 -- the full word of a check, of n - k and k trits
@@ -29,10 +29,10 @@ checkPackedWord c =
     fullWord (rowTrits h) (h .k) (heldKey h (c .ones) (c .twos)) (packedRow (rowTrits h) (c .y)) (packedRow (h .k) (c .s))
 
 -- the answer of a check that counts its full word so
-abbrev pub checkBy : Counting → Check → Checked
+abbrev pub checkBy : CountRule → Check → Checked
 checkBy count c = answered (checkRefusal c) (count (checkWord c) (rowTrits (c .held) + c .held .k)) (c .held .w)
 
-abbrev pub checkPackedBy : Counting → PackedCheck → Checked
+abbrev pub checkPackedBy : CountRule → PackedCheck → Checked
 checkPackedBy count c = answered (checkPackedRefusal c) (count (checkPackedWord c) (rowTrits (c .held) + c .held .k)) (c .held .w)
 
 -- two answers that refuse alike and say yes alike, and whose numbers add up alike

@@ -84,7 +84,7 @@ fn put_counts(out: &mut [u8], at: usize, ones: u64, twos: u64) -> usize
     ensures { λ _. ⌜ now (out .exit) ≡ putWords at (now (out .entry)) (onesPlusTwos ones twos) ⌝ }
 {
     let a = put_decimal(out, at, ones);
-    let b = put_byte(out, a, 43);
+    let b = put_byte(out, a, b'+');
     put_decimal(out, b, twos)
 }
 

@@ -1,4 +1,4 @@
--- The ones and twos of the full word, from those of the working space and of s. Assumes nothing.
+-- What a weighing asks, and the ones and twos of the full word from those of the working space and of s. Assumes nothing.
 use mathlib.Core.Path.{_≡_, ap, ap₂, _∙_}
 use mathlib.Core.List.{List}
 use Prim.Native.Nat.{ℕ, _+_, _*_, _≤_}
@@ -13,11 +13,12 @@ use Rattle.trits.proofs.Counting.{counts-le}
 use Rattle.held_key.specs.declared.state.Held.{Held}
 use Rattle.verdict.specs.Verdict.{timesKey, fullWord, fullCounts}
 use Rattle.held_key.specs.Held.{rowTrits, rowWords, heldKey}
-use Rattle.check_tests.specs.Check.{heldCounts}
+use Rattle.check_tests.specs.Check.{Check, PackedCheck, checkRefusal, checkPackedRefusal, heldCounts}
 use Rattle.held_key.specs.Steps.{Whole}
 use Rattle.held_key.proofs.Sizes.{sizes}
 use Rattle.held_key.proofs.Stretch.{row-past}
-use Rattle.checker.specs.Steps.{addCounts}
+use Rattle.check_tests.proofs.Passed.{whole, check-passed, check-packed-passed}
+use Rattle.checker.specs.Steps.{ForWeigh, ForWeighPacked, addCounts}
 use Rattle.checker.proofs.Product.{full-counts}
 
 -- ---- the ones and twos that the working space and s give
@@ -46,3 +47,27 @@ pub few-counts : {h : Held} {ones twos : List ℕ} {c : Counts} (y s : ℕ → T
 unfolding heldCounts fullCounts
 few-counts {h} {ones} {twos} {c} y s w e =
     omega (arith, ap sumOf e, counts-le (fullWord (rowTrits h) (h .k) (heldKey h ones twos) y s) (rowTrits h + h .k), sizes h (w .is-sound))
+
+-- ---- a check that passed its tests can be weighed
+
+pub ready : (c : Check) → checkRefusal c ≡ 0
+    → ForWeigh (c .held) (c .ones) (c .twos) (c .yOnes) (c .yTwos) (c .sOnes) (c .sTwos) (c .workOnes) (c .workTwos)
+ready c e =
+    let (called, lengths, contents) = check-passed c e in record {
+      whole = whole called;
+      lengths = lengths;
+      contents = contents;
+      work-ones = called .work-ones;
+      work-twos = called .work-twos;
+    }
+
+pub packed-ready : (c : PackedCheck) → checkPackedRefusal c ≡ 0
+    → ForWeighPacked (c .held) (c .ones) (c .twos) (c .y) (c .s) (c .workOnes) (c .workTwos)
+packed-ready c e =
+    let (called, lengths, contents) = check-packed-passed c e in record {
+      whole = whole called;
+      lengths = lengths;
+      contents = contents;
+      work-ones = called .work-ones;
+      work-twos = called .work-twos;
+    }

@@ -5,9 +5,9 @@ use native.Mathlib.Omega.{arith}
 use borrow.Author.Needs.{needs}
 use denote.Ref.{now}
 use Rattle.trits.proofs.Refusals.{positive, left-kept}
-use Rattle.check_tests.proofs.Passed.{whole, check-passed}
 use Rattle.check_tests.proofs.Answers.{answer-kept, answer-new, leaves-check, left-zero}
 use Rattle.checker.specs.Steps.{ForWeigh}
+use Rattle.checker.proofs.Weighed.{ready}
 use Rattle.bench_check.proofs.Laws.{after-few}
 use Rattle.bench_check.proofs.bench_weigh.Statement.{statement}
 use Rattle.bench_check.proofs.bench_weigh.Tie as tie
@@ -51,21 +51,13 @@ abbrev start-from-else1 : tie.Else1 → tie.Start
 start-from-else1 c = start-from-slice-known2 (c .before .before .before .before .before)
 
 -- past the tests the key is whole, and y, s and the working space are in order
-ready : (c : tie.Else1) → let a = start-from-else1 c .args in
+past-tests : (c : tie.Else1) → let a = start-from-else1 c .args in
     ForWeigh (a .held) (now (a .ones)) (now (a .twos)) (now (a .y-ones)) (now (a .y-twos)) (now (a .s-ones)) (now (a .s-twos))
     (now (a .work-ones)) (now (a .work-twos))
-ready c =
-    let (called, lengths, contents) =
-    check-passed _ (sym (c .before .before .test-check .ensures) ∙ sym (c .before .code .ensures) ∙ c .if1 .left) in record {
-      whole = whole called;
-      lengths = lengths;
-      contents = contents;
-      work-ones = called .work-ones;
-      work-twos = called .work-twos;
-    }
+past-tests c = ready _ (sym (c .before .before .test-check .ensures) ∙ sym (c .before .code .ensures) ∙ c .if1 .left)
 
 weigh-times-requires : tie.Need-weigh-times-requires
-weigh-times-requires c κs = ready (c .before .before)
+weigh-times-requires c κs = past-tests (c .before .before)
 
 zero-words-requires : tie.Need-zero-words-requires
 zero-words-requires c κs = tt
@@ -78,7 +70,7 @@ judge-requires-2 c κs =
     let after-zero-words = c .before .before .before .before .before .before in
     let after-weigh-times = after-zero-words .before .before .before .before .before .before in
     let else1 = after-weigh-times .before .before .before in
-    after-few (start-from-else1 else1 .args .times) _ _ (ready else1 .whole) (after-weigh-times .weigh-times .ensures)
+    after-few (start-from-else1 else1 .args .times) _ _ (past-tests else1 .whole) (after-weigh-times .weigh-times .ensures)
 
 tell-requires-2 : tie.Need-tell-requires-2
 tell-requires-2 c κs = tt

@@ -5,9 +5,9 @@ use native.Mathlib.Omega.{arith}
 use borrow.Author.Needs.{needs}
 use denote.Ref.{now}
 use Rattle.trits.proofs.Refusals.{positive, left-kept}
-use Rattle.check_tests.proofs.Passed.{whole, check-packed-passed}
 use Rattle.check_tests.proofs.Answers.{answer-kept, answer-new, leaves-packed-check, left-zero}
 use Rattle.checker.specs.Steps.{ForWeighPacked}
+use Rattle.checker.proofs.Weighed.{packed-ready}
 use Rattle.bench_check.proofs.Laws.{after-few}
 use Rattle.bench_check.proofs.bench_weigh_packed.Statement.{statement}
 use Rattle.bench_check.proofs.bench_weigh_packed.Tie as tie
@@ -51,20 +51,12 @@ abbrev start-from-else1 : tie.Else1 → tie.Start
 start-from-else1 c = start-from-slice-known2 (c .before .before .before .before .before)
 
 -- past the tests the key is whole, and y, s and the working space are in order
-ready : (c : tie.Else1) → let a = start-from-else1 c .args in
+past-tests : (c : tie.Else1) → let a = start-from-else1 c .args in
     ForWeighPacked (a .held) (now (a .ones)) (now (a .twos)) (now (a .y)) (now (a .s)) (now (a .work-ones)) (now (a .work-twos))
-ready c =
-    let (called, lengths, contents) =
-    check-packed-passed _ (sym (c .before .before .test-packed-check .ensures) ∙ sym (c .before .code .ensures) ∙ c .if1 .left) in record {
-      whole = whole called;
-      lengths = lengths;
-      contents = contents;
-      work-ones = called .work-ones;
-      work-twos = called .work-twos;
-    }
+past-tests c = packed-ready _ (sym (c .before .before .test-packed-check .ensures) ∙ sym (c .before .code .ensures) ∙ c .if1 .left)
 
 weigh-packed-times-requires : tie.Need-weigh-packed-times-requires
-weigh-packed-times-requires c κs = ready (c .before .before)
+weigh-packed-times-requires c κs = past-tests (c .before .before)
 
 zero-words-requires : tie.Need-zero-words-requires
 zero-words-requires c κs = tt
@@ -77,7 +69,7 @@ judge-requires-2 c κs =
     let after-zero-words = c .before .before .before .before .before .before in
     let after-weigh-packed-times = after-zero-words .before .before .before .before .before .before in
     let else1 = after-weigh-packed-times .before .before .before in
-    after-few (start-from-else1 else1 .args .times) _ _ (ready else1 .whole) (after-weigh-packed-times .weigh-packed-times .ensures)
+    after-few (start-from-else1 else1 .args .times) _ _ (past-tests else1 .whole) (after-weigh-packed-times .weigh-packed-times .ensures)
 
 tell-requires-2 : tie.Need-tell-requires-2
 tell-requires-2 c κs = tt

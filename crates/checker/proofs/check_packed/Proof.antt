@@ -6,10 +6,9 @@ use borrow.Author.Needs.{needs}
 use denote.Ref.{now}
 use Rattle.trits.proofs.Refusals.{positive, left-kept}
 use Rattle.check_tests.specs.Check.{checkPackedAnswer}
-use Rattle.check_tests.proofs.Passed.{whole, check-packed-passed}
 use Rattle.check_tests.proofs.Answers.{answer-kept, answer-new, leaves-packed-check, left-zero}
 use Rattle.checker.specs.Steps.{ForWeighPacked}
-use Rattle.checker.proofs.Weighed.{few-counts}
+use Rattle.checker.proofs.Weighed.{few-counts, packed-ready}
 use Rattle.checker.proofs.Spaces.{packed-spaces}
 use Rattle.checker.proofs.check_packed.Statement.{statement}
 use Rattle.checker.proofs.check_packed.Tie as tie
@@ -54,20 +53,12 @@ abbrev start-from-else1 : tie.Else1 → tie.Start
 start-from-else1 c = start-from-slice-known2 (c .before .before .before .before .before)
 
 -- past the tests the key is whole, and y, s and the working space are in order
-ready : (c : tie.Else1) → let a = start-from-else1 c .args in
+past-tests : (c : tie.Else1) → let a = start-from-else1 c .args in
     ForWeighPacked (a .held) (now (a .ones)) (now (a .twos)) (now (a .y)) (now (a .s)) (now (a .work-ones)) (now (a .work-twos))
-ready c =
-    let (called, lengths, contents) =
-    check-packed-passed _ (sym (c .before .before .test-packed-check .ensures) ∙ sym (c .before .code .ensures) ∙ c .if1 .left) in record {
-      whole = whole called;
-      lengths = lengths;
-      contents = contents;
-      work-ones = called .work-ones;
-      work-twos = called .work-twos;
-    }
+past-tests c = packed-ready _ (sym (c .before .before .test-packed-check .ensures) ∙ sym (c .before .code .ensures) ∙ c .if1 .left)
 
 weigh-packed-requires : tie.Need-weigh-packed-requires
-weigh-packed-requires c κs = ready (c .before .before)
+weigh-packed-requires c κs = past-tests (c .before .before)
 
 zero-words-requires : tie.Need-zero-words-requires
 zero-words-requires c κs = tt
@@ -79,7 +70,7 @@ judge-requires-2 : tie.Need-judge-requires-2
 judge-requires-2 c κs =
     let after-zero-words = c .before .before .before .before .before .before in
     let after-weigh-packed = after-zero-words .before .before .before .before .before .before in
-    few-counts _ _ (ready (after-weigh-packed .before .before .before) .whole) (after-weigh-packed .weigh-packed .ensures)
+    few-counts _ _ (past-tests (after-weigh-packed .before .before .before) .whole) (after-weigh-packed .weigh-packed .ensures)
 
 same-length-3 : tie.Need-same-length-3
 same-length-3 c = search needs

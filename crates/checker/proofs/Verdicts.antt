@@ -26,7 +26,7 @@ use Rattle.check_tests.specs.Check.{callRefusal, packedLengths, packedContents,
 use Rattle.check_tests.specs.Check.{Check, checkRefusal, checkAnswer, PackedCheck, checkPackedRefusal, checkPackedAnswer}
 use Rattle.held_key.proofs.Sizes.{sizes}
 use Rattle.verdict.proofs.FullWord.{verifier, extends-once, counts-of, yes-sum}
-use Rattle.check_tests.proofs.Passed.{Fitted, fitted, contents, check-passed}
+use Rattle.check_tests.proofs.Passed.{Fitted, fitted, contents, check-passed, check-packed-passed}
 
 -- ---- yes
 
@@ -63,17 +63,29 @@ unfolding checkPackedAnswer
 check-packed-verdict c e = rw e (found (c .held) (c .ones) (c .twos) (packedRow (rowTrits (c .held)) (c .y)) (packedRow (c .held .k) (c .s)))
 
 -- the ones and twos that a check answers are those of that word
-module _ (c : Check) (e : checkRefusal c ≡ 0) where
-  pub check-counts : (v : ℕ → Trit)
-      → Extending (rowTrits (c .held)) (c .held .k) (heldKey (c .held) (c .ones) (c .twos)) (tritAt (c .yOnes) (c .yTwos)) (tritAt (c .sOnes) (c .sTwos)) v
-      → (checkAnswer c .ones ≡ onesV v (c .held .n)) × (checkAnswer c .twos ≡ twosV v (c .held .n))
-  unfolding checkAnswer answered heldCounts
-  check-counts v x =
-      let h = c .held in
-      let all : rowTrits h + h .k ≡ h .n = omega (arith, sizes h (check-passed c e .0 .is-sound)) in
-      let f = counts-of (rowTrits h) (h .k) (heldKey h (c .ones) (c .twos)) (tritAt (c .yOnes) (c .yTwos)) (tritAt (c .sOnes) (c .sTwos)) v
-      (x .has-syndrome) (x .extends) ∙ ap (countsV v) all in
-      (rw e (ap (λ (k : Counts). k .ones) f), rw e (ap (λ (k : Counts). k .twos) f))
+word-counts : (h : Held) (ones twos : List ℕ) (y s v : ℕ → Trit) → sound h ≡ true → Extending (rowTrits h) (h .k) (heldKey h ones twos) y s v
+    → heldCounts h ones twos y s ≡ countsV v (h .n)
+unfolding heldCounts
+word-counts h ones twos y s v z x =
+    let all : rowTrits h + h .k ≡ h .n = omega (arith, sizes h z) in
+    counts-of (rowTrits h) (h .k) (heldKey h ones twos) y s v (x .has-syndrome) (x .extends) ∙ ap (countsV v) all
+
+pub check-counts : (c : Check) → checkRefusal c ≡ 0 → (v : ℕ → Trit) → let h = c .held in
+    Extending (rowTrits h) (h .k) (heldKey h (c .ones) (c .twos)) (tritAt (c .yOnes) (c .yTwos)) (tritAt (c .sOnes) (c .sTwos)) v
+    → (checkAnswer c .ones ≡ onesV v (h .n)) × (checkAnswer c .twos ≡ twosV v (h .n))
+unfolding checkAnswer answered
+check-counts c e v x =
+    let f = word-counts (c .held) (c .ones) (c .twos) (tritAt (c .yOnes) (c .yTwos)) (tritAt (c .sOnes) (c .sTwos)) v (check-passed c e .0 .is-sound) x in
+    (rw e (ap (λ (k : Counts). k .ones) f), rw e (ap (λ (k : Counts). k .twos) f))
+
+pub check-packed-counts : (c : PackedCheck) → checkPackedRefusal c ≡ 0 → (v : ℕ → Trit) → let h = c .held in
+    Extending (rowTrits h) (h .k) (heldKey h (c .ones) (c .twos)) (packedRow (rowTrits h) (c .y)) (packedRow (h .k) (c .s)) v
+    → (checkPackedAnswer c .ones ≡ onesV v (h .n)) × (checkPackedAnswer c .twos ≡ twosV v (h .n))
+unfolding checkPackedAnswer answered
+check-packed-counts c e v x =
+    let h = c .held in
+    let f = word-counts h (c .ones) (c .twos) (packedRow (rowTrits h) (c .y)) (packedRow (h .k) (c .s)) v (check-packed-passed c e .0 .is-sound) x in
+    (rw e (ap (λ (k : Counts). k .ones) f), rw e (ap (λ (k : Counts). k .twos) f))
 
 -- and there is one such word
 pub found-once : (h : Held) (ones twos : List ℕ) (y s e f : ℕ → Trit) → sound h ≡ true → Extending (rowTrits h) (h .k) (heldKey h ones twos) y s e

@@ -145,8 +145,8 @@ fn weigh_packed_times(
     times: usize,
 ) -> Counts
     requires { ⌜ ForWeighPacked held (now ones) (now twos) (now y) (now s) (now «work_ones») (now «work_twos») ⌝ }
-    ensures { λ r. ⌜ r ≡ after times (heldCounts held (now (ones .entry)) (now (twos .entry)) (packedRow (rowTrits held) (now (y .entry)))
-        (packedRow (held .k) (now (s .entry)))) ⌝ }
+    ensures { λ r. ⌜ r ≡ after times (heldCounts held (now (ones .entry)) (now (twos .entry)) (packedRow (now (y .entry)))
+        (packedRow (now (s .entry)))) ⌝ }
 {
     let mut counts = Counts { ones: 0, twos: 0 };
     let mut i = 0;

@@ -13,7 +13,7 @@ use Rattle.trits.specs.Refusal.{numberOf, spaceExit}
 use Rattle.trits.specs.declared.refusal.Refusal.{Refusal}
 use Rattle.trits.proofs.Refusals.{number-positive, space-zero}
 use Rattle.trits.proofs.Refusals.{Leaves, leaves-none, leaves-refuse, leaves-demand, leaves-first, leaves-planes}
-use Rattle.packed.specs.Packed.{bytesFor, badByte, packedRefusal}
+use Rattle.packed.specs.Packed.{bytesFor, badByte, packedPastEnd, packedRefusal}
 use Rattle.held_key.specs.declared.state.Held.{Held}
 use Rattle.held_key.specs.Held.{sound, rowTrits, rowWords, keyWords}
 use Rattle.check_tests.specs.declared.Checked.{Checked}
@@ -78,8 +78,12 @@ leaves-check c =
     (leaves-first _ _ (leaves-planes (c .ones) (c .twos) (h .k) (rowTrits h))
     (leaves-first _ _ (leaves-planes (c .yOnes) (c .yTwos) 1 (rowTrits h)) (leaves-planes (c .sOnes) (c .sTwos) 1 (h .k)))))
 
+leaves-packed : (m : ℕ) (bytes : List ℕ) → Leaves (packedRefusal m bytes)
+unfolding packedRefusal
+leaves-packed m bytes = leaves-refuse (badByte bytes) 5 _ refl (leaves-refuse (packedPastEnd m bytes) 15 0 refl leaves-none)
+
 pub leaves-packed-check : (c : PackedCheck) → Leaves (checkPackedRefusal c)
-unfolding checkPackedRefusal packedLengths packedContents packedRefusal
+unfolding checkPackedRefusal packedLengths packedContents
 leaves-packed-check c =
     let h = c .held in
     leaves-first _ _ (leaves-call h (c .number) (length (c .ones)) (length (c .twos)) (length (c .workOnes)) (length (c .workTwos)))
@@ -88,7 +92,7 @@ leaves-packed-check c =
     (leaves-demand (eqb (length (c .s)) (bytesFor (h .k))) 2 0 refl
     leaves-none))
     (leaves-first _ _ (leaves-planes (c .ones) (c .twos) (h .k) (rowTrits h))
-    (leaves-first _ _ (leaves-refuse (badByte (c .y)) 5 0 refl leaves-none) (leaves-refuse (badByte (c .s)) 5 0 refl leaves-none))))
+    (leaves-first _ _ (leaves-packed (rowTrits h) (c .y)) (leaves-packed (h .k) (c .s)))))
 
 -- a plane that was zeroed after a check that passed
 pub left-zero : (plane : List ℕ) {p : List ℕ} {r n : ℕ} → r ≡ 0 → n ≡ length plane → p ≡ zeroWords n → p ≡ spaceExit r plane

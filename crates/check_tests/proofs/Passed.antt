@@ -84,11 +84,11 @@ contents h ones twos yo yt so st e =
     (a .0, b .0, b .1)
 
 pub packed-contents : (h : Held) (ones twos y s : List ℕ) → packedContents h ones twos y s ≡ 0
-    → (planesRefusal ones twos (h .k) (rowTrits h) ≡ 0) × (packedRefusal y ≡ 0) × (packedRefusal s ≡ 0)
+    → (planesRefusal ones twos (h .k) (rowTrits h) ≡ 0) × (packedRefusal (rowTrits h) y ≡ 0) × (packedRefusal (h .k) s ≡ 0)
 unfolding packedContents
 packed-contents h ones twos y s e =
     let a = passed-first (planesRefusal ones twos (h .k) (rowTrits h)) _ e in
-    let b = passed-first (packedRefusal y) (packedRefusal s) (a .1) in
+    let b = passed-first (packedRefusal (rowTrits h) y) (packedRefusal (h .k) s) (a .1) in
     (a .0, b .0, b .1)
 
 -- a check in planes passed

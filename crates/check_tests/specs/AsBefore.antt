@@ -26,7 +26,7 @@ checkWord c =
 abbrev pub checkPackedWord : PackedCheck → ℕ → Trit
 checkPackedWord c =
     let h = c .held in
-    fullWord (rowTrits h) (h .k) (heldKey h (c .ones) (c .twos)) (packedRow (rowTrits h) (c .y)) (packedRow (h .k) (c .s))
+    fullWord (rowTrits h) (h .k) (heldKey h (c .ones) (c .twos)) (packedRow (c .y)) (packedRow (c .s))
 
 -- the answer of a check that counts its full word so
 abbrev pub checkBy : CountRule → Check → Checked

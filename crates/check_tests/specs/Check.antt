@@ -97,12 +97,12 @@ packedLengths h y s =
     (demand (eqb s (bytesFor (h .k))) 2
     0)
 
--- then the contents: the held rows, y, s
+-- then the contents: the held rows, y (5, 15), s (5, 15)
 unfoldable pub packedContents : Held → List ℕ → List ℕ → List ℕ → List ℕ → ℕ
 packedContents h ones twos y s =
     first (planesRefusal ones twos (h .k) (rowTrits h))
-    (first (packedRefusal y)
-    (packedRefusal s))
+    (first (packedRefusal (rowTrits h) y)
+    (packedRefusal (h .k) s))
 
 -- the check of y and s in planes
 unfoldable pub checkRefusal : Check → ℕ
@@ -148,7 +148,7 @@ checkAnswer c = answered (checkRefusal c) (checkCounts c) (c .held .w)
 
 -- what the check of packed y and s counts and answers
 abbrev pub checkPackedCounts : PackedCheck → Counts
-checkPackedCounts c = heldCounts (c .held) (c .ones) (c .twos) (packedRow (rowTrits (c .held)) (c .y)) (packedRow (c .held .k) (c .s))
+checkPackedCounts c = heldCounts (c .held) (c .ones) (c .twos) (packedRow (c .y)) (packedRow (c .s))
 
 unfoldable pub checkPackedAnswer : PackedCheck → Checked
 checkPackedAnswer c = answered (checkPackedRefusal c) (checkPackedCounts c) (c .held .w)

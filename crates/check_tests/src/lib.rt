@@ -143,22 +143,20 @@ fn test_contents(
 // The contents of a packed check: the held rows, y, s.
 fn test_packed_contents(held: Held, ones: &[u64], twos: &[u64], y: &[u8], s: &[u8]) -> Outcome
     requires { ⌜ Whole held (now ones) (now twos) ⌝ }
+    requires { ⌜ packedLengths held (length (now y)) (length (now s)) ≡ 0 ⌝ }
     ensures { λ r. ⌜ codeOf r ≡ packedContents held (now (ones .entry)) (now (twos .entry)) (now (y .entry)) (now (s .entry)) ⌝ }
 {
-    let rows = planes::faults::test_planes(
-        ones,
-        twos,
-        held.k as usize,
-        held_key::state::row_trits(held),
-    );
+    let m = held_key::state::row_trits(held);
+    let k = held.k as usize;
+    let rows = planes::faults::test_planes(ones, twos, k, m);
     if trits::refusal::code(rows) != 0 {
         return rows;
     }
-    let tested = packing::faults::test_bytes(y);
+    let tested = packing::faults::test_bytes(m, y);
     if trits::refusal::code(tested) != 0 {
         return tested;
     }
-    packing::faults::test_bytes(s)
+    packing::faults::test_bytes(k, s)
 }
 
 // Whether y and s in planes have their lengths.

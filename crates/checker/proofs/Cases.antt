@@ -8,7 +8,7 @@ use Rattle.trits.specs.Trit.{sumTo, dotV, anyTo, upTo}
 use Rattle.trits.specs.Planes.{bit, bitAt, tritAt, fromBits, tabulate, onesOf, twosOf, bothSet, pastEnd, zeroWords}
 use Rattle.trits.specs.Rows.{rowPart, putWords, rowsPastEnd}
 use Rattle.trits.specs.Refusal.{first, spaceExit, planesRefusal}
-use Rattle.packed.specs.Packed.{digitOf, packedAt, packedRow, badByte, packedRefusal}
+use Rattle.packed.specs.Packed.{digitOf, packedRow, badByte, packedPastEnd, packedRefusal}
 use Rattle.held_key.specs.declared.state.Held.{Held}
 use Rattle.verdict.specs.Verdict.{timesKey, fullWord, fullCounts}
 use Rattle.held_key.specs.Held.{numbersFit, sound, heldRow, heldKey}
@@ -56,8 +56,8 @@ abbrev rows : ℕ → List ℕ
 rows i = cond (eqb i 0) (6 ∷ []) (8 ∷ [])
 
 loaded : offerAll rows 2 (record { held = held 0; ones = 99 ∷ 99 ∷ []; twos = 98 ∷ 98 ∷ [] }) ≡ record { held = held 2; ones = 0 ∷ 0 ∷ []; twos = 2 ∷ 3 ∷ [] }
-unfolding offerAll offer storedHeld storedPlane storePackedRefusal first rowRefusal sound numbersFit packedRefusal badByte anyTo nextHeld putWords onesOf twosOf
-    tabulate fromBits packedRow packedAt digitOf upTo
+unfolding offerAll offer storedHeld storedPlane storePackedRefusal first rowRefusal sound numbersFit packedRefusal badByte packedPastEnd anyTo nextHeld putWords onesOf twosOf
+    tabulate fromBits packedRow digitOf
 loaded = refl
 
 -- a third row is 21
@@ -69,14 +69,14 @@ third = refl
 line-1 : checkPackedAnswer (packedCheckOf (held 2) 7 (0 ∷ 0 ∷ []) (2 ∷ 3 ∷ []) (7 ∷ []) (4 ∷ []) (5 ∷ []) (5 ∷ []))
     ≡ record { refusal = 0; yes = 1; ones = 3; twos = 1 }
 unfolding checkPackedAnswer answered checkPackedRefusal first callRefusal sound numbersFit packedLengths packedContents planesRefusal bothSet anyTo bitAt bit
-    rowsPastEnd rowPart heldRow pastEnd tritAt packedRefusal badByte heldCounts fullCounts sumTo fullWord timesKey dotV heldKey packedRow packedAt digitOf upTo
+    rowsPastEnd rowPart heldRow pastEnd tritAt packedRefusal badByte packedPastEnd heldCounts fullCounts sumTo fullWord timesKey dotV heldKey packedRow digitOf
 line-1 = refl
 
 -- S 7 13 12 12: one 1 and two 2s, no
 line-2 : checkPackedAnswer (packedCheckOf (held 2) 7 (0 ∷ 0 ∷ []) (2 ∷ 3 ∷ []) (7 ∷ []) (7 ∷ []) (5 ∷ []) (5 ∷ []))
     ≡ record { refusal = 0; yes = 0; ones = 1; twos = 2 }
 unfolding checkPackedAnswer answered checkPackedRefusal first callRefusal sound numbersFit packedLengths packedContents planesRefusal bothSet anyTo bitAt bit
-    rowsPastEnd rowPart heldRow pastEnd tritAt packedRefusal badByte heldCounts fullCounts sumTo fullWord timesKey dotV heldKey packedRow packedAt digitOf upTo
+    rowsPastEnd rowPart heldRow pastEnd tritAt packedRefusal badByte packedPastEnd heldCounts fullCounts sumTo fullWord timesKey dotV heldKey packedRow digitOf
 line-2 = refl
 
 -- S 8 14 12 11: 22
@@ -124,15 +124,46 @@ past = refl
 
 large : checkPackedRefusal (packedCheckOf (held 2) 7 (0 ∷ 0 ∷ []) (2 ∷ 3 ∷ []) (243 ∷ []) (4 ∷ []) (5 ∷ []) (5 ∷ [])) ≡ 5
 unfolding checkPackedRefusal first callRefusal sound numbersFit packedLengths packedContents planesRefusal bothSet anyTo bitAt bit rowsPastEnd rowPart pastEnd
-    packedRefusal badByte
+    packedRefusal badByte packedPastEnd
 large = refl
+
+-- a trit past the length: 15 in y comes before 5 in s, 5 in y before 15 in s, and s is tested as y is
+past-y : checkPackedRefusal (packedCheckOf (held 2) 7 (0 ∷ 0 ∷ []) (2 ∷ 3 ∷ []) (9 ∷ []) (243 ∷ []) (5 ∷ []) (5 ∷ [])) ≡ 15
+unfolding checkPackedRefusal first callRefusal sound numbersFit packedLengths packedContents planesRefusal bothSet anyTo bitAt bit rowsPastEnd rowPart pastEnd
+    packedRefusal badByte packedPastEnd packedRow digitOf
+past-y = refl
+
+large-y : checkPackedRefusal (packedCheckOf (held 2) 7 (0 ∷ 0 ∷ []) (2 ∷ 3 ∷ []) (243 ∷ []) (9 ∷ []) (5 ∷ []) (5 ∷ [])) ≡ 5
+unfolding checkPackedRefusal first callRefusal sound numbersFit packedLengths packedContents planesRefusal bothSet anyTo bitAt bit rowsPastEnd rowPart pastEnd
+    packedRefusal badByte packedPastEnd packedRow digitOf
+large-y = refl
+
+past-s : checkPackedRefusal (packedCheckOf (held 2) 7 (0 ∷ 0 ∷ []) (2 ∷ 3 ∷ []) (7 ∷ []) (13 ∷ []) (5 ∷ []) (5 ∷ [])) ≡ 15
+unfolding checkPackedRefusal first callRefusal sound numbersFit packedLengths packedContents planesRefusal bothSet anyTo bitAt bit rowsPastEnd rowPart pastEnd
+    packedRefusal badByte packedPastEnd packedRow digitOf
+past-s = refl
+
+-- a row with one is 15, and nothing is stored
+past-row : offer (record { held = held 1; ones = 0 ∷ 99 ∷ []; twos = 2 ∷ 98 ∷ [] }) (17 ∷ [])
+    ≡ record { held = held 1; ones = 0 ∷ 99 ∷ []; twos = 2 ∷ 98 ∷ [] }
+unfolding offer storedHeld storedPlane storePackedRefusal first rowRefusal sound numbersFit packedRefusal badByte packedPastEnd packedRow digitOf anyTo
+past-row = refl
+
+past-told : storePackedRefusal (packedStoreOf (held 1) (0 ∷ 99 ∷ []) (2 ∷ 98 ∷ []) (17 ∷ [])) ≡ 15
+unfolding storePackedRefusal first rowRefusal sound numbersFit packedRefusal badByte packedPastEnd packedRow digitOf anyTo
+past-told = refl
 
 -- the working space: zero after a verdict, as it was after a refusal
 cleared : checkPackedWorkOnes (packedCheckOf (held 2) 7 (0 ∷ 0 ∷ []) (2 ∷ 3 ∷ []) (7 ∷ []) (4 ∷ []) (5 ∷ []) (6 ∷ [])) ≡ 0 ∷ []
 unfolding spaceExit checkPackedRefusal first callRefusal sound numbersFit packedLengths packedContents planesRefusal bothSet anyTo bitAt bit rowsPastEnd rowPart
-    pastEnd packedRefusal badByte zeroWords tabulate
+    pastEnd packedRefusal badByte packedPastEnd packedRow digitOf zeroWords tabulate
 cleared = refl
 
 kept : checkPackedWorkTwos (packedCheckOf (held 2) 8 (0 ∷ 0 ∷ []) (2 ∷ 3 ∷ []) (7 ∷ []) (4 ∷ []) (5 ∷ []) (6 ∷ [])) ≡ 6 ∷ []
 unfolding spaceExit checkPackedRefusal first callRefusal sound numbersFit
 kept = refl
+
+past-kept : checkPackedWorkTwos (packedCheckOf (held 2) 7 (0 ∷ 0 ∷ []) (2 ∷ 3 ∷ []) (7 ∷ []) (13 ∷ []) (5 ∷ []) (6 ∷ [])) ≡ 6 ∷ []
+unfolding spaceExit checkPackedRefusal first callRefusal sound numbersFit packedLengths packedContents planesRefusal bothSet anyTo bitAt bit rowsPastEnd rowPart
+    pastEnd packedRefusal badByte packedPastEnd packedRow digitOf
+past-kept = refl

@@ -13,8 +13,7 @@ use Rattle.trits.specs.Planes.{onesOf, twosOf, wordsFor}
 use Rattle.trits.specs.declared.Counts.{Counts}
 use Rattle.trits.proofs.Refusals.{first-goes, exit-new}
 use Rattle.trits.proofs.Reading.{length-ones, length-twos}
-use Rattle.packed.specs.Packed.{bytesFor, packedRow, badByte}
-use Rattle.packed.proofs.Turned.{bytes-good}
+use Rattle.packed.specs.Packed.{bytesFor, packedRow, packedRefusal}
 use Rattle.held_key.specs.declared.state.Held.{Held}
 use Rattle.verdict.specs.Verdict.{Key, fullCounts}
 use Rattle.held_key.specs.Held.{numbersFit, sound, heldKey}
@@ -31,7 +30,7 @@ use Rattle.held_key.proofs.Loader.{put-size}
 use Rattle.held_key.proofs.Filled.{Filled, filled-none, filled-packed, filled-row, filled-passes}
 
 module _ (number n k w : ℕ) (z : numbersFit number n k w ≡ true) (rows : ℕ → List ℕ)
-    (size : (i : ℕ) → i < k → length (rows i) ≡ bytesFor (n - k)) (good : (i : ℕ) → i < k → badByte (rows i) ≡ false) where
+    (size : (i : ℕ) → i < k → length (rows i) ≡ bytesFor (n - k)) (good : (i : ℕ) → i < k → packedRefusal (n - k) (rows i) ≡ 0) where
   -- the state with i rows
   abbrev pub heldAt : ℕ → Held
   heldAt i = record { begun = 1; number = number; n = n; k = k; w = w; rows = i }
@@ -43,7 +42,7 @@ module _ (number n k w : ℕ) (z : numbersFit number n k w ≡ true) (rows : ℕ
 
   -- the key of the rows offered
   abbrev pub key : Key
-  key i = packedRow (n - k) (rows i)
+  key i = packedRow (rows i)
 
   sound-at : (i : ℕ) → i ≤ k → sound (heldAt i) ≡ true
   unfolding sound
@@ -72,7 +71,7 @@ module _ (number n k w : ℕ) (z : numbersFit number n k w ≡ true) (rows : ℕ
 
     row-passes : storePackedRefusal c ≡ 0
     unfolding storePackedRefusal
-    row-passes = sym (first-goes (sym state-passes) refl (bytes-good (rows i) (good i l) ∙ rw (eq-eqb (length (rows i)) (bytesFor (n - k)) (size i l))))
+    row-passes = sym (first-goes (sym state-passes) refl (sym (good i l) ∙ rw (eq-eqb (length (rows i)) (bytesFor (n - k)) (size i l))))
 
     module _ (f : Filled (heldAt i) ones twos key) where
       more : Good (suc i) (offer (record { held = heldAt i; ones = ones; twos = twos }) (rows i))
@@ -102,8 +101,8 @@ module _ (number n k w : ℕ) (z : numbersFit number n k w ≡ true) (rows : ℕ
   offered ones twos p q (suc i) l = next i (offerAll rows i (record { held = heldAt 0; ones = ones; twos = twos })) l (offered ones twos p q i (omega arith))
 
   -- and then a check
-  module _ (s : Holding) (g : Good k s) (y t wo wt : List ℕ) (yl : length y ≡ bytesFor (n - k)) (tl : length t ≡ bytesFor k) (yg : badByte y ≡ false)
-      (tg : badByte t ≡ false)
+  module _ (s : Holding) (g : Good k s) (y t wo wt : List ℕ) (yl : length y ≡ bytesFor (n - k)) (tl : length t ≡ bytesFor k)
+      (yg : packedRefusal (n - k) y ≡ 0) (tg : packedRefusal k t ≡ 0)
       (ol : length wo ≡ wordsFor (n - k)) (pl : length wt ≡ wordsFor (n - k)) where
     whole : Whole (heldAt k) (s .ones) (s .twos)
     whole = record { is-sound = sound-at k (le-refl k); all-rows = refl; ones-size = g .ones-size; twos-size = g .twos-size }
@@ -127,7 +126,7 @@ module _ (number n k w : ℕ) (z : numbersFit number n k w ≡ true) (rows : ℕ
 
     contents-pass : 0 ≡ packedContents (heldAt k) (s .ones) (s .twos) y t
     unfolding packedContents
-    contents-pass = first-goes (sym (filled-passes whole key (g .rows-are))) refl (first-goes (bytes-good y yg) refl (bytes-good t tg))
+    contents-pass = first-goes (sym (filled-passes whole key (g .rows-are))) refl (first-goes (sym yg) refl (sym tg))
 
     abbrev asks : PackedCheck
     asks = packedCheckOf (heldAt k) number (s .ones) (s .twos) y t wo wt
@@ -137,24 +136,24 @@ module _ (number n k w : ℕ) (z : numbersFit number n k w ≡ true) (rows : ℕ
     unfolding checkPackedRefusal
     accepted = sym (first-goes (sym call-passes) refl (first-goes (sym lengths-pass) refl contents-pass))
 
-    counts-are : checkPackedCounts asks ≡ fullCounts (n - k) k key (packedRow (n - k) y) (packedRow k t)
+    counts-are : checkPackedCounts asks ≡ fullCounts (n - k) k key (packedRow y) (packedRow t)
     unfolding heldCounts
-    counts-are = counts-cong (n - k) k (heldKey (heldAt k) (s .ones) (s .twos)) (packedRow (n - k) y) (packedRow k t) key
+    counts-are = counts-cong (n - k) k (heldKey (heldAt k) (s .ones) (s .twos)) (packedRow y) (packedRow t) key
         (λ i q l. ap (λ (r : ℕ → Trit). r q) (filled-row whole key (g .rows-are) i l))
 
     -- the answer is that of the rows offered
     pub answer : checkPackedAnswer (packedCheckOf (heldAt k) number (s .ones) (s .twos) y t wo wt)
-        ≡ answered 0 (fullCounts (n - k) k key (packedRow (n - k) y) (packedRow k t)) w
+        ≡ answered 0 (fullCounts (n - k) k key (packedRow y) (packedRow t)) w
     unfolding checkPackedAnswer
     answer = ap₂ (λ (a : ℕ) (b : Counts). answered a b w) accepted counts-are
 
   -- begin, offer the k rows, check: whatever was held before and whatever the planes had, the answer is that of the rows offered
   pub loaded : (h : Held) (ones twos y t wo wt : List ℕ) → length ones ≡ k * wordsFor (n - k) → length twos ≡ k * wordsFor (n - k)
       → length y ≡ bytesFor (n - k) → length t ≡ bytesFor k
-      → badByte y ≡ false → badByte t ≡ false → length wo ≡ wordsFor (n - k) → length wt ≡ wordsFor (n - k)
+      → packedRefusal (n - k) y ≡ 0 → packedRefusal k t ≡ 0 → length wo ≡ wordsFor (n - k) → length wt ≡ wordsFor (n - k)
       → let s = offerAll rows k (record { held = beginHeld h number n k w; ones = ones; twos = twos }) in
       checkPackedAnswer (packedCheckOf (s .held) number (s .ones) (s .twos) y t wo wt)
-      ≡ answered 0 (fullCounts (n - k) k key (packedRow (n - k) y) (packedRow k t)) w
+      ≡ answered 0 (fullCounts (n - k) k key (packedRow y) (packedRow t)) w
   loaded h ones twos y t wo wt p q yl tl yg tg ol pl =
       let g = offered ones twos p q k (le-refl k) in
       let s = offerAll rows k (record { held = heldAt 0; ones = ones; twos = twos }) in

@@ -17,8 +17,7 @@ use Rattle.trits.specs.declared.Counts.{Counts}
 use Rattle.trits.proofs.Refusals.{first-goes, passed-first, row-ended}
 use Rattle.trits.proofs.Ends.{upto-ended}
 use Rattle.packed.specs.Packed.{bytesFor, packedRow, packedBytes}
-use Rattle.packed.proofs.RoundTrip.{packed-length, packed-back, packed-good}
-use Rattle.packed.proofs.Turned.{bytes-good}
+use Rattle.packed.proofs.RoundTrip.{packed-length, packed-back, packed-accepted}
 use Rattle.held_key.specs.declared.state.Held.{Held}
 use Rattle.verdict.specs.Verdict.{fullCounts, Extending, Found}
 use Rattle.held_key.specs.Held.{sound, rowTrits, heldKey}
@@ -58,9 +57,9 @@ check-verdict c e = rw e (found (c .held) (c .ones) (c .twos) (tritAt (c .yOnes)
 
 -- the packed check
 pub check-packed-verdict : (c : PackedCheck) → checkPackedRefusal c ≡ 0 → let h = c .held in
-    (checkPackedAnswer c .yes ≡ 1) ↔ Found (rowTrits h) (h .k) (h .w) (heldKey h (c .ones) (c .twos)) (packedRow (rowTrits h) (c .y)) (packedRow (h .k) (c .s))
+    (checkPackedAnswer c .yes ≡ 1) ↔ Found (rowTrits h) (h .k) (h .w) (heldKey h (c .ones) (c .twos)) (packedRow (c .y)) (packedRow (c .s))
 unfolding checkPackedAnswer
-check-packed-verdict c e = rw e (found (c .held) (c .ones) (c .twos) (packedRow (rowTrits (c .held)) (c .y)) (packedRow (c .held .k) (c .s)))
+check-packed-verdict c e = rw e (found (c .held) (c .ones) (c .twos) (packedRow (c .y)) (packedRow (c .s)))
 
 -- the ones and twos that a check answers are those of that word
 word-counts : (h : Held) (ones twos : List ℕ) (y s v : ℕ → Trit) → sound h ≡ true → Extending (rowTrits h) (h .k) (heldKey h ones twos) y s v
@@ -79,12 +78,12 @@ check-counts c e v x =
     (rw e (ap (λ (k : Counts). k .ones) f), rw e (ap (λ (k : Counts). k .twos) f))
 
 pub check-packed-counts : (c : PackedCheck) → checkPackedRefusal c ≡ 0 → (v : ℕ → Trit) → let h = c .held in
-    Extending (rowTrits h) (h .k) (heldKey h (c .ones) (c .twos)) (packedRow (rowTrits h) (c .y)) (packedRow (h .k) (c .s)) v
+    Extending (rowTrits h) (h .k) (heldKey h (c .ones) (c .twos)) (packedRow (c .y)) (packedRow (c .s)) v
     → (checkPackedAnswer c .ones ≡ onesV v (h .n)) × (checkPackedAnswer c .twos ≡ twosV v (h .n))
 unfolding checkPackedAnswer answered
 check-packed-counts c e v x =
     let h = c .held in
-    let f = word-counts h (c .ones) (c .twos) (packedRow (rowTrits h) (c .y)) (packedRow (h .k) (c .s)) v (check-packed-passed c e .0 .is-sound) x in
+    let f = word-counts h (c .ones) (c .twos) (packedRow (c .y)) (packedRow (c .s)) v (check-packed-passed c e .0 .is-sound) x in
     (rw e (ap (λ (k : Counts). k .ones) f), rw e (ap (λ (k : Counts). k .twos) f))
 
 -- and there is one such word
@@ -140,17 +139,17 @@ module _ (c : Check) (e : checkRefusal c ≡ 0) where
 
   contents-pass : 0 ≡ packedContents h (c .ones) (c .twos) py ps
   unfolding packedContents
-  contents-pass = first-goes (sym (right .0)) refl (first-goes (bytes-good py (packed-good (rowTrits h) y)) refl (bytes-good ps (packed-good (h .k) s)))
+  contents-pass = first-goes (sym (right .0)) refl (first-goes (sym (packed-accepted (rowTrits h) y)) refl (sym (packed-accepted (h .k) s)))
 
   -- the packed check is not refused
   pub packed-passes : checkPackedRefusal (packedOf c) ≡ 0
   unfolding checkPackedRefusal
   packed-passes = sym (first-goes (sym call-passes) refl (first-goes (sym lengths-pass) refl contents-pass))
 
-  y-back : packedRow (rowTrits h) py ≡ y
+  y-back : packedRow py ≡ y
   y-back = packed-back (rowTrits h) y ∙ upto-ended y (rowTrits h) (row-ended (c .yOnes) (c .yTwos) (rowTrits h) (right .1) (fit .y-ones) (fit .y-twos))
 
-  s-back : packedRow (h .k) ps ≡ s
+  s-back : packedRow ps ≡ s
   s-back = packed-back (h .k) s ∙ upto-ended s (h .k) (row-ended (c .sOnes) (c .sTwos) (h .k) (right .2) (fit .s-ones) (fit .s-twos))
 
   -- and it answers the same

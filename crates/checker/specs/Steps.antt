@@ -41,7 +41,7 @@ pub record ForTakeByTable (held : Held) (ones twos s workOnes workTwos table : L
   pub readable : Row ones twos
   pub work : Work held workOnes workTwos
   pub s-size : length s ≡ bytesFor (held .k)
-  pub s-tested : packedRefusal s ≡ 0
+  pub s-tested : packedRefusal (held .k) s ≡ 0
   pub is-table : table ≡ byteTable
 
 -- a whole key, the word under work, and packed s that was tested
@@ -50,7 +50,7 @@ pub record ForTakePackedRows (held : Held) (ones twos s workOnes workTwos : List
   pub readable : Row ones twos
   pub work : Work held workOnes workTwos
   pub s-size : length s ≡ bytesFor (held .k)
-  pub s-tested : packedRefusal s ≡ 0
+  pub s-tested : packedRefusal (held .k) s ≡ 0
 
 -- a whole key, y and s in planes that were tested, and working space
 pub record ForWeigh (held : Held) (ones twos yOnes yTwos sOnes sTwos workOnes workTwos : List ℕ) : Type 0 where

@@ -87,10 +87,10 @@ fn take_by_table(
     table: &[u8; 1215],
 ) -> Counts
     requires { ⌜ ForTakeByTable held (now ones) (now twos) (now s) (now «work_ones») (now «work_twos») (now table) ⌝ }
-    ensures { λ r. ⌜ r ≡ countsV (packedRow (held .k) (now (s .entry))) (held .k) ⌝ }
+    ensures { λ r. ⌜ r ≡ countsV (packedRow (now (s .entry))) (held .k) ⌝ }
     ensures { λ _. ⌜ Reads (now («work_ones» .exit)) (now («work_twos» .exit)) (length (now («work_ones» .entry)))
         (zipV subT (tritAt (now («work_ones» .entry)) (now («work_twos» .entry)))
-        (timesKey (held .k) (heldKey held (now (ones .entry)) (now (twos .entry))) (packedRow (held .k) (now (s .entry))))) ⌝ }
+        (timesKey (held .k) (heldKey held (now (ones .entry)) (now (twos .entry))) (packedRow (now (s .entry))))) ⌝ }
 {
     let k = held.k as usize;
     let mut counts = Counts { ones: 0, twos: 0 };
@@ -114,10 +114,10 @@ fn take_packed_rows(
     work_twos: &mut [u64],
 ) -> Counts
     requires { ⌜ ForTakePackedRows held (now ones) (now twos) (now s) (now «work_ones») (now «work_twos») ⌝ }
-    ensures { λ r. ⌜ r ≡ countsV (packedRow (held .k) (now (s .entry))) (held .k) ⌝ }
+    ensures { λ r. ⌜ r ≡ countsV (packedRow (now (s .entry))) (held .k) ⌝ }
     ensures { λ _. ⌜ Reads (now («work_ones» .exit)) (now («work_twos» .exit)) (length (now («work_ones» .entry)))
         (zipV subT (tritAt (now («work_ones» .entry)) (now («work_twos» .entry)))
-        (timesKey (held .k) (heldKey held (now (ones .entry)) (now (twos .entry))) (packedRow (held .k) (now (s .entry))))) ⌝ }
+        (timesKey (held .k) (heldKey held (now (ones .entry)) (now (twos .entry))) (packedRow (now (s .entry))))) ⌝ }
 {
     let table = packing::table::byte_table();
     take_by_table(held, ones, twos, s, work_ones, work_twos, &table)
@@ -171,8 +171,8 @@ pub fn weigh_packed(
     work_twos: &mut [u64],
 ) -> Counts
     requires { ⌜ ForWeighPacked held (now ones) (now twos) (now y) (now s) (now «work_ones») (now «work_twos») ⌝ }
-    ensures { λ r. ⌜ r ≡ heldCounts held (now (ones .entry)) (now (twos .entry)) (packedRow (rowTrits held) (now (y .entry)))
-        (packedRow (held .k) (now (s .entry))) ⌝ }
+    ensures { λ r. ⌜ r ≡ heldCounts held (now (ones .entry)) (now (twos .entry)) (packedRow (now (y .entry)))
+        (packedRow (now (s .entry))) ⌝ }
 {
     packing::write::write_packed(held_key::state::row_trits(held), y, work_ones, work_twos);
     let taken = take_packed_rows(held, ones, twos, s, work_ones, work_twos);

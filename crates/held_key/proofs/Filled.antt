@@ -26,7 +26,7 @@ use Rattle.held_key.specs.Store.{PackedStore, storePackedRefusal, newOne
 use Rattle.held_key.specs.Steps.{Whole}
 use Rattle.held_key.proofs.Sizes.{sizes}
 use Rattle.held_key.proofs.Stretch.{ones-row, twos-row, ones-length}
-use Rattle.packed.proofs.Digits.{packed-out}
+use Rattle.packed.proofs.Turned.{packed-out}
 use Rattle.held_key.proofs.Room.{Room, stored-passed, stored-packed-passed}
 use Rattle.held_key.proofs.Storing.{plane-put}
 use Rattle.held_key.proofs.Loader.{put-new, put-old}
@@ -89,17 +89,18 @@ written-tested : (v : ℕ → Trit) (m n : ℕ) → ((i : ℕ) → m ≤ i → v
 written-tested v m n z l = record { apart = written-both v n; ended = written-past v m n z l }
 
 -- a packed row
-pub filled-packed : (c : PackedStore) (K : Key) → storePackedRefusal c ≡ 0 → packedRow (rowTrits (c .held)) (c .row) ≡ K (c .held .rows)
+pub filled-packed : (c : PackedStore) (K : Key) → storePackedRefusal c ≡ 0 → packedRow (c .row) ≡ K (c .held .rows)
     → Filled (c .held) (c .ones) (c .twos) K → Filled (nextHeld (c .held)) (storePackedOnes c) (storePackedTwos c) K
 filled-packed c K e r g =
     let h = c .held in
     let p = stored-packed-passed c e in
-    let v = packedRow (rowTrits h) (c .row) in
+    let v = packedRow (c .row) in
+    let ended = packed-out (rowTrits h) (c .row) (p .2) in
     subst₂ (λ (x y : List ℕ). Filled (nextHeld h) x y K) (plane-put h (c .ones) (newOnes c) e) (plane-put h (c .twos) (newTwos c) e)
     (filled-put (p .0) (newOnes c) (newTwos c) (length-ones v (rowWords h)) (length-twos v (rowWords h)) K
-    (holds-reads (newOnes c) (newTwos c) (rowWords h) v (λ i l. packed-out (c .row) (rowTrits h) i (omega arith))
+    (holds-reads (newOnes c) (newTwos c) (rowWords h) v (λ i l. ended i (omega arith))
     (record { ones-are = refl; twos-are = refl }) .trits ∙ r)
-    (written-tested v (rowTrits h) (rowWords h) (packed-out (c .row) (rowTrits h)) (omega arith)) g)
+    (written-tested v (rowTrits h) (rowWords h) ended (omega arith)) g)
 
 -- ---- the whole key
 

@@ -20,10 +20,11 @@ use Rattle.packed.specs.Packed.{packedRow}
 use Rattle.held_key.specs.declared.state.Held.{Held}
 use Rattle.held_key.specs.Held.{numbersFit, sound, rowTrits, rowWords, keyWords, heldRow, heldKey}
 use Rattle.held_key.specs.Store.{Store, storeRefusal, nextHeld, storeOnes, storeTwos}
-use Rattle.held_key.specs.Store.{PackedStore, storePackedRefusal, newOnes, newTwos, storePackedOnes, storePackedTwos}
+use Rattle.held_key.specs.Store.{PackedStore, packedStoreOf, storePackedRefusal, newOnes, newTwos, storePackedOnes, storePackedTwos}
 use Rattle.held_key.proofs.Sizes.{and-both}
 use Rattle.held_key.proofs.Stretch.{row-there}
-use Rattle.packed.proofs.Digits.{packed-out}
+use Rattle.packed.proofs.Turned.{packed-out}
+use Rattle.packed.proofs.RoundTrip.{one-form}
 use Rattle.held_key.proofs.Room.{Room, stored-passed, stored-packed-passed}
 use Rattle.held_key.proofs.Storing.{mid-words, plane-put}
 
@@ -126,10 +127,10 @@ module _ (c : PackedStore) (e : storePackedRefusal c ≡ 0) where
   g = c .held
 
   abbrev v : ℕ → Trit
-  v = packedRow (rowTrits g) (c .row)
+  v = packedRow (c .row)
 
   -- the new row is the row offered
-  pub packed-new : heldKey (nextHeld (c .held)) (storePackedOnes c) (storePackedTwos c) (c .held .rows) ≡ packedRow (rowTrits (c .held)) (c .row)
+  pub packed-new : heldKey (nextHeld (c .held)) (storePackedOnes c) (storePackedTwos c) (c .held .rows) ≡ packedRow (c .row)
   unfolding heldKey
   packed-new =
       let p = stored-packed-passed c e in
@@ -138,7 +139,7 @@ module _ (c : PackedStore) (e : storePackedRefusal c ≡ 0) where
       ∙ put-new (p .0) (c .ones) (newOnes c) (p .0 .ones-are) (length-ones v (rowWords g)))
       (ap (λ (l : List ℕ). heldRow (nextHeld g) l (g .rows)) (sym (plane-put g (c .twos) (newTwos c) e))
       ∙ put-new (p .0) (c .twos) (newTwos c) (p .0 .twos-are) (length-twos v (rowWords g)))
-      ∙ holds-reads (newOnes c) (newTwos c) (rowWords g) v (λ i l. packed-out (c .row) (rowTrits g) i (omega arith))
+      ∙ holds-reads (newOnes c) (newTwos c) (rowWords g) v (λ i l. packed-out (rowTrits g) (c .row) (p .2) i (omega arith))
       (record { ones-are = refl; twos-are = refl }) .trits
 
   -- the rows before it are as they were
@@ -152,3 +153,17 @@ module _ (c : PackedStore) (e : storePackedRefusal c ≡ 0) where
       ∙ put-old (p .0) (c .ones) (newOnes c) (p .0 .ones-are) (length-ones v (rowWords g)) i l)
       (ap (λ (x : List ℕ). heldRow (nextHeld g) x i) (sym (plane-put g (c .twos) (newTwos c) e))
       ∙ put-old (p .0) (c .twos) (newTwos c) (p .0 .twos-are) (length-twos v (rowWords g)) i l)
+
+-- ---- one packed form for one row: two packed rows that are taken in one state and leave the same words are the same bytes,
+-- whatever the planes held before
+pub stored-apart : (h : Held) (a b o t p q : List ℕ) → let x = packedStoreOf h o t a in
+    let y = packedStoreOf h p q b in
+    storePackedRefusal x ≡ 0 → storePackedRefusal y ≡ 0 → storePackedOnes x ≡ storePackedOnes y → storePackedTwos x ≡ storePackedTwos y → a ≡ b
+stored-apart h a b o t p q e f same-ones same-twos =
+    let x = packedStoreOf h o t a in
+    let y = packedStoreOf h p q b in
+    let (_, size-a, good-a) = stored-packed-passed x e in
+    let (_, size-b, good-b) = stored-packed-passed y f in
+    let same : packedRow a ≡ packedRow b =
+        sym (packed-new x e) ∙ ap₂ (λ (ones twos : List ℕ). heldKey (nextHeld h) ones twos (h .rows)) same-ones same-twos ∙ packed-new y f in
+    one-form (rowTrits h) a b size-a size-b good-a good-b (λ i l. ap (λ (v : ℕ → Trit). v i) same)

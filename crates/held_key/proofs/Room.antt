@@ -58,7 +58,7 @@ stored-passed c e =
 
 -- a packed row passed
 pub stored-packed-passed : (c : PackedStore) → storePackedRefusal c ≡ 0 → let h = c .held in
-    Room h (length (c .ones)) (length (c .twos)) × (length (c .row) ≡ bytesFor (rowTrits h)) × (packedRefusal (c .row) ≡ 0)
+    Room h (length (c .ones)) (length (c .twos)) × (length (c .row) ≡ bytesFor (rowTrits h)) × (packedRefusal (rowTrits h) (c .row) ≡ 0)
 unfolding storePackedRefusal
 stored-packed-passed c e =
     let h = c .held in

@@ -27,4 +27,4 @@ pub record ForWritePart (m : ℕ) (row ones twos : List ℕ) : Type 0 where
   pub twos-size : length twos ≡ wordsFor m
   pub bytes-size : length row ≡ bytesFor m
   pub small : m ≤ 16384
-  pub not-refused : packedRefusal row ≡ 0
+  pub not-refused : packedRefusal m row ≡ 0

@@ -69,13 +69,13 @@ storeRefusal c =
     (demand (eqb (length (c .rowTwos)) (rowWords h)) 2
     (planesRefusal (c .rowOnes) (c .rowTwos) 1 (rowTrits h))))
 
--- or a packed row: its length, its contents
+-- or a packed row: its length, its contents (5, 15)
 unfoldable pub storePackedRefusal : PackedStore → ℕ
 storePackedRefusal c =
     let h = c .held in
     first (rowRefusal h (length (c .ones)) (length (c .twos)))
     (demand (eqb (length (c .row)) (bytesFor (rowTrits h))) 2
-    (packedRefusal (c .row)))
+    (packedRefusal (rowTrits h) (c .row)))
 
 -- ---- the state and the planes of the key at exit
 
@@ -103,10 +103,10 @@ storeTwos c = storedPlane (storeRefusal c) (c .held) (c .twos) (c .rowTwos)
 
 -- the words that a packed row has in the two planes
 abbrev pub newOnes : PackedStore → List ℕ
-newOnes c = onesOf (packedRow (rowTrits (c .held)) (c .row)) (rowWords (c .held))
+newOnes c = onesOf (packedRow (c .row)) (rowWords (c .held))
 
 abbrev pub newTwos : PackedStore → List ℕ
-newTwos c = twosOf (packedRow (rowTrits (c .held)) (c .row)) (rowWords (c .held))
+newTwos c = twosOf (packedRow (c .row)) (rowWords (c .held))
 
 -- after a packed row
 abbrev pub storePackedHeld : PackedStore → Held

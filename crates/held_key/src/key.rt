@@ -79,16 +79,17 @@ pub fn test_packed_row(held: Held, ones: &[u64], twos: &[u64], row: &[u8]) -> Ou
     if trits::refusal::code(stated) != 0 {
         return stated;
     }
-    if row.len() != (super::state::row_trits(held) + 4) / 5 {
+    let m = super::state::row_trits(held);
+    if row.len() != (m + 4) / 5 {
         return Outcome::Refused(Refusal::Length);
     }
-    packing::faults::test_bytes(row)
+    packing::faults::test_bytes(m, row)
 }
 
 // The row writer: a packed row that passed its tests fills the parts that it is lent, which begin at its own start.
 pub fn write_part(m: usize, row: &[u8], ones: &mut [u64], twos: &mut [u64])
     requires { ⌜ ForWritePart m (now row) (now ones) (now twos) ⌝ }
-    ensures { λ _. ⌜ Holds (now (ones .exit)) (now (twos .exit)) (wordsFor m) (packedRow m (now (row .entry))) ⌝ }
+    ensures { λ _. ⌜ Holds (now (ones .exit)) (now (twos .exit)) (wordsFor m) (packedRow (now (row .entry))) ⌝ }
 {
     packing::write::write_packed(m, row, ones, twos);
 }

@@ -1,13 +1,15 @@
 -- The paper's starred cases of packing ("At the edges"), computed over the definitions that the contracts cite. Assumes nothing.
 use mathlib.Core.Path.{_≡_, refl}
-use mathlib.Core.List.{List, [], _∷_}
-use Prim.Native.Nat.{ℕ}
+use mathlib.Core.Bool.{Bool, false, not, _&&_}
+use mathlib.Core.List.{List, [], _∷_, _++_}
+use Prim.Native.Nat.{ℕ, _%_, _^_}
+use lib.Dec.{eqb, leb, ltb}
 use lib.ListN.{getD}
 use Rattle.trits.specs.Trit.{Trit, t0, t1, t2, anyTo, upTo}
 use Rattle.trits.specs.Planes.{bit, fromBits, bitAt, tritAt, tabulate, onesOf, twosOf, bothSet, pastEnd}
 use Rattle.trits.specs.Rows.{rowPart, rowsPastEnd}
-use Rattle.trits.specs.Refusal.{planesRefusal}
-use Rattle.packed.specs.Packed.{byteOf, digitOf, packedAt, packedRow, packedBytes, badByte, packedRefusal}
+use Rattle.trits.specs.Refusal.{refuse, planesRefusal}
+use Rattle.packed.specs.Packed.{byteOf, digitOf, packedRow, packedBytes, badByte, packedPastEnd, packedRefusal}
 use Rattle.packed.specs.Stream.{kept, streamRow, tooShort}
 use Rattle.packed.specs.Calls.{packOf, packRefusal, packExit, unpackOf, unpackRefusal, unpackOnes, unpackTwos}
 use Rattle.packed.specs.Calls.{streamOf, streamRefusal, streamOnes, streamTwos}
@@ -26,30 +28,63 @@ unfolding packExit packRefusal planesRefusal bothSet rowsPastEnd rowPart pastEnd
 five-call = refl
 
 -- ★ 242 reads 2,2,2,2,2
-pub five-read : (packedAt (242 ∷ []) 0 ≡ t2) × (packedAt (242 ∷ []) 1 ≡ t2) × (packedAt (242 ∷ []) 2 ≡ t2) × (packedAt (242 ∷ []) 3 ≡ t2)
-    × (packedAt (242 ∷ []) 4 ≡ t2)
-unfolding packedAt digitOf
+pub five-read : (packedRow (242 ∷ []) 0 ≡ t2) × (packedRow (242 ∷ []) 1 ≡ t2) × (packedRow (242 ∷ []) 2 ≡ t2) × (packedRow (242 ∷ []) 3 ≡ t2)
+    × (packedRow (242 ∷ []) 4 ≡ t2)
+unfolding packedRow digitOf
 five-read = (refl, refl, refl, refl, refl)
 
 pub five-unpack : (unpackOnes (unpackOf 5 (242 ∷ []) (7 ∷ []) (9 ∷ [])) ≡ 0 ∷ []) × (unpackTwos (unpackOf 5 (242 ∷ []) (7 ∷ []) (9 ∷ [])) ≡ 31 ∷ [])
-unfolding unpackOnes unpackTwos unpackRefusal packedRefusal badByte onesOf twosOf tabulate fromBits packedRow packedAt digitOf upTo anyTo
+unfolding unpackOnes unpackTwos unpackRefusal packedRefusal badByte packedPastEnd onesOf twosOf tabulate fromBits packedRow digitOf upTo anyTo
 five-unpack = (refl, refl)
 
 -- ★ 243 gives 5, and the planes stay
 pub large-refused : (unpackRefusal (unpackOf 5 (243 ∷ []) (7 ∷ []) (9 ∷ [])) ≡ 5)
     × (unpackOnes (unpackOf 5 (243 ∷ []) (7 ∷ []) (9 ∷ [])) ≡ 7 ∷ []) × (unpackTwos (unpackOf 5 (243 ∷ []) (7 ∷ []) (9 ∷ [])) ≡ 9 ∷ [])
-unfolding unpackOnes unpackTwos unpackRefusal packedRefusal badByte anyTo
+unfolding unpackOnes unpackTwos unpackRefusal packedRefusal badByte packedPastEnd anyTo
 large-refused = (refl, refl, refl)
 
--- in the last byte trits past the length are ignored: 242 as a row of two trits
-pub last-ignored : unpackTwos (unpackOf 2 (242 ∷ []) (7 ∷ []) (9 ∷ [])) ≡ 3 ∷ []
-unfolding unpackTwos unpackRefusal packedRefusal badByte twosOf tabulate fromBits packedRow packedAt digitOf upTo anyTo
-last-ignored = refl
+-- a nonzero trit past the length gives 15, and the planes stay: 242 as a row of two trits; 8 is 2,2 and passes
+pub past-refused : (unpackRefusal (unpackOf 2 (242 ∷ []) (7 ∷ []) (9 ∷ [])) ≡ 15)
+    × (unpackOnes (unpackOf 2 (242 ∷ []) (7 ∷ []) (9 ∷ [])) ≡ 7 ∷ []) × (unpackTwos (unpackOf 2 (242 ∷ []) (7 ∷ []) (9 ∷ [])) ≡ 9 ∷ [])
+unfolding unpackOnes unpackTwos unpackRefusal packedRefusal badByte packedPastEnd packedRow digitOf anyTo
+past-refused = (refl, refl, refl)
 
--- a byte of 243 or more is skipped, and the last byte gives only what is missing
+pub past-none : unpackTwos (unpackOf 2 (8 ∷ []) (7 ∷ []) (9 ∷ [])) ≡ 3 ∷ []
+unfolding unpackTwos unpackRefusal packedRefusal badByte packedPastEnd twosOf tabulate fromBits packedRow digitOf anyTo
+past-none = refl
+
+-- 5 comes first, wherever in the bytes it stands
+pub large-first : (packedRefusal 7 (243 ∷ 242 ∷ []) ≡ 5) × (packedRefusal 7 (242 ∷ 243 ∷ []) ≡ 5) × (packedRefusal 7 (242 ∷ 242 ∷ []) ≡ 15)
+unfolding packedRefusal badByte packedPastEnd packedRow digitOf anyTo
+large-first = (refl, refl, refl)
+
+-- the rule in numbers, of the last byte b of a row of m trits: above 242 it is 5; q = m % 5 of its trits are the row's, and unless q is 0 it is 15 from 3 ^ q on
+abbrev byNumber : ℕ → ℕ → ℕ
+byNumber m b = refuse (ltb 242 b) 5 (refuse (ltb 0 (m % 5) && leb (3 ^ (m % 5)) b) 15 0)
+
+-- whether some last byte from 0 to 255, after these bytes, is told otherwise
+abbrev toldOtherwise : ℕ → List ℕ → Bool
+toldOtherwise m before = anyTo (λ b. not (eqb (packedRefusal m (before ++ b ∷ [])) (byNumber m b))) 256
+
+-- every last byte at every m % 5: alone, and after a byte whose trits are all 2; no trits are no bytes
+pub last-bytes : (toldOtherwise 1 [] ≡ false) × (toldOtherwise 2 [] ≡ false) × (toldOtherwise 3 [] ≡ false) × (toldOtherwise 4 [] ≡ false)
+    × (toldOtherwise 5 [] ≡ false)
+unfolding packedRefusal badByte packedPastEnd packedRow digitOf anyTo
+last-bytes = (refl, refl, refl, refl, refl)
+
+pub last-of-two : (toldOtherwise 6 (242 ∷ []) ≡ false) × (toldOtherwise 7 (242 ∷ []) ≡ false) × (toldOtherwise 8 (242 ∷ []) ≡ false)
+    × (toldOtherwise 9 (242 ∷ []) ≡ false) × (toldOtherwise 10 (242 ∷ []) ≡ false)
+unfolding packedRefusal badByte packedPastEnd packedRow digitOf anyTo
+last-of-two = (refl, refl, refl, refl, refl)
+
+pub no-byte : packedRefusal 0 [] ≡ 0
+unfolding packedRefusal badByte packedPastEnd anyTo
+no-byte = refl
+
+-- a byte of 243 or more is skipped, and the last byte gives only what is missing: what it holds past that is not looked at
 pub stream-skips : (streamOnes (streamOf 6 (243 ∷ 1 ∷ 255 ∷ 4 ∷ 9 ∷ []) (7 ∷ []) (9 ∷ [])) ≡ 33 ∷ [])
     × (streamTwos (streamOf 6 (243 ∷ 1 ∷ 255 ∷ 4 ∷ 9 ∷ []) (7 ∷ []) (9 ∷ [])) ≡ 0 ∷ [])
-unfolding streamOnes streamTwos streamRefusal tooShort kept onesOf twosOf tabulate fromBits streamRow packedAt digitOf upTo
+unfolding streamOnes streamTwos streamRefusal tooShort kept onesOf twosOf tabulate fromBits streamRow packedRow digitOf upTo
 stream-skips = (refl, refl)
 
 -- six trits of one byte that counts: 6

@@ -9,8 +9,7 @@ use lib.ListN.{getD}
 use Rattle.trits.specs.Trit.{Trit, t0, t1, t2, number, tritOf}
 use Rattle.trits.proofs.Arithmetic.{number-lt, number-tritOf}
 use Rattle.trits.proofs.Lists.{getD-tabulate}
-use Rattle.trits.proofs.Ends.{upto-in, upto-out}
-use Rattle.packed.specs.Packed.{byteOf, digitOf, byteTable, packedAt, packedRow}
+use Rattle.packed.specs.Packed.{byteOf, digitOf, byteTable, packedRow}
 
 pub digit-lt : (b k : ℕ) → digitOf b k < 3
 unfolding digitOf
@@ -69,8 +68,8 @@ byte-digits b h =
 
 -- ---- the trits of bytes, by byte and digit
 
-pub packed-place : (bytes : List ℕ) (j k : ℕ) → k < 5 → packedAt bytes (5 * j + k) ≡ tritOf (digitOf (getD bytes j 0) k)
-unfolding packedAt
+pub packed-place : (bytes : List ℕ) (j k : ℕ) → k < 5 → packedRow bytes (5 * j + k) ≡ tritOf (digitOf (getD bytes j 0) k)
+unfolding packedRow
 packed-place bytes j k h = ap₂ (λ (q r : ℕ). tritOf (digitOf (getD bytes q 0) r)) (omega arith) (omega arith)
 
 -- ---- the byte table, at each of its entries
@@ -79,11 +78,7 @@ pub table-rule : (b k : ℕ) → b < 243 → k < 5 → getD byteTable (b * 5 + k
 unfolding byteTable
 table-rule b k hb hk = rw (digits-div b hk, digits-mod b hk) at (getD-tabulate 1215 (λ i. digitOf (i / 5) (i % 5)) (b * 5 + k) 0 (omega arith))
 
--- a trit of packed bytes, below the length and past it
-pub packed-trit : (bytes : List ℕ) (m i d : ℕ) → i < m → d ≡ digitOf (getD bytes (i / 5) 0) (i % 5) → tritOf d ≡ packedRow m bytes i
-unfolding packedRow packedAt
-packed-trit bytes m i d l e = ap tritOf e ∙ sym (upto-in (packedAt bytes) m i l)
-
-pub packed-out : (bytes : List ℕ) (m q : ℕ) → m ≤ q → packedRow m bytes q ≡ t0
+-- a trit of packed bytes, from its digit
+pub packed-trit : (bytes : List ℕ) (i d : ℕ) → d ≡ digitOf (getD bytes (i / 5) 0) (i % 5) → tritOf d ≡ packedRow bytes i
 unfolding packedRow
-packed-out bytes m q l = upto-out (packedAt bytes) m q l
+packed-trit bytes i d e = ap tritOf e

@@ -12,10 +12,10 @@ use borrow.Author.Tests.{lt-ltb, le-ltb, ltb-false, eq-eqb, ne-eqb}
 use lib.Dec.{ltb, eqb}
 use lib.ListN.{length, getD, take}
 use lib.Seq.{take-all}
-use Rattle.trits.specs.Trit.{anyTo, upTo}
+use Rattle.trits.specs.Trit.{anyTo}
 use Rattle.trits.proofs.Tests.{any-none, any-found, any-passed}
-use Rattle.packed.specs.Packed.{badByte, packedAt, packedRow}
-use Rattle.packed.specs.Stream.{kept, streamRow, tooShort}
+use Rattle.packed.specs.Packed.{badByte}
+use Rattle.packed.specs.Stream.{kept, tooShort}
 use Rattle.packed.specs.Steps.{missing}
 
 -- how many of the first i bytes give trits
@@ -88,11 +88,6 @@ kept-all bytes e = kept-each bytes (bytes-small bytes e)
 -- so as many trits as all of them hold
 pub kept-enough : (m : ℕ) (bytes : List ℕ) → badByte bytes ≡ false → m ≤ 5 * length bytes → m ≤ 5 * length (kept bytes)
 kept-enough m bytes e h = omega (arith, ap length (kept-all bytes e))
-
--- and the stream's row is the packed row
-pub kept-row : (m : ℕ) (bytes : List ℕ) → badByte bytes ≡ false → streamRow m bytes ≡ packedRow m bytes
-unfolding streamRow packedRow
-kept-row m bytes e = ap (λ (l : List ℕ). upTo m (packedAt l)) (kept-all bytes e)
 
 -- the three ends of a turn of the search for a byte above 242
 module _ (bytes : List ℕ) (i : ℕ) where

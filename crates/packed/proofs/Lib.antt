@@ -2,6 +2,7 @@
 pub mod Digits
 pub mod Keeping
 pub mod Putting
+pub mod Past
 pub mod Turned
 pub mod RoundTrip
 pub mod Cases

@@ -11,7 +11,7 @@ use lib.ListN.{length, getD}
 use Rattle.trits.specs.Trit.{Trit, tritOf, putV, upTo}
 use Rattle.trits.specs.Planes.{tritAt, Reads}
 use Rattle.trits.proofs.Ends.{upto-in, upto-out}
-use Rattle.packed.specs.Packed.{digitOf, packedAt}
+use Rattle.packed.specs.Packed.{digitOf, packedRow}
 use Rattle.packed.specs.Stream.{kept, streamRow}
 use Rattle.packed.specs.Steps.{gives, withByte}
 use Rattle.packed.proofs.Digits.{packed-place}
@@ -131,10 +131,10 @@ module _ {m : ℕ} {bytes : List ℕ} {at i : ℕ} (s : Stands m bytes at i) (l 
             record { within = omega arith; most = omega arith; all = λ q. omega arith; read = omega arith }
 
     -- the trits of byte i are the stream's next
-    next-trit : b < 243 → (k : ℕ) → k < 5 → packedAt (kept bytes) (at + k) ≡ tritOf (digitOf b k)
+    next-trit : b < 243 → (k : ℕ) → k < 5 → packedRow (kept bytes) (at + k) ≡ tritOf (digitOf b k)
     unfolding b
     next-trit g k q =
-        ap (λ (p : ℕ). packedAt (kept bytes) (p + k)) (s .all l) ∙ packed-place (kept bytes) (given bytes i) k q
+        ap (λ (p : ℕ). packedRow (kept bytes) (p + k)) (s .all l) ∙ packed-place (kept bytes) (given bytes i) k q
         ∙ ap (λ (x : ℕ). tritOf (digitOf x k)) (given-at bytes i h g)
 
     gives-le : gives m at b ≤ 5
@@ -149,13 +149,13 @@ module _ {m : ℕ} {bytes : List ℕ} {at i : ℕ} (s : Stands m bytes at i) (l 
     unfolding streamRow b
     row-next = by (decLt b 243)
       where
-        by : Dec (b < 243) → withByte (upTo at (packedAt (kept bytes))) b at (gives m at b) ≡ upTo (at + gives m at b) (packedAt (kept bytes))
-        by (yes g) = with-next (packedAt (kept bytes)) b at (gives m at b) (λ k q. next-trit g k (omega (arith, gives-le)))
+        by : Dec (b < 243) → withByte (upTo at (packedRow (kept bytes))) b at (gives m at b) ≡ upTo (at + gives m at b) (packedRow (kept bytes))
+        by (yes g) = with-next (packedRow (kept bytes)) b at (gives m at b) (λ k q. next-trit g k (omega (arith, gives-le)))
         by (no g) =
             let z = gives-none m at b (omega arith) in
             let e : at ≡ at + gives m at b = omega arith in
-            ap (withByte (upTo at (packedAt (kept bytes))) b at) z ∙ sym (with-none (upTo at (packedAt (kept bytes))) b at)
-            ∙ ap (λ (n : ℕ). upTo n (packedAt (kept bytes))) e
+            ap (withByte (upTo at (packedRow (kept bytes))) b at) z ∙ sym (with-none (upTo at (packedRow (kept bytes))) b at)
+            ∙ ap (λ (n : ℕ). upTo n (packedRow (kept bytes))) e
 
     -- the planes after byte i
     pub reads-next : {o t p q : List ℕ} {n new : ℕ} → Reads o t n (streamRow at bytes) → new ≡ at + gives m at (getD bytes i 0)

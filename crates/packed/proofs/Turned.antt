@@ -6,12 +6,14 @@ use Prim.Native.Nat.{ℕ, _*_, _≤_, _<_}
 use borrow.Author.Tests.{eq-eqb, ne-eqb, lt-ltb, le-ltb, ltb-false}
 use lib.Dec.{lit<}
 use lib.ListN.{length}
+use Rattle.trits.specs.Trit.{t0}
 use Rattle.trits.specs.Planes.{wordsFor}
 use Rattle.trits.specs.Refusal.{refuse, planesRefusal}
 use Rattle.trits.proofs.Refusals.{passed-refuse}
-use Rattle.packed.specs.Packed.{bytesFor, badByte, packedRefusal}
+use Rattle.packed.specs.Packed.{bytesFor, packedRow, badByte, packedPastEnd, packedRefusal}
 use Rattle.packed.specs.Stream.{kept, tooShort}
 use Rattle.packed.specs.Calls.{packOf, packRefusal, unpackOf, unpackRefusal, streamOf, streamRefusal}
+use Rattle.packed.proofs.Past.{packed-ended}
 
 module _ (m : ℕ) (ones twos bytes : List ℕ) where
   -- too many trits
@@ -73,7 +75,7 @@ module _ (m : ℕ) (ones twos bytes : List ℕ) where
 
         module _ (t : length twos ≡ wordsFor m) where
           -- the bytes decide
-          pub unpack-passed : packedRefusal bytes ≡ unpackRefusal (unpackOf m bytes ones twos)
+          pub unpack-passed : packedRefusal m bytes ≡ unpackRefusal (unpackOf m bytes ones twos)
           unfolding unpackRefusal
           unpack-passed = rw (le-ltb 16384 m l, eq-eqb _ _ b, eq-eqb _ _ o, eq-eqb _ _ t)
 
@@ -82,22 +84,34 @@ module _ (m : ℕ) (ones twos bytes : List ℕ) where
           unfolding packRefusal
           pack-passed = rw (le-ltb 16384 m l, eq-eqb _ _ o, eq-eqb _ _ t, eq-eqb _ _ b)
 
--- the two last tests, when they are known
-pub bytes-bad : (bytes : List ℕ) → badByte bytes ≡ true → 5 ≡ packedRefusal bytes
-unfolding packedRefusal
-bytes-bad bytes e = rw e
+-- the tests of the contents, when they are known
+module _ (m : ℕ) (bytes : List ℕ) where
+  pub bytes-bad : badByte bytes ≡ true → 5 ≡ packedRefusal m bytes
+  unfolding packedRefusal
+  bytes-bad e = rw e
 
-pub bytes-good : (bytes : List ℕ) → badByte bytes ≡ false → 0 ≡ packedRefusal bytes
-unfolding packedRefusal
-bytes-good bytes e = rw e
+  pub bytes-past : badByte bytes ≡ false → packedPastEnd m bytes ≡ true → 15 ≡ packedRefusal m bytes
+  unfolding packedRefusal
+  bytes-past g e = rw (g, e)
+
+  pub bytes-good : badByte bytes ≡ false → packedPastEnd m bytes ≡ false → 0 ≡ packedRefusal m bytes
+  unfolding packedRefusal
+  bytes-good g e = rw (g, e)
+
+  -- packed bytes that passed
+  pub bytes-passed : packedRefusal m bytes ≡ 0 → (badByte bytes ≡ false) × (packedPastEnd m bytes ≡ false)
+  unfolding packedRefusal
+  bytes-passed e =
+      let a = passed-refuse (badByte bytes) 5 _ (lit< tt) e in
+      let b = passed-refuse (packedPastEnd m bytes) 15 0 (lit< tt) (a .1) in
+      (a .0, b .0)
+
+  -- the row that they hold is 0 past its length
+  pub packed-out : packedRefusal m bytes ≡ 0 → (q : ℕ) → m ≤ q → packedRow bytes q ≡ t0
+  packed-out e = packed-ended m bytes (bytes-passed e .1)
 
 pub stream-decides : {t : Bool} (m : ℕ) (bytes : List ℕ) → tooShort m bytes ≡ t → refuse t 6 0 ≡ refuse (tooShort m bytes) 6 0
 stream-decides m bytes e = ap (λ (x : Bool). refuse x 6 0) (sym e)
-
--- packed bytes that passed their test
-pub bytes-passed : (bytes : List ℕ) → packedRefusal bytes ≡ 0 → badByte bytes ≡ false
-unfolding packedRefusal
-bytes-passed bytes e = passed-refuse (badByte bytes) 5 0 (lit< tt) e .0
 
 -- a stream that is not too short has as many trits
 pub stream-long : (m : ℕ) (bytes : List ℕ) → tooShort m bytes ≡ false → m ≤ 5 * length (kept bytes)

@@ -50,7 +50,7 @@ pub record Unpack : Type 0 where
 abbrev pub unpackOf : ℕ → List ℕ → List ℕ → List ℕ → Unpack
 unpackOf m bytes ones twos = record { m = m; bytes = bytes; ones = ones; twos = twos }
 
--- 1, every length, then the bytes
+-- 1, every length, then the bytes: 5, 15
 unfoldable pub unpackRefusal : Unpack → ℕ
 unpackRefusal c =
     let m = c .m in
@@ -58,14 +58,14 @@ unpackRefusal c =
     (demand (eqb (length (c .bytes)) (bytesFor m)) 2
     (demand (eqb (length (c .ones)) (wordsFor m)) 2
     (demand (eqb (length (c .twos)) (wordsFor m)) 2
-    (packedRefusal (c .bytes)))))
+    (packedRefusal m (c .bytes)))))
 
 -- the planes at exit
 unfoldable pub unpackOnes : Unpack → List ℕ
-unpackOnes c = atExit (unpackRefusal c) (onesOf (packedRow (c .m) (c .bytes)) (wordsFor (c .m))) (c .ones)
+unpackOnes c = atExit (unpackRefusal c) (onesOf (packedRow (c .bytes)) (wordsFor (c .m))) (c .ones)
 
 unfoldable pub unpackTwos : Unpack → List ℕ
-unpackTwos c = atExit (unpackRefusal c) (twosOf (packedRow (c .m) (c .bytes)) (wordsFor (c .m))) (c .twos)
+unpackTwos c = atExit (unpackRefusal c) (twosOf (packedRow (c .bytes)) (wordsFor (c .m))) (c .twos)
 
 -- ---- from_stream: a stream of any length becomes a row of m trits
 

@@ -1,10 +1,10 @@
--- Five trits to a byte (the paper's "Trits in words and bytes", packed form). Assumes nothing.
+-- Five trits to a byte (the paper's "Trits in words and bytes", packed form, and request C-14). Assumes nothing.
 use mathlib.Core.Bool.{Bool}
 use mathlib.Core.List.{List}
-use Prim.Native.Nat.{ℕ, _+_, _*_, _/_, _%_, _^_}
+use Prim.Native.Nat.{ℕ, _+_, _-_, _*_, _/_, _%_, _^_}
 use lib.Dec.{ltb}
 use lib.ListN.{length, getD}
-use Rattle.trits.specs.Trit.{Trit, number, tritOf, anyTo, upTo}
+use Rattle.trits.specs.Trit.{Trit, number, tritOf, isSet, anyTo, upTo}
 use Rattle.trits.specs.Planes.{tabulate}
 use Rattle.trits.specs.Refusal.{refuse}
 
@@ -25,22 +25,27 @@ digitOf b k = b / 3 ^ k % 3
 unfoldable pub byteTable : List ℕ
 byteTable = tabulate (λ i. digitOf (i / 5) (i % 5)) 1215
 
--- the trits of bytes: place p is digit p % 5 of byte p / 5
-unfoldable pub packedAt : List ℕ → ℕ → Trit
-packedAt bytes p = tritOf (digitOf (getD bytes (p / 5) 0) (p % 5))
-
--- the row of m trits that bytes hold: in the last byte the trits past the length are ignored
-unfoldable pub packedRow : ℕ → List ℕ → ℕ → Trit
-packedRow m bytes = upTo m (packedAt bytes)
+-- the row that bytes hold: place p is digit p % 5 of byte p / 5; past the bytes there is 0
+unfoldable pub packedRow : List ℕ → ℕ → Trit
+packedRow bytes p = tritOf (digitOf (getD bytes (p / 5) 0) (p % 5))
 
 -- the bytes of a row of m trits: in the last byte the trits past the length are 0
 unfoldable pub packedBytes : ℕ → (ℕ → Trit) → List ℕ
 packedBytes m v = tabulate (byteOf (upTo m v)) (bytesFor m)
 
+-- ---- the two faults of packed bytes
+
 -- "a packed byte above 242" ("Turned back by the input", 5)
 unfoldable pub badByte : List ℕ → Bool
 badByte bytes = anyTo (λ i. ltb 242 (getD bytes i 0)) (length bytes)
 
--- the contents of a packed row
-unfoldable pub packedRefusal : List ℕ → ℕ
-packedRefusal bytes = refuse (badByte bytes) 5 0
+-- "a nonzero trit past the length" (request C-14, 15), in the bytes of a row of m trits
+unfoldable pub packedPastEnd : ℕ → List ℕ → Bool
+packedPastEnd m bytes = anyTo (λ k. isSet (packedRow bytes (m + k))) (5 * length bytes - m)
+
+-- the contents of a packed row of m trits: 5 over the whole buffer before 15
+unfoldable pub packedRefusal : ℕ → List ℕ → ℕ
+packedRefusal m bytes =
+    refuse (badByte bytes) 5
+    (refuse (packedPastEnd m bytes) 15
+    0)

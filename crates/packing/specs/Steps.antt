@@ -58,10 +58,10 @@ pub record ForWriteStream (m : ℕ) (bytes ones twos : List ℕ) : Type 0 where
   pub trits-fit : m ≤ 64 * length ones
   pub small : length ones ≤ 65536
 
--- a row with room for m trits, and enough bytes of packed trits
+-- a row with room for m trits, and their packed bytes, which passed
 pub record ForWritePacked (m : ℕ) (bytes ones twos : List ℕ) : Type 0 where
   pub twos-size : length twos ≡ length ones
   pub enough : m ≤ 5 * length bytes
   pub trits-fit : m ≤ 64 * length ones
   pub small : length ones ≤ 65536
-  pub not-refused : packedRefusal bytes ≡ 0
+  pub not-refused : packedRefusal m bytes ≡ 0

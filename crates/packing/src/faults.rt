@@ -1,7 +1,9 @@
-// The tests for 5 and 6: a packed byte above 242, and a stream that ends too soon.
+// The tests for 5, 15 and 6: a packed byte above 242, a nonzero trit past the length, and a stream that ends too soon.
 ghost use mathlib.Core.Path.{_≡_};
+ghost use mathlib.Core.Bool.{false};
+ghost use lib.ListN.{length};
 ghost use Rattle.trits.specs.Refusal.{codeOf};
-ghost use Rattle.packed.specs.Packed.{badByte, packedRefusal};
+ghost use Rattle.packed.specs.Packed.{bytesFor, badByte, packedPastEnd, packedRefusal};
 ghost use Rattle.packed.specs.Stream.{tooShort};
 ghost use Rattle.packed.specs.Steps.{missing};
 use trits::refusal::Outcome;
@@ -21,12 +23,31 @@ pub fn bad_byte(bytes: &[u8]) -> bool
     false
 }
 
-// The contents of a packed row.
-pub fn test_bytes(bytes: &[u8]) -> Outcome
-    ensures { λ r. ⌜ codeOf r ≡ packedRefusal (now (bytes .entry)) ⌝ }
+// 3 to the power q: the first byte with a nonzero trit past its first q.
+const POWERS: [u8; 5] = [1, 3, 9, 27, 81];
+
+// Whether a trit past the length is not 0, in the bytes of m trits: the last byte tells it.
+fn packed_past_end(m: usize, bytes: &[u8]) -> bool
+    requires { ⌜ (length (now bytes) ≡ bytesFor m) × (badByte (now bytes) ≡ false) ⌝ }
+    ensures { λ r. ⌜ r ≡ packedPastEnd m (now (bytes .entry)) ⌝ }
+{
+    let used = m % 5;
+    if used == 0 {
+        return false;
+    }
+    bytes[m / 5] >= POWERS[used]
+}
+
+// The contents of a packed row of m trits: a byte above 242, over the whole buffer, before a trit past the length.
+pub fn test_bytes(m: usize, bytes: &[u8]) -> Outcome
+    requires { ⌜ length (now bytes) ≡ bytesFor m ⌝ }
+    ensures { λ r. ⌜ codeOf r ≡ packedRefusal m (now (bytes .entry)) ⌝ }
 {
     if bad_byte(bytes) {
         return Outcome::Refused(Refusal::PackedByte);
+    }
+    if packed_past_end(m, bytes) {
+        return Outcome::Refused(Refusal::PackedPastEnd);
     }
     Outcome::Done
 }

@@ -1,6 +1,6 @@
 // Trits packed five to a byte, and trits of a byte stream: the calls.
 pub mod table; // the five trits of each byte
-pub mod faults; // the tests for 5 and 6
+pub mod faults; // the tests for 5, 15 and 6
 pub mod write; // a row written from bytes
 pub mod read; // bytes made from a row
 
@@ -56,7 +56,7 @@ pub fn unpack(m: usize, bytes: &[u8], ones: &mut [u64], twos: &mut [u64]) -> Out
     if twos.len() != words {
         return Outcome::Refused(Refusal::Length);
     }
-    let tested = faults::test_bytes(bytes);
+    let tested = faults::test_bytes(m, bytes);
     if trits::refusal::code(tested) != 0 {
         return tested;
     }

@@ -73,10 +73,10 @@ pub fn write_stream(m: usize, bytes: &[u8], ones: &mut [u64], twos: &mut [u64])
     put_stream(&table, m, bytes, ones, twos);
 }
 
-// The row of m trits of packed bytes that passed their test; what the planes held before is gone.
+// The row of m trits of packed bytes that passed their tests; what the planes held before is gone.
 pub fn write_packed(m: usize, bytes: &[u8], ones: &mut [u64], twos: &mut [u64])
     requires { ⌜ ForWritePacked m (now bytes) (now ones) (now twos) ⌝ }
-    ensures { λ _. ⌜ Reads (now (ones .exit)) (now (twos .exit)) (length (now (ones .entry))) (packedRow m (now (bytes .entry))) ⌝ }
+    ensures { λ _. ⌜ Reads (now (ones .exit)) (now (twos .exit)) (length (now (ones .entry))) (packedRow (now (bytes .entry))) ⌝ }
 {
     write_stream(m, bytes, ones, twos);
 }

@@ -17,7 +17,8 @@ use Rattle.trits.specs.Rows.{rowsPastEnd}
 use Rattle.trits.specs.Refusal.{numberOf, refuse, demand, first, atExit, spaceStays, spaceExit, planesRefusal}
 use Rattle.trits.specs.declared.refusal.Refusal.{Refusal}
 use Rattle.trits.specs.declared.refusal.Refusal.the-variants.{Size, Length, BothPlanes, PastEnd, PackedByte, StreamEnd, NoPermutation, ZeroTrit, RankU}
-use Rattle.trits.specs.declared.refusal.Refusal.the-variants.{RankV, Line, FirstPartV, FirstPartU, Weight, NoKey, WholeKey, OtherKey}
+use Rattle.trits.specs.declared.refusal.Refusal.the-variants.{RankV, Line, FirstPartV, FirstPartU, Weight, PackedPastEnd, NoKey, WholeKey}
+use Rattle.trits.specs.declared.refusal.Refusal.the-variants.{OtherKey}
 use Rattle.trits.proofs.Tests.{both-apart, past-zero}
 use Rattle.trits.proofs.Matrix.{one-row-past}
 
@@ -38,6 +39,7 @@ number-positive Line = lit< tt
 number-positive FirstPartV = lit< tt
 number-positive FirstPartU = lit< tt
 number-positive Weight = lit< tt
+number-positive PackedPastEnd = lit< tt
 number-positive NoKey = lit< tt
 number-positive WholeKey = lit< tt
 number-positive OtherKey = lit< tt

@@ -8,7 +8,8 @@ use Rattle.trits.specs.Planes.{Pair, pairOf, bothSet, zeroWords}
 use Rattle.trits.specs.Rows.{rowsPastEnd}
 use Rattle.trits.specs.declared.refusal.Refusal.{Refusal}
 use Rattle.trits.specs.declared.refusal.Refusal.the-variants.{Size, Length, BothPlanes, PastEnd, PackedByte, StreamEnd, NoPermutation, ZeroTrit, RankU}
-use Rattle.trits.specs.declared.refusal.Refusal.the-variants.{RankV, Line, FirstPartV, FirstPartU, Weight, NoKey, WholeKey, OtherKey}
+use Rattle.trits.specs.declared.refusal.Refusal.the-variants.{RankV, Line, FirstPartV, FirstPartU, Weight, PackedPastEnd, NoKey, WholeKey}
+use Rattle.trits.specs.declared.refusal.Refusal.the-variants.{OtherKey}
 use Rattle.trits.specs.declared.refusal.Outcome.{Outcome}
 use Rattle.trits.specs.declared.refusal.Outcome.the-variants.{Done, Refused}
 
@@ -28,6 +29,7 @@ numberOf Line = 11
 numberOf FirstPartV = 12
 numberOf FirstPartU = 13
 numberOf Weight = 14
+numberOf PackedPastEnd = 15
 numberOf NoKey = 20
 numberOf WholeKey = 21
 numberOf OtherKey = 22
@@ -59,9 +61,10 @@ atExit refusal new old = cond (eqb refusal 0) new old
 abbrev pub pairAtExit : ℕ → Pair → Pair → Pair
 pairAtExit refusal new old = pairOf (atExit refusal (new .ones) (old .ones)) (atExit refusal (new .twos) (old .twos))
 
--- "working space is untouched after 1 to 8, 11 and 20 to 22, and all zero after every other end, success included": a plane of it at exit
+-- "working space is untouched after 1 to 8, 11 and 20 to 22, and all zero after every other end, success included", and
+-- untouched after 15 too (request C-14): a plane of it at exit
 abbrev pub spaceStays : ℕ → Bool
-spaceStays answer = (leb 1 answer && leb answer 8) || (eqb answer 11 || (leb 20 answer && leb answer 22))
+spaceStays answer = (leb 1 answer && leb answer 8) || (eqb answer 11 || (eqb answer 15 || (leb 20 answer && leb answer 22)))
 
 unfoldable pub spaceExit : ℕ → List ℕ → List ℕ
 spaceExit answer plane = cond (spaceStays answer) plane (zeroWords (length plane))

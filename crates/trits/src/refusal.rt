@@ -18,6 +18,7 @@ pub enum Refusal {
     FirstPartV, // the first part lacks rank in V
     FirstPartU, // the first part lacks rank in U
     Weight, // the weight is not w
+    PackedPastEnd, // a nonzero trit past the length in packed bytes
     NoKey, // no key begun, or rows missing at a check
     WholeKey, // a row offered to a whole key
     OtherKey, // another key number than the held one
@@ -48,6 +49,7 @@ pub fn number(refusal: Refusal) -> u64
         Refusal::FirstPartV => 12,
         Refusal::FirstPartU => 13,
         Refusal::Weight => 14,
+        Refusal::PackedPastEnd => 15,
         Refusal::NoKey => 20,
         Refusal::WholeKey => 21,
         Refusal::OtherKey => 22,

@@ -11,7 +11,7 @@ use Rattle.trits.specs.Trit.{number, isSet, dotV, anyTo, sumTo, upTo}
 use Rattle.trits.specs.Planes.{bit, fromBits, bitAt, tritAt, tabulate, onesOf, twosOf, zeroWords, bothSet, pastEnd}
 use Rattle.trits.specs.Rows.{rowsOf, rowPart, matrixAt, putWords, rowsPastEnd}
 use Rattle.trits.specs.Refusal.{first, spaceExit, planesRefusal}
-use Rattle.packed.specs.Packed.{byteOf, digitOf, packedAt, packedRow, packedBytes, badByte, packedRefusal}
+use Rattle.packed.specs.Packed.{byteOf, digitOf, packedRow, packedBytes, badByte, packedPastEnd, packedRefusal}
 use Rattle.packed.specs.Calls.{packRefusal, packExit}
 use Rattle.matrix.specs.Linear.{Vector, elem, agree, find, solve, inSpan, keep, pivots, rank, without, fill, range}
 use Rattle.matrix.specs.Orders.{isOrder}
@@ -181,7 +181,7 @@ hands-2111 = record { passed = refl; word = λ q h. by q (places-below q h) }
 
 pub beside : Beside
 unfolding dotV anyTo sumTo upTo bit fromBits bitAt tritAt tabulate onesOf twosOf zeroWords bothSet pastEnd rowsOf rowPart matrixAt putWords rowsPastEnd first
-    planesRefusal byteOf digitOf packedAt packedRow packedBytes badByte packedRefusal packRefusal packExit agree find solve inSpan keep pivots rank without fill
+    planesRefusal byteOf digitOf packedRow packedBytes badByte packedPastEnd packedRefusal packRefusal packExit agree find solve inSpan keep pivots rank without fill
     range isOrder digitRows timesKey fullWord fullCounts numbersFit sound heldRow heldKey beginRefusal begunHeld beginHeld rowRefusal storePackedRefusal
     nextHeld storedHeld storedPlane offer offerAll callRefusal packedLengths packedContents checkPackedRefusal heldCounts answered checkPackedAnswer sizesFit
     noZero secretMatrix arrange arranged rowOfR buildRefusal choicesFit pivotsV suppliedV drawV pivotsU suppliedU drawU drawn drawRefusal secretDiffers hasZero

@@ -45,7 +45,7 @@ module _ (c : PackedCheck) (r : checkPackedAnswer c .refusal ≡ 0) where
   packed-not-refused = answered-number (checkPackedRefusal c) _ _ r
 
   pub packed-says-yes : (checkPackedAnswer c .yes ≡ 1)
-      ↔ HeldFound (c .held) (c .ones) (c .twos) (packedRow (rowTrits (c .held)) (c .y)) (packedRow (c .held .k) (c .s))
+      ↔ HeldFound (c .held) (c .ones) (c .twos) (packedRow (c .y)) (packedRow (c .s))
   packed-says-yes = check-packed-verdict c packed-not-refused
 
   pub packed-one-word : (y s e f : Vector) → HeldExtending (c .held) (c .ones) (c .twos) y s e → HeldExtending (c .held) (c .ones) (c .twos) y s f → (q : ℕ)

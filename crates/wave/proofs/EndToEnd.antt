@@ -18,9 +18,9 @@ use Rattle.trits.proofs.Counting.{counts-same, counts-weight}
 use Rattle.trits.proofs.Refusals.{exit-new, passed-first, first-goes, row-ended}
 use Rattle.trits.proofs.Reading.{length-ones, length-twos}
 use Rattle.trits.proofs.Ends.{upto-in, upto-out, upto-ended}
-use Rattle.packed.specs.Packed.{bytesFor, packedRow, packedBytes, badByte}
+use Rattle.packed.specs.Packed.{bytesFor, packedRow, packedBytes, packedRefusal}
 use Rattle.packed.specs.Calls.{packOf, packRefusal, packExit}
-use Rattle.packed.proofs.RoundTrip.{packed-length, packed-back, packed-good}
+use Rattle.packed.proofs.RoundTrip.{packed-length, packed-back, packed-accepted}
 use Rattle.matrix.specs.Linear.{Vector}
 use Rattle.matrix.proofs.Places.{or-false-left, or-false-right}
 use Rattle.verdict.specs.Verdict.{Key, fullCounts}
@@ -135,12 +135,12 @@ module _ (z : Sizes) (i : BuildCall) (b : Built z i) (g w : ℕ) (l : DrawCall) 
   row-size : (j : ℕ) → j < dim z → length (packedKeyRow z i m j) ≡ bytesFor (z .n - dim z)
   row-size j h = ap length (row-is j h) ∙ packed-length (codim z) (builtKey z i j) ∙ ap bytesFor (sym size)
 
-  row-good : (j : ℕ) → j < dim z → badByte (packedKeyRow z i m j) ≡ false
-  row-good j h = ap badByte (row-is j h) ∙ packed-good (codim z) (builtKey z i j)
+  row-good : (j : ℕ) → j < dim z → packedRefusal (z .n - dim z) (packedKeyRow z i m j) ≡ 0
+  row-good j h = ap₂ packedRefusal size (row-is j h) ∙ packed-accepted (codim z) (builtKey z i j)
 
-  row-back : (j : ℕ) → j < dim z → packedRow (codim z) (packedKeyRow z i m j) ≡ builtKey z i j
+  row-back : (j : ℕ) → j < dim z → packedRow (packedKeyRow z i m j) ≡ builtKey z i j
   row-back j h =
-      ap (packedRow (codim z)) (row-is j h) ∙ packed-back (codim z) (builtKey z i j)
+      ap packedRow (row-is j h) ∙ packed-back (codim z) (builtKey z i j)
       ∙ upto-ended (builtKey z i j) (codim z) (λ q k. ap (λ (v : Vector). v q) (built-row z i b j h)
       ∙ upto-out (keyRow z (secretOf z (i .secret)) (i .start) j) (codim z) q k)
 
@@ -157,10 +157,10 @@ module _ (z : Sizes) (i : BuildCall) (b : Built z i) (g w : ℕ) (l : DrawCall) 
       let n = y-lengths Z l (passed .lengths) in
       pack-writes (codim z) (l .y .ones) (l .y .twos) (m .yBytes) few-codim (n .0) (n .1) (m .y-bytes-size) (passed .syndrome)
 
-  y-back : packedRow (codim z) yPacked ≡ y
+  y-back : packedRow yPacked ≡ y
   y-back =
       let n = y-lengths Z l (passed .lengths) in
-      ap (packedRow (codim z)) y-is ∙ packed-back (codim z) y ∙ ended (l .y .ones) (l .y .twos) (codim z) (passed .syndrome) (n .0) (n .1)
+      ap packedRow y-is ∙ packed-back (codim z) y ∙ ended (l .y .ones) (l .y .twos) (codim z) (passed .syndrome) (n .0) (n .1)
 
   -- ---- s
 
@@ -183,8 +183,8 @@ module _ (z : Sizes) (i : BuildCall) (b : Built z i) (g w : ℕ) (l : DrawCall) 
       (ap₂ (λ (x y : List ℕ). planesRefusal x y 1 (dim z)) s-ones s-twos ∙ written-passes (dim z) (signature Z (wordOf Z l)))
       ∙ ap (packedBytes (dim z)) (handed-signature Z l d)
 
-  s-back : packedRow (dim z) sPacked ≡ s
-  s-back = ap (packedRow (dim z)) s-is ∙ packed-back (dim z) s ∙ upto-ended s (dim z) (λ q k. upto-out (signature Z (wordOf Z l)) (dim z) q k)
+  s-back : packedRow sPacked ≡ s
+  s-back = ap packedRow s-is ∙ packed-back (dim z) s ∙ upto-ended s (dim z) (λ q k. upto-out (signature Z (wordOf Z l)) (dim z) q k)
 
   -- ---- the ones and twos
 
@@ -194,10 +194,10 @@ module _ (z : Sizes) (i : BuildCall) (b : Built z i) (g w : ℕ) (l : DrawCall) 
   terms : KeyTerms z i g w (l .y .ones) (l .y .twos) e
   terms = drawn-terms z i b g w l u d
 
-  counts-are : fullCounts (codim z) (dim z) (λ j. packedRow (codim z) (packedKeyRow z i m j)) (packedRow (codim z) yPacked) (packedRow (dim z) sPacked)
+  counts-are : fullCounts (codim z) (dim z) (λ j. packedRow (packedKeyRow z i m j)) (packedRow yPacked) (packedRow sPacked)
       ≡ countsV e (places z)
   counts-are =
-      let K : Key = λ j. packedRow (codim z) (packedKeyRow z i m j) in
+      let K : Key = λ j. packedRow (packedKeyRow z i m j) in
       ap₂ (fullCounts (codim z) (dim z) K) y-back s-back
       ∙ counts-cong (codim z) (dim z) K y s (builtKey z i) (λ j q h. ap (λ (v : Vector). v q) (row-back j h))
       ∙ counts-of (codim z) (dim z) (builtKey z i) y s e (terms .has-syndrome) (λ k h. sym (upto-in (signature Z e) (dim z) k h))
@@ -215,10 +215,10 @@ module _ (z : Sizes) (i : BuildCall) (b : Built z i) (g w : ℕ) (l : DrawCall) 
       (m .ones) (m .twos) yPacked sPacked (m .workOnes) (m .workTwos)
       (m .ones-size ∙ ap (λ (x : ℕ). dim z * wordsFor x) (sym size)) (m .twos-size ∙ ap (λ (x : ℕ). dim z * wordsFor x) (sym size))
       (ap length y-is ∙ packed-length (codim z) y ∙ ap bytesFor (sym size)) (ap length s-is ∙ packed-length (dim z) s)
-      (ap badByte y-is ∙ packed-good (codim z) y) (ap badByte s-is ∙ packed-good (dim z) s)
+      (ap₂ packedRefusal size y-is ∙ packed-accepted (codim z) y) (ap (packedRefusal (dim z)) s-is ∙ packed-accepted (dim z) s)
       (m .work-ones-size ∙ ap wordsFor (sym size)) (m .work-twos-size ∙ ap wordsFor (sym size))
       ∙ ap (λ (x : Counts). answered 0 x w)
-      (ap (λ (k : ℕ). fullCounts k (dim z) (λ j. packedRow k (packedKeyRow z i m j)) (packedRow k yPacked) (packedRow (dim z) sPacked)) size ∙ counts-are)
+      (ap (λ (k : ℕ). fullCounts k (dim z) (λ j. packedRow (packedKeyRow z i m j)) (packedRow yPacked) (packedRow sPacked)) size ∙ counts-are)
       ∙ rw (eq-eqb (sumOf (countsV e (places z))) w sum-is)
 
   -- ---- the same with y and s in planes

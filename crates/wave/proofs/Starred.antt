@@ -10,7 +10,7 @@ use Rattle.trits.specs.Planes.{bit, fromBits, bitAt, tritAt, tabulate, onesOf, 
 use Rattle.trits.specs.Rows.{rowsOf, rowPart, matrixAt, rowsPastEnd}
 use Rattle.trits.specs.Refusal.{first, spaceExit, planesRefusal}
 use Rattle.trits.proofs.Ends.{upto-in}
-use Rattle.packed.specs.Packed.{byteOf, digitOf, packedAt, packedRow, packedBytes, badByte, packedRefusal}
+use Rattle.packed.specs.Packed.{byteOf, digitOf, packedRow, packedBytes, badByte, packedPastEnd, packedRefusal}
 use Rattle.packed.specs.Calls.{packRefusal, packExit, unpackRefusal, unpackOnes, unpackTwos}
 use Rattle.matrix.specs.Linear.{Vector, agree, find, solve, inSpan, keep, pivots, rank, without, fill, range}
 use Rattle.matrix.specs.Orders.{isOrder}
@@ -77,7 +77,7 @@ never g one l u d s1 s2 =
 
 pub starred : Starred
 unfolding dotV anyTo sumTo upTo bit fromBits bitAt tritAt tabulate onesOf twosOf zeroWords bothSet pastEnd rowsOf rowPart matrixAt rowsPastEnd first
-    planesRefusal byteOf digitOf packedAt packedRow packedBytes badByte packedRefusal packRefusal packExit unpackRefusal unpackOnes unpackTwos agree find solve
+    planesRefusal byteOf digitOf packedRow packedBytes badByte packedPastEnd packedRefusal packRefusal packExit unpackRefusal unpackOnes unpackTwos agree find solve
     inSpan keep pivots rank without fill range isOrder digitRows timesKey fullWord fullCounts saysYes numbersFit sound heldRow heldKey callRefusal packedLengths
     packedContents checkPackedRefusal heldCounts answered checkPackedAnswer sizesFit secretMatrix arrange arranged rowOfR buildRefusal pivotsV suppliedV drawV
     pivotsU suppliedU drawU drawn drawRefusal secretDiffers hasZero secretRefusal spaceExit keyDiffers buildLengthsDiffer buildAnswer orderExit keyOnesOf

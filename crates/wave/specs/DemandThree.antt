@@ -29,7 +29,7 @@ pub record DemandThree : Type 0 where
       → (checkAnswer c .yes ≡ 1) ↔ HeldFound (c .held) (c .ones) (c .twos) (tritAt (c .yOnes) (c .yTwos)) (tritAt (c .sOnes) (c .sTwos))
   -- and so does one of packed y and s
   pub packed-verifier : (c : PackedCheck) → checkPackedAnswer c .refusal ≡ 0
-      → (checkPackedAnswer c .yes ≡ 1) ↔ HeldFound (c .held) (c .ones) (c .twos) (packedRow (rowTrits (c .held)) (c .y)) (packedRow (c .held .k) (c .s))
+      → (checkPackedAnswer c .yes ≡ 1) ↔ HeldFound (c .held) (c .ones) (c .twos) (packedRow (c .y)) (packedRow (c .s))
   -- uniqueness: under the key that a check finds held, no two words of one syndrome extend one signature
   pub one-word : (c : Check) → checkAnswer c .refusal ≡ 0 → (y s e f : Vector) → HeldExtending (c .held) (c .ones) (c .twos) y s e
       → HeldExtending (c .held) (c .ones) (c .twos) y s f

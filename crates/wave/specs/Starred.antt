@@ -29,7 +29,7 @@ pub record Starred : Type 0 where
   pub packs-88 : packedBytes 5 (vector (1 ∷ 2 ∷ 0 ∷ 0 ∷ 1 ∷ [])) ≡ 88 ∷ []
   pub packed-88 : packExit (packOf 5 (17 ∷ []) (2 ∷ []) (9 ∷ [])) ≡ 88 ∷ []
   -- 242 reads 2,2,2,2,2
-  pub reads-242 : digits 5 (packedRow 5 (242 ∷ [])) ≡ 2 ∷ 2 ∷ 2 ∷ 2 ∷ 2 ∷ []
+  pub reads-242 : digits 5 (packedRow (242 ∷ [])) ≡ 2 ∷ 2 ∷ 2 ∷ 2 ∷ 2 ∷ []
   pub ones-242 : unpackOnes (unpackOf 5 (242 ∷ []) (7 ∷ []) (9 ∷ [])) ≡ 0 ∷ []
   pub twos-242 : unpackTwos (unpackOf 5 (242 ∷ []) (7 ∷ []) (9 ∷ [])) ≡ 31 ∷ []
   -- 243 gives 5, and the planes stay

@@ -15,7 +15,7 @@ use Rattle.bench_check.proofs.weigh_packed_times.Tie as tie
 abbrev Inv-loop : tie.InvT-loop
 Inv-loop held ones twos y s work-ones₀ work-twos₀ times counts₀ i₀ work-ones work-twos counts i =
     (i ≤ times) × (length work-ones ≡ length work-ones₀) × (length work-twos ≡ length work-twos₀)
-    × (counts ≡ after i (heldCounts held ones twos (packedRow (rowTrits held) y) (packedRow (held .k) s)))
+    × (counts ≡ after i (heldCounts held ones twos (packedRow y) (packedRow s)))
 
 abbrev μ-loop : tie.MeasureT-loop
 μ-loop held ones twos y s work-ones₀ work-twos₀ times counts₀ i₀ work-ones work-twos counts i = times - i

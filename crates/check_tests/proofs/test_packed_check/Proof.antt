@@ -49,7 +49,8 @@ returns-2 c =
     (first-stops _ (c .before .before .test-packed-lengths .ensures) (λ z. c .if2 .taken (c .before .code2 .ensures ∙ z)))
 
 test-packed-contents-requires : tie.Need-test-packed-contents-requires
-test-packed-contents-requires c κs = whole (key-called (c .before .before .before))
+test-packed-contents-requires c κs =
+    (whole (key-called (c .before .before .before)), sym (c .before .before .test-packed-lengths .ensures) ∙ sym (c .before .code2 .ensures) ∙ c .if2 .left)
 
 returns-3 : tie.Need-returns-3
 unfolding checkPackedRefusal

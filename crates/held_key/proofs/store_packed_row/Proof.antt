@@ -32,7 +32,7 @@ not-refused c = sym (c .before .before .test-packed-row .ensures) ∙ sym (c .be
 -- so there is room for it, it has its length, and its bytes passed
 passed : (c : tie.Else1) → let a = start-from-else1 c .args in
     Room (a .held) (length (now (a .ones))) (length (now (a .twos))) × (length (now (a .row)) ≡ bytesFor (rowTrits (a .held)))
-    × (packedRefusal (now (a .row)) ≡ 0)
+    × (packedRefusal (rowTrits (a .held)) (now (a .row)) ≡ 0)
 passed c = stored-packed-passed _ (not-refused c)
 
 -- the row's own start
@@ -111,13 +111,14 @@ write-part-requires c κs =
     let after-row-words = c .before .before .before in
     let l = within after-row-words in
     let w = after-row-words .row-words .ensures in
+    let a = start-from-else1 (after-row-words .before) .args in
     let r = passed (after-row-words .before) in
     let m = c .before .before .row-trits .ensures in record {
       ones-size = simp (length-take, length-drop) (omega (arith, l .0, w, m));
       twos-size = simp (length-take, length-drop) (omega (arith, l .1, w, m));
       bytes-size = omega (arith, m, r .1);
       small = omega (arith, m, r .0 .all);
-      not-refused = r .2;
+      not-refused = ap (λ (x : ℕ). packedRefusal x (now (a .row))) m ∙ r .2;
     }
 
 count-row-requires : tie.Need-count-row-requires
@@ -144,13 +145,13 @@ returns-2 c =
     let d : a .held .rows * w .result + w .result - a .held .rows * w .result ≡ w .result = omega arith in
     let g = after-write-part .write-part .ensures in
     let m = after-write-part .before .before .before .row-trits .ensures in
-    let v = packedRow (rowTrits (a .held)) (now (a .row)) in (
+    let v = packedRow (now (a .row)) in (
       else1 .before .before .test-packed-row .ensures,
       c .count-row .ensures ∙ exit-new _ _ z,
       plane-lent _ _ _ z e (d ∙ w .ensures ∙ sym (length-ones v (rowWords (a .held))))
-          (g .ones-are ∙ ap (λ (m : ℕ). onesOf (packedRow m (now (a .row))) (wordsFor m)) m),
+          (g .ones-are ∙ ap (λ (m : ℕ). onesOf (packedRow (now (a .row))) (wordsFor m)) m),
       plane-lent _ _ _ z e (d ∙ w .ensures ∙ sym (length-twos v (rowWords (a .held))))
-          (g .twos-are ∙ ap (λ (m : ℕ). twosOf (packedRow m (now (a .row))) (wordsFor m)) m),
+          (g .twos-are ∙ ap (λ (m : ℕ). twosOf (packedRow (now (a .row))) (wordsFor m)) m),
     )
 
 pub store-packed-row-spec : {M : Type 1} → statement M

@@ -23,8 +23,8 @@ use Rattle.checker.proofs.weighing.take_by_table.Tie as tie
 
 abbrev Inv-loop : tie.InvT-loop
 Inv-loop held ones twos s work-ones₀ work-twos₀ table k counts₀ i₀ work-ones work-twos counts i =
-    (i ≤ held .k) × (counts ≡ countsV (packedRow (held .k) s) i)
-    × Reads work-ones work-twos (length work-ones₀) (zipV subT (tritAt work-ones₀ work-twos₀) (timesKey i (heldKey held ones twos) (packedRow (held .k) s)))
+    (i ≤ held .k) × (counts ≡ countsV (packedRow s) i)
+    × Reads work-ones work-twos (length work-ones₀) (zipV subT (tritAt work-ones₀ work-twos₀) (timesKey i (heldKey held ones twos) (packedRow s)))
 
 abbrev μ-loop : tie.MeasureT-loop
 μ-loop held ones twos s work-ones₀ work-twos₀ table k counts₀ i₀ work-ones work-twos counts i = held .k - i
@@ -42,11 +42,11 @@ start-from-take-row c = start-from-at-loop (c .before .before .before .before .b
 -- the trit read is that of s
 trit-read : (c : tie.After-trit Inv-loop μ-loop) → let at-loop = c .before .before .before in
     let a = start-from-at-loop at-loop .args in
-    tritOf (c .trit .result) ≡ packedRow (a .held .k) (now (a .s)) (at-loop .loop .i)
+    tritOf (c .trit .result) ≡ packedRow (now (a .s)) (at-loop .loop .i)
 trit-read c =
     let at-loop = c .before .before .before in
     let a = start-from-at-loop at-loop .args in
-    packed-trit (now (a .s)) (a .held .k) (at-loop .loop .i) (c .trit .result) (omega arith) (c .trit .ensures)
+    packed-trit (now (a .s)) (at-loop .loop .i) (c .trit .result) (c .trit .ensures)
 
 -- and below 3
 trit-lt : (c : tie.After-trit Inv-loop μ-loop) → c .trit .result < 3
@@ -66,7 +66,7 @@ loop-holds c =
         row = start .pre .work .row;
         size = refl;
         trits = taken-none (tritAt (now (a .work-ones)) (now (a .work-twos))) (heldKey (a .held) (now (a .ones)) (now (a .twos)))
-            (packedRow (a .held .k) (now (a .s)));
+            (packedRow (now (a .s)));
       },
     )
 
@@ -78,7 +78,7 @@ trit-requires : tie.Need-trit-requires Inv-loop μ-loop
 trit-requires c κs =
     let start = start-from-at-loop (c .before .before) in
     let s = now (start .args .s) in
-    let b = bytes-small s (bytes-passed s (start .pre .s-tested)) (c .before .before .loop .i / 5) (omega (arith, start .pre .s-size)) in record {
+    let b = bytes-small s (bytes-passed _ s (start .pre .s-tested) .0) (c .before .before .loop .i / 5) (omega (arith, start .pre .s-size)) in record {
       is-table = start .pre .is-table;
       byte = omega (arith, b);
       digit = omega (arith, b);
@@ -88,7 +88,7 @@ count-trit-requires : tie.Need-count-trit-requires Inv-loop μ-loop
 count-trit-requires c κs =
     let at-loop = c .before .before .before in
     let start = start-from-at-loop at-loop in
-    let v = packedRow (start .args .held .k) (now (start .args .s)) in (
+    let v = packedRow (now (start .args .s)) in (
       omega (
         arith,
         ap sumOf (at-loop .loop .inv .1),
@@ -129,9 +129,9 @@ loop-again c =
     let a = start-from-at-loop at-loop .args in
     let v = at-loop .loop .inv .2 in (
       omega arith,
-      turn-counts (packedRow (a .held .k) (now (a .s))) (at-loop .loop .i) (tritOf (after-trit .trit .result)) (trit-read after-trit)
+      turn-counts (packedRow (now (a .s))) (at-loop .loop .i) (tritOf (after-trit .trit .result)) (trit-read after-trit)
           (at-loop .loop .inv .1) (after-count-trit .count-trit .ensures),
-      turn-reads (tritAt (now (a .work-ones)) (now (a .work-twos))) (heldKey (a .held) (now (a .ones)) (now (a .twos))) (packedRow (a .held .k) (now (a .s)))
+      turn-reads (tritAt (now (a .work-ones)) (now (a .work-twos))) (heldKey (a .held) (now (a .ones)) (now (a .twos))) (packedRow (now (a .s)))
           (at-loop .loop .i) (tritOf (after-trit .trit .result)) (trit-read after-trit) (v .size) v (after-take-row .take-row .ensures),
     )
 
@@ -149,9 +149,9 @@ returns c =
     let a = start .args in
     let l = c .before .loop in
     let e : l .i ≡ a .held .k = omega arith in (
-      l .inv .1 ∙ ap (countsV (packedRow (a .held .k) (now (a .s)))) e,
+      l .inv .1 ∙ ap (countsV (packedRow (now (a .s)))) e,
       reads-to (l .inv .2) (ap (λ (x : ℕ). zipV subT (tritAt (now (a .work-ones)) (now (a .work-twos)))
-          (timesKey x (heldKey (a .held) (now (a .ones)) (now (a .twos))) (packedRow (a .held .k) (now (a .s))))) e),
+          (timesKey x (heldKey (a .held) (now (a .ones)) (now (a .twos))) (packedRow (now (a .s))))) e),
     )
 
 pub take-by-table-spec : {M : Type 1} → statement M

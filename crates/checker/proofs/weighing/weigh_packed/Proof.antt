@@ -8,12 +8,11 @@ use lib.ListN.{length}
 use denote.Ref.{now}
 use Rattle.trits.specs.Trit.{sumOf}
 use Rattle.trits.specs.Refusal.{planesRefusal}
-use Rattle.trits.proofs.Reading.{reads-to}
 use Rattle.trits.proofs.Counting.{counts-le}
 use Rattle.packed.specs.Packed.{packedRow, bytesFor, packedRefusal}
 use Rattle.held_key.specs.Held.{rowTrits}
 use Rattle.held_key.proofs.Sizes.{sizes}
-use Rattle.packed.proofs.Digits.{packed-out}
+use Rattle.packed.proofs.Turned.{packed-out}
 use Rattle.check_tests.proofs.Passed.{packed-fitted, packed-contents}
 use Rattle.trits.proofs.Refusals.{planes-row}
 use Rattle.checker.proofs.Weighed.{weighed, at-most}
@@ -42,7 +41,8 @@ fitting s = packed-fitted _ _ _ (s .pre .lengths)
 
 -- the planes of the key, y and s passed their tests
 passed : (s : tie.Start) → let a = s .args in
-    (planesRefusal (now (a .ones)) (now (a .twos)) (a .held .k) (rowTrits (a .held)) ≡ 0) × (packedRefusal (now (a .y)) ≡ 0) × (packedRefusal (now (a .s)) ≡ 0)
+    (planesRefusal (now (a .ones)) (now (a .twos)) (a .held .k) (rowTrits (a .held)) ≡ 0) × (packedRefusal (rowTrits (a .held)) (now (a .y)) ≡ 0)
+    × (packedRefusal (a .held .k) (now (a .s)) ≡ 0)
 passed s = packed-contents _ _ _ _ _ (s .pre .contents)
 
 row-trits-requires : tie.Need-row-trits-requires
@@ -59,7 +59,7 @@ write-packed-requires c κs =
       enough = omega (arith, f, p, c .before .before .row-trits .ensures, n);
       trits-fit = omega (arith, f, p, c .before .before .row-trits .ensures, n);
       small = omega (arith, f, p, c .before .before .row-trits .ensures, n);
-      not-refused = passed s .1;
+      not-refused = ap (λ (m : ℕ). packedRefusal m (now (s .args .y))) (c .before .before .row-trits .ensures) ∙ passed s .1;
     }
 
 take-packed-rows-requires : tie.Need-take-packed-rows-requires
@@ -95,7 +95,7 @@ add-counts-requires c κs =
     let few = sizes (a .held) (s .pre .whole .is-sound) in
     let (counted, taken) = after-take-packed-rows .take-packed-rows .ensures in (
       omega (arith, at-most taken (c .count .ensures), after-write-packed .write-packed .ensures .size, s .pre .work-ones, few),
-      omega (arith, ap sumOf counted, counts-le (packedRow (a .held .k) (now (a .s))) (a .held .k), few),
+      omega (arith, ap sumOf counted, counts-le (packedRow (now (a .s))) (a .held .k), few),
     )
 
 same-length : tie.Need-same-length
@@ -113,9 +113,8 @@ returns c =
     let a = s .args in
     let (counted, taken) = after-take-packed-rows .take-packed-rows .ensures in
     c .add-counts .ensures
-    ∙ weighed (packedRow (rowTrits (a .held)) (now (a .y))) (packedRow (a .held .k) (now (a .s))) (s .pre .whole) (passed s .0)
-    (packed-out (now (a .y)) (rowTrits (a .held))) (reads-to (after-write-packed .write-packed .ensures)
-    (ap (λ (m : ℕ). packedRow m (now (a .y))) (after-write-packed .before .before .before .row-trits .ensures))) (s .pre .work-ones)
+    ∙ weighed (packedRow (now (a .y))) (packedRow (now (a .s))) (s .pre .whole) (passed s .0)
+    (packed-out (rowTrits (a .held)) (now (a .y)) (passed s .1)) (after-write-packed .write-packed .ensures) (s .pre .work-ones)
     taken (after-count .count .ensures) counted
 
 pub weigh-packed-spec : {M : Type 1} → statement M

@@ -9,7 +9,7 @@ use denote.Ref.{now}
 use borrow.Author.Tests.{eq-eqb, ne-eqb}
 use Rattle.trits.specs.Refusal.{codeOf, first}
 use Rattle.trits.proofs.Refusals.{first-stops, first-goes}
-use Rattle.packed.specs.Packed.{bytesFor}
+use Rattle.packed.specs.Packed.{bytesFor, packedRefusal}
 use Rattle.held_key.specs.Held.{rowTrits}
 use Rattle.held_key.specs.Store.{rowRefusal, storePackedRefusal}
 use Rattle.held_key.proofs.Room.{Room, room}
@@ -66,8 +66,9 @@ unfolding storePackedRefusal
 returns-3 c =
     let else1 = c .before .before .before in
     let a = start-from-else1 else1 .args in
-    state-goes else1 (c .test-bytes .ensures ∙ rw (eq-eqb (length (now (a .row))) (bytesFor (rowTrits (a .held)))
-    (c .before .if2 .left ∙ ap bytesFor (c .before .before .row-trits .ensures))))
+    let m = c .before .before .row-trits .ensures in
+    state-goes else1 (c .test-bytes .ensures ∙ ap (λ (x : ℕ). packedRefusal x (now (a .row))) m
+    ∙ rw (eq-eqb (length (now (a .row))) (bytesFor (rowTrits (a .held))) (c .before .if2 .left ∙ ap bytesFor m)))
 
 pub test-packed-row-spec : {M : Type 1} → statement M
 test-packed-row-spec =

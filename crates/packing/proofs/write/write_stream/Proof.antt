@@ -8,7 +8,7 @@ use denote.Ref.{now}
 use Rattle.trits.proofs.Ends.{zeros-hold}
 use Rattle.trits.proofs.Lists.{length-zeros}
 use Rattle.packed.specs.Stream.{streamRow, kept}
-use Rattle.packed.specs.Packed.{packedAt}
+use Rattle.packed.specs.Packed.{packedRow}
 use Rattle.packing.proofs.write.write_stream.Statement.{statement}
 use Rattle.packing.proofs.write.write_stream.Tie as tie
 
@@ -41,7 +41,7 @@ put-stream-requires c κs =
     let et = after-zero-words2 .zero-words2 .ensures in
     let l = ap length eo ∙ length-zeros (length (now (s .args .ones))) in record {
       is-table = c .before .before .before .byte-table .ensures;
-      nothing-put = zeros-hold (packedAt (kept (now (s .args .bytes)))) eo et (s .pre .twos-size);
+      nothing-put = zeros-hold (packedRow (kept (now (s .args .bytes)))) eo et (s .pre .twos-size);
       enough = omega (arith, l);
       trits-fit = omega (arith, l);
       small = omega (arith, l);

@@ -1,0 +1,137 @@
+-- Trits past the length in packed bytes, 15: the last byte alone tells it, and a row that passes is 0 past its length. Assumes nothing.
+use mathlib.Core.Path.{_≡_, refl, sym, ap, ap₂, _∙_}
+use mathlib.Core.Bool.{Bool, true, false, true≢false}
+use mathlib.Core.List.{List, [], _∷_}
+use Prim.Native.Nat.{ℕ, zero, suc, _+_, _-_, _*_, _/_, _%_, _^_, _≤_, _<_}
+use native.Mathlib.Nat.{zero-div, zero-lt-suc, mod-lt, div-eq-of-lt, pow-suc, add-zero, add-suc}
+use native.Mathlib.Decide.{decLt}
+use native.Mathlib.Omega.{arith}
+use mathlib.Core.Logic.{_≢_}
+use borrow.Author.Tests.{le-leb, lt-leb}
+use lib.Dec.{leb}
+use lib.ListN.{length, getD, List·getD-eq-default}
+use Rattle.trits.specs.Trit.{Trit, t0, t1, t2, number, tritOf, isSet, upTo}
+use Rattle.trits.proofs.Tests.{any-none, none-any}
+use Rattle.trits.proofs.Ends.{upto-ended}
+use Rattle.packed.specs.Packed.{bytesFor, digitOf, packedRow, badByte, packedPastEnd}
+use Rattle.packed.specs.Stream.{streamRow}
+use Rattle.packed.proofs.Digits.{digit-lt, digit-number, byte-digits, packed-place}
+use Rattle.packed.proofs.Keeping.{bytes-small, kept-all}
+
+-- ---- a row that passes is 0 past its length
+
+not-set : (x : Trit) → isSet x ≡ false → x ≡ t0
+not-set t0 e = refl
+not-set t1 e = absurd (true≢false e)
+not-set t2 e = absurd (true≢false e)
+
+digit-none : (k : ℕ) → digitOf 0 k ≡ 0
+unfolding digitOf
+digit-none k = ap (λ (x : ℕ). x % 3) (zero-div (3 ^ k))
+
+-- past the bytes there is 0
+pub bytes-end : (bytes : List ℕ) (q : ℕ) → 5 * length bytes ≤ q → packedRow bytes q ≡ t0
+unfolding packedRow
+bytes-end bytes q h = ap (λ (b : ℕ). tritOf (digitOf b (q % 5))) (List·getD-eq-default bytes 0 (omega arith)) ∙ ap tritOf (digit-none (q % 5))
+
+-- so is every place past the length
+pub packed-ended : (m : ℕ) (bytes : List ℕ) → packedPastEnd m bytes ≡ false → (q : ℕ) → m ≤ q → packedRow bytes q ≡ t0
+unfolding packedPastEnd
+packed-ended m bytes e q h = by (decLt q (5 * length bytes))
+  where
+    by : Dec (q < 5 * length bytes) → packedRow bytes q ≡ t0
+    by (yes l) =
+        let s : m + (q - m) ≡ q = omega arith in
+        sym (ap (packedRow bytes) s)
+        ∙ not-set (packedRow bytes (m + (q - m))) (any-none (5 * length bytes - m) (λ k. isSet (packedRow bytes (m + k))) e (q - m) (omega arith))
+    by (no f) = bytes-end bytes q (omega arith)
+
+-- and a row that is 0 there passes
+pub ended-passes : (m : ℕ) (bytes : List ℕ) → ((q : ℕ) → m ≤ q → q < 5 * length bytes → packedRow bytes q ≡ t0) → packedPastEnd m bytes ≡ false
+unfolding packedPastEnd
+ended-passes m bytes z =
+    none-any (5 * length bytes - m) (λ k. isSet (packedRow bytes (m + k))) (λ k l. ap isSet (z (m + k) (omega arith) (omega arith)))
+
+-- such a row reads as it did when those trits were ignored
+pub packed-upto : (m : ℕ) (bytes : List ℕ) → packedPastEnd m bytes ≡ false → upTo m (packedRow bytes) ≡ packedRow bytes
+packed-upto m bytes e = upto-ended (packedRow bytes) m (packed-ended m bytes e)
+
+-- and where no byte of it is skipped, as a stream does
+pub kept-row : (m : ℕ) (bytes : List ℕ) → badByte bytes ≡ false → packedPastEnd m bytes ≡ false → streamRow m bytes ≡ packedRow bytes
+unfolding streamRow
+kept-row m bytes g e = ap (λ (l : List ℕ). upTo m (packedRow l)) (kept-all bytes g) ∙ packed-upto m bytes e
+
+-- ---- the last byte tells it: with q = m % 5 trits in it, it is below 3 ^ q
+
+power-le : (q d : ℕ) → 3 ^ q ≤ 3 ^ (q + d)
+power-le q zero = omega (arith, ap (λ (x : ℕ). 3 ^ x) (add-zero q))
+power-le q (suc d) = omega (arith, ap (λ (x : ℕ). 3 ^ x) (add-suc q d), pow-suc 3 (q + d), power-le q d)
+
+-- the digits from q on of a byte below 3 ^ q are 0
+digit-past : (b q r : ℕ) → b < 3 ^ q → q ≤ r → digitOf b r ≡ 0
+unfolding digitOf
+digit-past b q r h l =
+    let s : q + (r - q) ≡ r = omega arith in
+    ap (λ (x : ℕ). x % 3) (div-eq-of-lt (omega (arith, h, power-le q (r - q), ap (λ (x : ℕ). 3 ^ x) s)))
+
+-- and a byte whose digits from q on are 0 is below 3 ^ q
+digits-past : (b q : ℕ) → b < 243 → q < 5 → ((r : ℕ) → q ≤ r → r < 5 → digitOf b r ≡ 0) → b < 3 ^ q
+digits-past b q h l z = by q (byte-digits b h) l z
+  where
+    by : (q : ℕ) → digitOf b 0 + 3 * digitOf b 1 + 9 * digitOf b 2 + 27 * digitOf b 3 + 81 * digitOf b 4 ≡ b → q < 5
+        → ((r : ℕ) → q ≤ r → r < 5 → digitOf b r ≡ 0) → b < 3 ^ q
+    by zero e l z =
+        omega (arith, e, z 0 (omega arith) l, z 1 (omega arith) (omega arith), z 2 (omega arith) (omega arith), z 3 (omega arith) (omega arith), z 4 (omega arith) (omega arith))
+    by (suc zero) e l z =
+        omega (arith, e, digit-lt b 0, z 1 (omega arith) (omega arith), z 2 (omega arith) (omega arith), z 3 (omega arith) (omega arith), z 4 (omega arith) (omega arith))
+    by (suc (suc zero)) e l z =
+        omega (arith, e, digit-lt b 0, digit-lt b 1, z 2 (omega arith) (omega arith), z 3 (omega arith) (omega arith), z 4 (omega arith) (omega arith))
+    by (suc (suc (suc zero))) e l z =
+        omega (arith, e, digit-lt b 0, digit-lt b 1, digit-lt b 2, z 3 (omega arith) (omega arith), z 4 (omega arith) (omega arith))
+    by (suc (suc (suc (suc zero)))) e l z =
+        omega (arith, e, digit-lt b 0, digit-lt b 1, digit-lt b 2, digit-lt b 3, z 4 (omega arith) (omega arith))
+    by (suc (suc (suc (suc (suc q))))) e l z = absurd (omega arith)
+
+module _ (m : ℕ) (bytes : List ℕ) (size : length bytes ≡ bytesFor m) where
+  -- the length ends with a byte: nothing is past it
+  pub past-none : m % 5 ≡ 0 → packedPastEnd m bytes ≡ false
+  past-none e = ended-passes m bytes (λ q h l. absurd (omega arith))
+
+  -- the last byte is below 3 ^ q
+  past-below : getD bytes (m / 5) 0 < 3 ^ (m % 5) → packedPastEnd m bytes ≡ false
+  past-below h = ended-passes m bytes (λ q g l.
+      let e : q ≡ 5 * (m / 5) + q % 5 = omega arith in
+      ap (packedRow bytes) e ∙ packed-place bytes (m / 5) (q % 5) (mod-lt q (zero-lt-suc 4))
+      ∙ ap tritOf (digit-past (getD bytes (m / 5) 0) (m % 5) (q % 5) h (omega arith)))
+
+  -- it is not
+  past-above : badByte bytes ≡ false → m / 5 < length bytes → 3 ^ (m % 5) ≤ getD bytes (m / 5) 0 → packedPastEnd m bytes ≡ true
+  past-above g l h = by (packedPastEnd m bytes) refl
+    where
+      by : (t : Bool) → packedPastEnd m bytes ≡ t → packedPastEnd m bytes ≡ true
+      by true e = e
+      by false e =
+          let b = getD bytes (m / 5) 0 in
+          absurd (omega (arith, h, digits-past b (m % 5) (bytes-small bytes g (m / 5) l) (mod-lt m (zero-lt-suc 4)) (λ r p q.
+          sym (digit-number b r)
+          ∙ ap number (sym (packed-place bytes (m / 5) r q) ∙ packed-ended m bytes e (5 * (m / 5) + r) (omega arith)))))
+
+  -- so it is held against 3 ^ q
+  pub past-last : badByte bytes ≡ false → (m % 5 ≡ 0 → ⊥) → leb (3 ^ (m % 5)) (getD bytes (m / 5) 0) ≡ packedPastEnd m bytes
+  past-last g f = by (decLt (getD bytes (m / 5) 0) (3 ^ (m % 5)))
+    where
+      by : Dec (getD bytes (m / 5) 0 < 3 ^ (m % 5)) → leb (3 ^ (m % 5)) (getD bytes (m / 5) 0) ≡ packedPastEnd m bytes
+      by (yes l) = lt-leb (3 ^ (m % 5)) (getD bytes (m / 5) 0) l ∙ sym (past-below l)
+      by (no h) =
+          let n : m % 5 ≢ 0 = f in
+          let l : 3 ^ (m % 5) ≤ getD bytes (m / 5) 0 = omega arith in
+          le-leb (3 ^ (m % 5)) (getD bytes (m / 5) 0) l ∙ sym (past-above g (omega (arith, size, n)) l)
+
+-- the powers of 3 below 243
+pub power-at : (q : ℕ) → q < 5 → getD (1 ∷ 3 ∷ 9 ∷ 27 ∷ 81 ∷ []) q 0 ≡ 3 ^ q
+power-at zero l = refl
+power-at (suc zero) l = refl
+power-at (suc (suc zero)) l = refl
+power-at (suc (suc (suc zero))) l = refl
+power-at (suc (suc (suc (suc zero)))) l = refl
+power-at (suc (suc (suc (suc (suc q))))) l = absurd (omega arith)

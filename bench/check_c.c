@@ -12,10 +12,11 @@ static uint64_t planes_refusal(const uint64_t *ones, const uint64_t *twos, size_
     return past >> m % 64 ? 4 : 0;
 }
 
-static uint64_t bytes_refusal(const uint8_t *bytes, size_t n) {
+static uint64_t bytes_refusal(size_t m, const uint8_t *bytes, size_t n) {
+    static const uint8_t powers[5] = {1, 3, 9, 27, 81};
     for (size_t i = 0; i < n; i++)
         if (bytes[i] > 242) return 5;
-    return 0;
+    return m % 5 && bytes[n - 1] >= powers[m % 5] ? 15 : 0;
 }
 
 static uint64_t call_refusal(wave_held h, uint64_t number, size_t ones, size_t twos, size_t work_ones, size_t work_twos) {
@@ -103,7 +104,8 @@ static uint64_t c_unpack(size_t m, const uint8_t *bytes, size_t n, uint64_t *one
     size_t w = WAVE_WORDS(m);
     if (m > 16384) return 1;
     if (n != WAVE_BYTES(m) || on != w || tn != w) return 2;
-    if (bytes_refusal(bytes, n)) return 5;
+    uint64_t r = bytes_refusal(m, bytes, n);
+    if (r) return r;
     if (!table[1][0]) make_table();
     memset(ones, 0, 8 * w);
     memset(twos, 0, 8 * w);
@@ -132,8 +134,8 @@ static wave_checked c_weigh_packed(wave_held h, uint64_t number, const uint64_t 
     size_t m = h.n - h.k;
     if (!r && (yn != WAVE_BYTES(m) || sn != WAVE_BYTES(h.k))) r = 2;
     if (!r) r = planes_refusal(ones, twos, h.k, m);
-    if (!r) r = bytes_refusal(y, yn);
-    if (!r) r = bytes_refusal(s, sn);
+    if (!r) r = bytes_refusal(m, y, yn);
+    if (!r) r = bytes_refusal(h.k, s, sn);
     if (r) return (wave_checked){r, 0, 0, 0};
     if (!table[1][0]) make_table();
     for (size_t i = 0; i < times; i++) c = full_counts_packed(h, ones, twos, y, s, work_ones, work_twos);

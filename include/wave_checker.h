@@ -4,16 +4,19 @@
  * Trits stand in two planes of 64-bit words, ones and twos, least significant bit first: trit 1 sets its bit in the
  * ones plane, trit 2 in the twos plane. A row of m trits takes WAVE_WORDS(m) words in each plane; the rows of a key
  * follow each other, each beginning a new word. Packed, m trits take WAVE_BYTES(m) bytes, five trits to a byte, the
- * first trit times 1, then times 3, 9, 27, 81; trits past m in the last byte are ignored on reading and written as 0.
+ * first trit times 1, then times 3, 9, 27, 81. Trits past m in the last byte are 0, when written and for bytes to be
+ * read: where m is no multiple of 5, the last byte is below 3 to the power m % 5. So a row has one packed form, and
+ * bytes that were read and are packed again come back.
  *
  * Every buffer is a pointer and its number of elements (words or bytes, not the size in bytes). Every length must be
  * exactly what the sizes say. No two buffers of one call may overlap where one of them is written. The caller owns
  * all memory; nothing is allocated or kept between calls.
  *
  * Refusals are numbers, 0 for none: 1 a size outside its range, 2 a wrong length, 3 a bit set in both planes, 4 a bit
- * set past a row's length, 5 a packed byte above 242, 6 the stream ends too soon, 20 no key begun or rows missing at a
- * check, 21 a row offered to a whole key, 22 another key number than the held one. A call tests in the order given with
- * it and returns the first refusal that applies; a refused call leaves the state and every buffer as they were.
+ * set past a row's length, 5 a packed byte above 242, 6 the stream ends too soon, 15 a nonzero trit past the length in
+ * packed bytes, 20 no key begun or rows missing at a check, 21 a row offered to a whole key, 22 another key number than
+ * the held one. A call tests in the order given with it and returns the first refusal that applies; a refused call
+ * leaves the state and every buffer as they were.
  */
 #ifndef WAVE_CHECKER_H
 #define WAVE_CHECKER_H
@@ -60,7 +63,7 @@ wave_stored wave_begin(wave_held held, uint64_t number, uint64_t n, uint64_t k, 
  * Stores a packed row of n-k trits as the next row of the key. ones and twos are the planes of the whole key, each of
  * WAVE_KEY_WORDS(n, k) words; row has WAVE_BYTES(n-k) bytes. The words of that row are filled in both planes, bits past
  * its length 0, and no other word changes.
- * Order of refusals: 20 (no key begun), 1 (a state out of its ranges), 21, 2, 5.
+ * Order of refusals: 20 (no key begun), 1 (a state out of its ranges), 21, 2, 5, 15 (5 over all of row first).
  */
 wave_stored wave_store_row(wave_held held, uint64_t *ones, size_t ones_words, uint64_t *twos, size_t twos_words,
                            const uint8_t *row, size_t row_bytes);
@@ -72,7 +75,7 @@ wave_stored wave_store_row(wave_held held, uint64_t *ones, size_t ones_words, ui
  * WAVE_WORDS(n-k) words each; they may hold anything, are untouched after a refusal, and are all zero after every
  * verdict.
  * Order of refusals: 20 (no key begun), 1 (a state out of its ranges), 20 (rows missing), 22, 2, then the contents of
- * the key (3, then 4, each over all of it), of y (5) and of s (5).
+ * the key (3, then 4, each over all of it), of y (5, then 15) and of s (5, then 15).
  */
 wave_checked wave_check(wave_held held, uint64_t number, const uint64_t *ones, size_t ones_words,
                         const uint64_t *twos, size_t twos_words, const uint8_t *y, size_t y_bytes,
@@ -88,14 +91,15 @@ uint64_t wave_pack(size_t m, const uint64_t *ones, size_t ones_words, const uint
 
 /*
  * Unpacks a row of m trits (0 to 16,384): WAVE_BYTES(m) bytes become planes of WAVE_WORDS(m) words each, bits past m 0.
- * Order of refusals: 1, 2, 5. The planes stay after a refusal.
+ * Order of refusals: 1, 2, 5, 15 (5 over all bytes first). The planes stay after a refusal.
  */
 uint64_t wave_unpack(size_t m, const uint8_t *bytes, size_t bytes_count, uint64_t *ones, size_t ones_words,
                      uint64_t *twos, size_t twos_words);
 
 /*
  * Takes m trits (0 to 16,384) from a stream of bytes of any length: bytes of 243 or more are skipped, each other byte
- * gives five trits, and what follows the m-th trit is not looked at. The planes have WAVE_WORDS(m) words each.
+ * gives five trits, and what follows the m-th trit, in its byte too, is not looked at. The planes have WAVE_WORDS(m)
+ * words each.
  * Order of refusals: 1, 2, 6. The planes stay after a refusal.
  */
 uint64_t wave_from_stream(size_t m, const uint8_t *bytes, size_t bytes_count, uint64_t *ones, size_t ones_words,

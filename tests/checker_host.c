@@ -170,10 +170,14 @@ static void example(void)
     m.held.w = 2;
     pack_digits("00", bytes(&m.s));
     verdict(&m, 1, 1, 1);
-    /* trits past the length in the last byte are ignored on reading: 22222 is 22 here, and the word 0022 */
-    bytes(&m.s)[0] = 242;
-    bytes(&m.y)[0] = 7 + 2 * 9 + 1 * 81;
+    /* s = 22 makes 0022; a trit past the length in s or in y is 15 */
+    pack_digits("22", bytes(&m.s));
     verdict(&m, 0, 2, 1);
+    bytes(&m.s)[0] = 242;
+    refused_check(&m, m.held, 7, right(&m), 15);
+    pack_digits("22", bytes(&m.s));
+    bytes(&m.y)[0] = 7 + 1 * 81;
+    refused_check(&m, m.held, 7, right(&m), 15);
     take_back_all();
 }
 
@@ -305,6 +309,46 @@ static void checks_refused(void)
     take_back_all();
 }
 
+/* a nonzero trit past the length: two trits are in the last byte of a row and of y, three in that of s */
+static void past_the_length(void)
+{
+    module m;
+    counts c;
+    open_module(&m, 7, 200, 68, 100);
+    c = right(&m);
+    EXPECT(c.row == 27 && c.s == 14);
+    for (unsigned b = 9; b < 256; b++) {
+        bytes(&m.row)[26] = (uint8_t)b;
+        refused_row(&m, m.held, c, b > 242 ? 5 : 15);
+    }
+    /* after 5 wherever that stands, and after every length */
+    bytes(&m.row)[26] = 9; bytes(&m.row)[0] = 243; refused_row(&m, m.held, c, 5);
+    bytes(&m.row)[0] = 0; refused_row(&m, m.held, c, 15);
+    c.twos++; refused_row(&m, m.held, c, 2); c.twos--;
+    bytes(&m.row)[26] = 8;
+    for (int i = 0; i < 68; i++) store(&m);
+
+    for (unsigned b = 9; b < 256; b++) {
+        bytes(&m.y)[26] = (uint8_t)b;
+        refused_check(&m, m.held, 7, c, b > 242 ? 5 : 15);
+    }
+    /* y's 15 before s's 5, after y's own 5 and after the held rows */
+    bytes(&m.y)[26] = 162; bytes(&m.s)[0] = 243; refused_check(&m, m.held, 7, c, 15);
+    bytes(&m.y)[0] = 243; refused_check(&m, m.held, 7, c, 5);
+    bytes(&m.y)[0] = 0;
+    words(&m.twos)[2] |= 16; refused_check(&m, m.held, 7, c, 4); words(&m.twos)[2] ^= 16;
+    bytes(&m.y)[26] = 8; refused_check(&m, m.held, 7, c, 5);
+    bytes(&m.s)[0] = 0;
+    for (unsigned b = 27; b < 256; b++) {
+        bytes(&m.s)[13] = (uint8_t)b;
+        refused_check(&m, m.held, 7, c, b > 242 ? 5 : 15);
+    }
+    /* the largest last bytes that pass: y ends with 22, s with 222, and three rows twice over take nothing from y */
+    bytes(&m.s)[13] = 26;
+    verdict(&m, 0, 5, 0);
+    take_back_all();
+}
+
 /* the paper's verdict on random keys, trit by trit: y - s times the key, then s */
 static unsigned trit_of(uint64_t *seed)
 {
@@ -369,8 +413,23 @@ static void packings(void)
     bytes(&packed)[0] = 242;
     EXPECT(wave_unpack(5, bytes(&packed), 1, words(&ones), 1, words(&twos), 1) == 0);
     EXPECT(words(&ones)[0] == 0 && words(&twos)[0] == 31);
-    EXPECT(wave_unpack(3, bytes(&packed), 1, words(&ones), 1, words(&twos), 1) == 0);
-    EXPECT(words(&ones)[0] == 0 && words(&twos)[0] == 7);
+    /* every byte at every length: what is read packs to the byte, and nothing else is written */
+    for (unsigned m = 1, power = 3; m <= 5; m++, power *= 3) {
+        for (unsigned b = 0; b < 256; b++) {
+            bytes(&packed)[0] = (uint8_t)b;
+            words(&ones)[0] = 0x5C5C; words(&twos)[0] = 0xC5C5;
+            uint64_t code = wave_unpack(m, bytes(&packed), 1, words(&ones), 1, words(&twos), 1);
+            EXPECT(code == (b > 242 ? 5 : b >= power ? 15 : 0));
+            if (code) {
+                EXPECT(words(&ones)[0] == 0x5C5C && words(&twos)[0] == 0xC5C5);
+            } else {
+                bytes(&packed)[0] = 255;
+                EXPECT(wave_pack(m, words(&ones), 1, words(&twos), 1, bytes(&packed), 1) == 0);
+                EXPECT(bytes(&packed)[0] == b);
+            }
+        }
+    }
+    EXPECT(all_guarded());
     bytes(&packed)[0] = 243;
     note_all();
     EXPECT(wave_unpack(5, bytes(&packed), 1, words(&ones), 1, words(&twos), 1) == 5);
@@ -402,6 +461,9 @@ static void packings(void)
     EXPECT(wave_from_stream(7, stream, 6, words(&ones), 1, words(&twos), 1) == 0);
     EXPECT(words(&ones)[0] == 17 && words(&twos)[0] == (2 | 32 | 64) && all_guarded());
     EXPECT(wave_from_stream(0, stream, 0, words(&ones), 0, words(&twos), 0) == 0);
+    /* nor what the byte of the last trit holds past it: 242 gives two trits of 2 above, one here */
+    EXPECT(wave_from_stream(6, stream, 6, words(&ones), 1, words(&twos), 1) == 0);
+    EXPECT(words(&ones)[0] == 17 && words(&twos)[0] == (2 | 32) && all_guarded());
     note_all();
     EXPECT(wave_from_stream(11, stream, 6, words(&ones), 1, words(&twos), 1) == 6);
     EXPECT(wave_from_stream(7, stream, 3, words(&ones), 1, words(&twos), 1) == 6);
@@ -420,6 +482,7 @@ int main(void)
     example();
     rows_refused();
     checks_refused();
+    past_the_length();
     packings();
     against_trits(4, 2, 1);
     against_trits(6, 4, 2);

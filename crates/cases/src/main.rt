@@ -2,14 +2,15 @@
 mod show; // what is printed
 
 ghost use mathlib.Core.Path.{_≡_};
-ghost use Prim.Native.Nat.{_+_, _*_, _%_, _<_};
-ghost use lib.ListN.{length};
+ghost use Prim.Native.Nat.{_+_, _-_, _*_, _%_, _<_};
+ghost use lib.ListN.{length, set};
 ghost use Rattle.trits.specs.Planes.{tabulate};
 use libc::STDOUT_FILENO;
 
-// Bytes 3, 10, 17 and so on, modulo 243, are unpacked into planes that hold other words, and packed again.
+// Bytes 3, 10, 17 and so on, modulo 243, and 1 at the end, are unpacked into planes that hold other words, and packed again.
 fn there_and_back(m: usize, bytes: &mut [u8], ones: &mut [u64], twos: &mut [u64], out: &mut [u8]) {
     fill(bytes);
+    end_in_one(bytes);
     show::unpack(m, bytes, ones, twos);
     show::pack(m, ones, twos, out);
 }
@@ -45,6 +46,17 @@ fn fill(bytes: &mut [u8])
         x = next(x);
         j += 1;
     }
+}
+
+// The last byte, if there is one, is 1: its first trit alone is not 0.
+fn end_in_one(bytes: &mut [u8])
+    ensures { λ _. ⌜ now (bytes .exit) ≡ set (now (bytes .entry)) (length (now (bytes .entry)) - 1) 1 ⌝ }
+{
+    let count = bytes.len();
+    if count == 0 {
+        return;
+    }
+    bytes[count - 1] = 1;
 }
 
 // Seven more, modulo 243.
@@ -86,8 +98,8 @@ fn pack_edges() {
 fn unpack_edges() {
     unpack_byte(5, 88);
     unpack_byte(5, 242);
-    unpack_byte(2, 242);
-    unpack_byte(1, 241);
+    unpack_byte(2, 8);
+    unpack_byte(1, 2);
 }
 
 // What pack refuses: sizes and each length.
@@ -123,20 +135,39 @@ fn unpack_lengths() {
     show::unpack(5, &[0], &mut [9], &mut [9, 9]);
 }
 
-// And a byte above 242, also where only its ignored trits are large.
+// And a byte above 242, a trit past the length, and which comes first.
 fn unpack_contents() {
     unpack_byte(5, 243);
     show::unpack(6, &[0, 255], &mut [9], &mut [9]);
     unpack_byte(1, 243);
+    unpack_byte(2, 242);
+    unpack_byte(1, 241);
+    show::unpack(6, &[0, 3], &mut [9], &mut [9]);
+    show::unpack(6, &[243, 3], &mut [9], &mut [9]);
 }
 
-// Streams: skipped bytes, a last byte that gives less, bytes that are not looked at.
+// Every last byte, at every number of trits in it: alone, and after another byte.
+fn last_bytes() {
+    show::last_bytes(1);
+    show::last_bytes(2);
+    show::last_bytes(3);
+    show::last_bytes(4);
+    show::last_bytes(5);
+    show::last_bytes(6);
+    show::last_bytes(7);
+    show::last_bytes(8);
+    show::last_bytes(9);
+    show::last_bytes(10);
+}
+
+// Streams: skipped bytes, a last byte that gives less, whatever its other trits are, bytes that are not looked at.
 fn streams() {
     stream_word(9, &[255, 88, 243, 242, 7]);
     stream_word(10, &[88, 244, 242]);
     stream_word(6, &[1, 1, 255]);
     stream_word(5, &[243, 250, 80]);
     stream_word(1, &[2]);
+    stream_word(1, &[242]);
 }
 
 // Streams that end too soon.
@@ -165,6 +196,7 @@ fn main() {
     pack_contents();
     unpack_lengths();
     unpack_contents();
+    last_bytes();
     streams();
     short_streams();
     stream_lengths();

@@ -83,3 +83,30 @@ pub fn stream(m: usize, bytes: &[u8], ones: &mut [u64], twos: &mut [u64])
     answer(outcome);
     planes(ones, twos);
 }
+
+// What unpack answers for bytes.
+fn told(m: usize, bytes: &[u8]) {
+    number(trits::refusal::code(packing::unpack(m, bytes, &mut [9], &mut [9])));
+}
+
+// What it answers for a row of one or two bytes by its last byte; the trits of a byte before it are all 2.
+fn told_by_last(m: usize, last: u8) {
+    if m > 5 {
+        told(m, &[242, last]);
+        return;
+    }
+    told(m, &[last]);
+}
+
+// What it answers for every last byte.
+pub fn last_bytes(m: usize) {
+    io::write_all(STDOUT_FILENO, b"unpack");
+    number(m as u64);
+    io::write_all(STDOUT_FILENO, b", last byte 0 to 255, answers");
+    let mut last: usize = 0;
+    while last < 256 {
+        told_by_last(m, last as u8);
+        last += 1;
+    }
+    io::write_all(STDOUT_FILENO, b"\n");
+}

@@ -165,5 +165,5 @@ stored-apart h a b o t p q e f same-ones same-twos =
     let (_, size-a, good-a) = stored-packed-passed x e in
     let (_, size-b, good-b) = stored-packed-passed y f in
     let same : packedRow a ≡ packedRow b =
-        sym (packed-new x e) ∙ ap₂ (λ (ones twos : List ℕ). heldKey (nextHeld h) ones twos (h .rows)) same-ones same-twos ∙ packed-new y f in
+    sym (packed-new x e) ∙ ap₂ (λ (ones twos : List ℕ). heldKey (nextHeld h) ones twos (h .rows)) same-ones same-twos ∙ packed-new y f in
     one-form (rowTrits h) a b size-a size-b good-a good-b (λ i l. ap (λ (v : ℕ → Trit). v i) same)

@@ -58,7 +58,8 @@ pub large-first : (packedRefusal 7 (243 ∷ 242 ∷ []) ≡ 5) × (packedRefusal
 unfolding packedRefusal badByte packedPastEnd packedRow digitOf anyTo
 large-first = (refl, refl, refl)
 
--- the rule in numbers, of the last byte b of a row of m trits: above 242 it is 5; q = m % 5 of its trits are the row's, and unless q is 0 it is 15 from 3 ^ q on
+-- the rule in numbers, of the last byte b of a row of m trits: above 242 it is 5; q = m % 5 of its trits are the row's, and from 3 ^ q on it is 15,
+-- unless q is 0
 abbrev byNumber : ℕ → ℕ → ℕ
 byNumber m b = refuse (ltb 242 b) 5 (refuse (ltb 0 (m % 5) && leb (3 ^ (m % 5)) b) 15 0)
 
@@ -86,6 +87,10 @@ pub stream-skips : (streamOnes (streamOf 6 (243 ∷ 1 ∷ 255 ∷ 4 ∷ 9 ∷ []
     × (streamTwos (streamOf 6 (243 ∷ 1 ∷ 255 ∷ 4 ∷ 9 ∷ []) (7 ∷ []) (9 ∷ [])) ≡ 0 ∷ [])
 unfolding streamOnes streamTwos streamRefusal tooShort kept onesOf twosOf tabulate fromBits streamRow packedRow digitOf upTo
 stream-skips = (refl, refl)
+
+pub stream-past : streamRefusal (streamOf 1 (242 ∷ []) (7 ∷ []) (9 ∷ [])) ≡ 0
+unfolding streamRefusal tooShort kept
+stream-past = refl
 
 -- six trits of one byte that counts: 6
 pub stream-short : streamRefusal (streamOf 6 (243 ∷ 1 ∷ 255 ∷ []) (7 ∷ []) (9 ∷ [])) ≡ 6

@@ -6,13 +6,13 @@ use Prim.Native.Nat.{ℕ, zero, suc, _+_, _-_, _*_, _/_, _%_, _^_, _≤_, _<_}
 use native.Mathlib.Nat.{zero-div, zero-lt-suc, mod-lt, div-eq-of-lt, pow-suc, add-zero, add-suc}
 use native.Mathlib.Decide.{decLt}
 use native.Mathlib.Omega.{arith}
-use mathlib.Core.Logic.{_≢_}
 use borrow.Author.Tests.{le-leb, lt-leb}
 use lib.Dec.{leb}
 use lib.ListN.{length, getD, List·getD-eq-default}
 use Rattle.trits.specs.Trit.{Trit, t0, t1, t2, number, tritOf, isSet, upTo}
 use Rattle.trits.proofs.Tests.{any-none, none-any}
 use Rattle.trits.proofs.Ends.{upto-ended}
+use Rattle.trits.proofs.Refusals.{positive}
 use Rattle.packed.specs.Packed.{bytesFor, digitOf, packedRow, badByte, packedPastEnd}
 use Rattle.packed.specs.Stream.{streamRow}
 use Rattle.packed.proofs.Digits.{digit-lt, digit-number, byte-digits, packed-place}
@@ -74,23 +74,22 @@ digit-past b q r h l =
     let s : q + (r - q) ≡ r = omega arith in
     ap (λ (x : ℕ). x % 3) (div-eq-of-lt (omega (arith, h, power-le q (r - q), ap (λ (x : ℕ). 3 ^ x) s)))
 
--- and a byte whose digits from q on are 0 is below 3 ^ q
-digits-past : (b q : ℕ) → b < 243 → q < 5 → ((r : ℕ) → q ≤ r → r < 5 → digitOf b r ≡ 0) → b < 3 ^ q
-digits-past b q h l z = by q (byte-digits b h) l z
+-- and a byte whose digits from q on are 0 is below 3 ^ q, since it is made of the others
+digits-past : (b q : ℕ) → b < 243 → 0 < q → q < 5 → ((r : ℕ) → q ≤ r → r < 5 → digitOf b r ≡ 0) → b < 3 ^ q
+digits-past b q h p l z = by q (byte-digits b h) p l z
   where
-    by : (q : ℕ) → digitOf b 0 + 3 * digitOf b 1 + 9 * digitOf b 2 + 27 * digitOf b 3 + 81 * digitOf b 4 ≡ b → q < 5
+    by : (q : ℕ) → digitOf b 0 + 3 * digitOf b 1 + 9 * digitOf b 2 + 27 * digitOf b 3 + 81 * digitOf b 4 ≡ b → 0 < q → q < 5
         → ((r : ℕ) → q ≤ r → r < 5 → digitOf b r ≡ 0) → b < 3 ^ q
-    by zero e l z =
-        omega (arith, e, z 0 (omega arith) l, z 1 (omega arith) (omega arith), z 2 (omega arith) (omega arith), z 3 (omega arith) (omega arith), z 4 (omega arith) (omega arith))
-    by (suc zero) e l z =
-        omega (arith, e, digit-lt b 0, z 1 (omega arith) (omega arith), z 2 (omega arith) (omega arith), z 3 (omega arith) (omega arith), z 4 (omega arith) (omega arith))
-    by (suc (suc zero)) e l z =
-        omega (arith, e, digit-lt b 0, digit-lt b 1, z 2 (omega arith) (omega arith), z 3 (omega arith) (omega arith), z 4 (omega arith) (omega arith))
-    by (suc (suc (suc zero))) e l z =
-        omega (arith, e, digit-lt b 0, digit-lt b 1, digit-lt b 2, z 3 (omega arith) (omega arith), z 4 (omega arith) (omega arith))
-    by (suc (suc (suc (suc zero)))) e l z =
-        omega (arith, e, digit-lt b 0, digit-lt b 1, digit-lt b 2, digit-lt b 3, z 4 (omega arith) (omega arith))
-    by (suc (suc (suc (suc (suc q))))) e l z = absurd (omega arith)
+    by zero e p l z = absurd (omega arith)
+    by (suc zero) e p l z =
+        omega (arith, e, digit-lt b 0, z 1 (omega arith) l, z 2 (omega arith) (omega arith), z 3 (omega arith) (omega arith), z 4 (omega arith) (omega arith))
+    by (suc (suc zero)) e p l z =
+        omega (arith, e, digit-lt b 0, digit-lt b 1, z 2 (omega arith) l, z 3 (omega arith) (omega arith), z 4 (omega arith) (omega arith))
+    by (suc (suc (suc zero))) e p l z =
+        omega (arith, e, digit-lt b 0, digit-lt b 1, digit-lt b 2, z 3 (omega arith) l, z 4 (omega arith) (omega arith))
+    by (suc (suc (suc (suc zero)))) e p l z =
+        omega (arith, e, digit-lt b 0, digit-lt b 1, digit-lt b 2, digit-lt b 3, z 4 (omega arith) l)
+    by (suc (suc (suc (suc (suc q))))) e p l z = absurd (omega arith)
 
 module _ (m : ℕ) (bytes : List ℕ) (size : length bytes ≡ bytesFor m) where
   -- the length ends with a byte: nothing is past it
@@ -105,16 +104,17 @@ module _ (m : ℕ) (bytes : List ℕ) (size : length bytes ≡ bytesFor m) where
       ∙ ap tritOf (digit-past (getD bytes (m / 5) 0) (m % 5) (q % 5) h (omega arith)))
 
   -- it is not
-  past-above : badByte bytes ≡ false → m / 5 < length bytes → 3 ^ (m % 5) ≤ getD bytes (m / 5) 0 → packedPastEnd m bytes ≡ true
-  past-above g l h = by (packedPastEnd m bytes) refl
+  past-above : badByte bytes ≡ false → 0 < m % 5 → 3 ^ (m % 5) ≤ getD bytes (m / 5) 0 → packedPastEnd m bytes ≡ true
+  past-above g p h = by (packedPastEnd m bytes) refl
     where
       by : (t : Bool) → packedPastEnd m bytes ≡ t → packedPastEnd m bytes ≡ true
       by true e = e
       by false e =
           let b = getD bytes (m / 5) 0 in
-          absurd (omega (arith, h, digits-past b (m % 5) (bytes-small bytes g (m / 5) l) (mod-lt m (zero-lt-suc 4)) (λ r p q.
-          sym (digit-number b r)
-          ∙ ap number (sym (packed-place bytes (m / 5) r q) ∙ packed-ended m bytes e (5 * (m / 5) + r) (omega arith)))))
+          let small = bytes-small bytes g (m / 5) (omega (arith, size)) in
+          let none : (r : ℕ) → m % 5 ≤ r → r < 5 → digitOf b r ≡ 0 = λ r k l.
+          sym (digit-number b r) ∙ ap number (sym (packed-place bytes (m / 5) r l) ∙ packed-ended m bytes e (5 * (m / 5) + r) (omega arith)) in
+          absurd (omega (arith, h, digits-past b (m % 5) small p (mod-lt m (zero-lt-suc 4)) none))
 
   -- so it is held against 3 ^ q
   pub past-last : badByte bytes ≡ false → (m % 5 ≡ 0 → ⊥) → leb (3 ^ (m % 5)) (getD bytes (m / 5) 0) ≡ packedPastEnd m bytes
@@ -123,9 +123,8 @@ module _ (m : ℕ) (bytes : List ℕ) (size : length bytes ≡ bytesFor m) where
       by : Dec (getD bytes (m / 5) 0 < 3 ^ (m % 5)) → leb (3 ^ (m % 5)) (getD bytes (m / 5) 0) ≡ packedPastEnd m bytes
       by (yes l) = lt-leb (3 ^ (m % 5)) (getD bytes (m / 5) 0) l ∙ sym (past-below l)
       by (no h) =
-          let n : m % 5 ≢ 0 = f in
           let l : 3 ^ (m % 5) ≤ getD bytes (m / 5) 0 = omega arith in
-          le-leb (3 ^ (m % 5)) (getD bytes (m / 5) 0) l ∙ sym (past-above g (omega (arith, size, n)) l)
+          le-leb (3 ^ (m % 5)) (getD bytes (m / 5) 0) l ∙ sym (past-above g (positive f) l)
 
 -- the powers of 3 below 243
 pub power-at : (q : ℕ) → q < 5 → getD (1 ∷ 3 ∷ 9 ∷ 27 ∷ 81 ∷ []) q 0 ≡ 3 ^ q

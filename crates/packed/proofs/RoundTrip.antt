@@ -1,4 +1,5 @@
--- Reading what was packed returns its trits, packing what was read returns its bytes, and no two packed texts of one length mean the same trits. Assumes nothing.
+-- Reading what was packed returns its trits, packing what was read returns its bytes, and no two packed texts of one length mean
+-- the same trits. Assumes nothing.
 use mathlib.Core.Path.{_≡_, refl, sym, ap, ap₂, _∙_, subst, fun-ext}
 use mathlib.Core.Bool.{false}
 use mathlib.Core.List.{List}

@@ -9,7 +9,7 @@ use Rattle.trits.specs.Refusal.{spaceExit}
 abbrev left : ℕ → List ℕ
 left answer = spaceExit answer (5 ∷ 6 ∷ [])
 
--- untouched after 1 to 8, 11 and 20 to 22
+-- untouched after 1 to 8, 11, 15 and 20 to 22
 after-1 : left 1 ≡ 5 ∷ 6 ∷ []
 unfolding spaceExit
 after-1 = refl
@@ -21,6 +21,10 @@ after-8 = refl
 after-11 : left 11 ≡ 5 ∷ 6 ∷ []
 unfolding spaceExit
 after-11 = refl
+
+after-15 : left 15 ≡ 5 ∷ 6 ∷ []
+unfolding spaceExit
+after-15 = refl
 
 after-20 : left 20 ≡ 5 ∷ 6 ∷ []
 unfolding spaceExit

@@ -1,7 +1,7 @@
 //! The module's half: the held key, its rows, and the verdict.
 
 use crate::algebra::{ones_and_twos, take_out};
-use crate::packing::{bytes, unpacked};
+use crate::packing::{bytes, packed_fault, unpacked};
 use crate::planes::{fault, read, words, write_row};
 
 /// The state, as the C header has it.
@@ -68,8 +68,9 @@ pub fn store_row(held: Held, ones: &mut [u64], twos: &mut [u64], row: &[u8]) -> 
     if ones.len() != k * words(m) || twos.len() != k * words(m) || row.len() != bytes(m) {
         return refused(2);
     }
-    if row.iter().any(|b| *b > 242) {
-        return refused(5);
+    let found = packed_fault(row, m);
+    if found != 0 {
+        return refused(found);
     }
     let (from, to) = (held.rows as usize * words(m), (held.rows as usize + 1) * words(m));
     write_row(&unpacked(row, m), &mut ones[from..to], &mut twos[from..to]);
@@ -113,8 +114,11 @@ pub fn check(held: Held, number: u64, ones: &[u64], twos: &[u64], y: &[u8], s: &
     if found != 0 {
         return refused(found);
     }
-    if y.iter().any(|b| *b > 242) || s.iter().any(|b| *b > 242) {
-        return refused(5);
+    for (bytes, length) in [(y, m), (s, k)] {
+        let found = packed_fault(bytes, length);
+        if found != 0 {
+            return refused(found);
+        }
     }
     let word = full_word(&read(ones, twos, k, m), &unpacked(y, m), &unpacked(s, k));
     work_ones.fill(0);

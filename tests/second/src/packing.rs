@@ -17,8 +17,21 @@ pub fn packed(row: &[u8]) -> Vec<u8> {
     row.chunks(5).map(|five| five.iter().rev().fold(0, |b, t| 3 * b + t)).collect()
 }
 
-/// The first m trits of packed bytes, each 0 to 242.
+/// 5 for a byte above 242, anywhere; then 15 for a trit past the length that is not 0; else 0. The length is right.
+pub fn packed_fault(bytes: &[u8], m: usize) -> u64 {
+    if bytes.iter().any(|b| *b > 242) {
+        return 5;
+    }
+    let trits: Vec<u8> = bytes.iter().flat_map(|b| trits_of(*b)).collect();
+    if trits[m..].iter().any(|t| *t != 0) {
+        return 15;
+    }
+    0
+}
+
+/// The m trits of packed bytes that have no fault.
 pub fn unpacked(bytes: &[u8], m: usize) -> Vec<u8> {
+    assert_eq!(packed_fault(bytes, m), 0);
     let mut row: Vec<u8> = bytes.iter().flat_map(|b| trits_of(*b)).collect();
     row.truncate(m);
     assert_eq!(row.len(), m);
@@ -54,8 +67,9 @@ pub fn unpack(m: u64, row: &[u8], ones: &mut [u64], twos: &mut [u64]) -> u64 {
     if row.len() != bytes(m) || ones.len() != words(m) || twos.len() != words(m) {
         return 2;
     }
-    if row.iter().any(|b| *b > 242) {
-        return 5;
+    let found = packed_fault(row, m);
+    if found != 0 {
+        return found;
     }
     write_row(&unpacked(row, m), ones, twos);
     0

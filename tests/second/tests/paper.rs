@@ -51,13 +51,16 @@ fn packing_examples() {
         assert_eq!(t[0] as u32 + 3 * t[1] as u32 + 9 * t[2] as u32 + 27 * t[3] as u32 + 81 * t[4] as u32, b as u32);
         assert_eq!(packed(&t), [b]);
     }
-    // trits past the length: ignored on reading, written as 0
-    let (mut ones, mut twos) = ([0], [0]);
-    assert_eq!(unpack(2, &[242], &mut ones, &mut twos), 0);
-    assert_eq!((ones, twos), ([0], [3]));
+    // trits past the length: written as 0, and 15 on reading if one is not
+    let (mut ones, mut twos) = ([7], [9]);
+    assert_eq!(unpack(2, &[242], &mut ones, &mut twos), 15);
+    assert_eq!((ones, twos), ([7], [9]));
     assert_eq!(packed(&row("22")), [8]);
-    // only the ignored trits are large: still 5
+    assert_eq!(unpack(2, &[8], &mut ones, &mut twos), 0);
+    assert_eq!((ones, twos), ([0], [3]));
+    // 5 comes first
     assert_eq!(unpack(1, &[243], &mut ones, &mut twos), 5);
+    assert_eq!(unpack(6, &[243, 242], &mut ones, &mut twos), 5);
     // 16,384 passes and 16,385 is 1
     let mut bytes = vec![0; 3277];
     assert_eq!(pack(16384, &[0; 256], &[0; 256], &mut bytes), 0);
@@ -67,6 +70,28 @@ fn packing_examples() {
     assert_eq!(pack(2, &[4], &[0], &mut [0]), 4);
 }
 
+/// Every row of up to two bytes, the first of them 0 to 255 too where it is not the last: what is read packs to its bytes, and as many texts are read as
+/// there are rows of trits.
+#[test]
+fn one_packed_form() {
+    for m in 1..=10u32 {
+        let mut read = 0;
+        for text in 0..256u32.pow(m.div_ceil(5)) {
+            let bytes: Vec<u8> = (0..m.div_ceil(5)).map(|j| (text >> (8 * j)) as u8).collect();
+            let (mut ones, mut twos, mut again) = ([7], [9], vec![5; bytes.len()]);
+            match unpack(m as u64, &bytes, &mut ones, &mut twos) {
+                0 => {
+                    read += 1;
+                    assert_eq!(pack(m as u64, &ones, &twos, &mut again), 0);
+                    assert_eq!(again, bytes);
+                }
+                refusal => assert_eq!((refusal, ones, twos), (if bytes.iter().any(|b| *b > 242) { 5 } else { 15 }, [7], [9])),
+            }
+        }
+        assert_eq!(read, 3u32.pow(m), "m = {m}");
+    }
+}
+
 #[test]
 fn stream_examples() {
     let (mut ones, mut twos) = ([0], [0]);
@@ -74,6 +99,9 @@ fn stream_examples() {
     assert_eq!((ones, twos), ([1 | 1 << 4], [2 | 1 << 5 | 1 << 6]));
     assert_eq!(from_stream(7, &[243, 88, 255], &mut ones, &mut twos), 6);
     assert_eq!((ones, twos), ([1 | 1 << 4], [2 | 1 << 5 | 1 << 6]));
+    // what the last byte holds past the length is not looked at
+    assert_eq!(from_stream(2, &[242], &mut ones, &mut twos), 0);
+    assert_eq!((ones, twos), ([0], [3]));
     assert_eq!(from_stream(0, &[], &mut [], &mut []), 0);
 }
 

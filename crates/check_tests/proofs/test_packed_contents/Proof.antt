@@ -82,7 +82,8 @@ returns-2 c =
 
 test-bytes-requires-2 : tie.Need-test-bytes-requires-2
 test-bytes-requires-2 c κs =
-    fitting (start-from-else1 (c .before .before .before)) .1
+    let else1 = c .before .before .before in
+    omega (arith, fitting (start-from-else1 else1), else1 .before .before .before .row-trits .ensures)
 
 returns-3 : tie.Need-returns-3
 unfolding packedContents

@@ -37,11 +37,11 @@ impl Call {
     pub fn answers(self) -> &'static [u64] {
         match self {
             Call::Pack => &[0, 1, 2, 3, 4],
-            Call::Unpack => &[0, 1, 2, 5],
+            Call::Unpack => &[0, 1, 2, 5, 15],
             Call::Stream => &[0, 1, 2, 6],
             Call::Begin => &[0, 1],
-            Call::Store => &[0, 1, 2, 5, 20, 21],
-            Call::Check => &[0, 1, 2, 3, 4, 5, 20, 22],
+            Call::Store => &[0, 1, 2, 5, 15, 20, 21],
+            Call::Check => &[0, 1, 2, 3, 4, 5, 15, 20, 22],
             Call::Build => &[0, 1, 2, 3, 4, 7, 8, 9, 10],
             Call::Draw => &[0, 1, 2, 3, 4, 7, 8, 12, 13, 14],
         }
@@ -177,8 +177,8 @@ pub enum Role {
     NonZero { at: usize, from: usize, m: usize },
     /// An order of so many places: 7.
     Order { at: usize },
-    /// Packed bytes: 5.
-    Packed { at: usize },
+    /// Packed bytes of m trits: 5, 15.
+    Packed { at: usize, m: usize },
     /// A stream of which so many bytes are needed: 6.
     Stream { at: usize, need: usize },
     /// A matrix whose rank over the first `count` places of an order, or over all, is tested: 9, 10, 12, 13.

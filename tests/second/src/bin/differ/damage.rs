@@ -2,6 +2,7 @@
 
 use crate::case::{Buffer, Call, Case, Role};
 use crate::rng::Rng;
+use second::packing::{packed, trits_of};
 use second::planes::words;
 
 #[derive(Clone, Copy, Debug)]
@@ -46,6 +47,12 @@ pub enum Fault {
         value: u8,
         last: bool,
     },
+    /// A trit of the last byte, past the length.
+    PackedPast {
+        at: usize,
+        place: usize,
+        trit: u8,
+    },
     Cut {
         at: usize,
         to: usize,
@@ -83,6 +90,7 @@ impl Fault {
             Fault::Repeat { at } => format!("{} repeats", b(at)),
             Fault::Beyond { at, value } => format!("{} has {value}", b(at)),
             Fault::Big { at, value, last } => format!("{} has byte {value}{}", b(at), if last { " at its end" } else { "" }),
+            Fault::PackedPast { at, place, trit } => format!("{} has a trit past its length: {trit} at place {place} of its last byte", b(at)),
             Fault::Cut { at, to } => format!("{} cut to {to}", b(at)),
             Fault::ZeroRow { at, order, .. } => format!("{} has a zero row{}", b(at), if order.is_some() { " in the first part" } else { "" }),
             Fault::SameRow { at, .. } => format!("{} has a row twice", b(at)),
@@ -144,6 +152,13 @@ impl Fault {
                 if !bytes.is_empty() {
                     let i = if last { bytes.len() - 1 } else { rng.below(bytes.len()) };
                     bytes[i] = value;
+                }
+            }
+            Fault::PackedPast { at, place, trit } => {
+                if let Some(last) = case.buffers[at].bytes_mut().last_mut().filter(|b| **b <= 242) {
+                    let mut five = trits_of(*last);
+                    five[place] = trit;
+                    *last = packed(&five)[0];
                 }
             }
             Fault::Cut { at, to } => case.buffers[at].bytes_mut().truncate(to),
@@ -247,7 +262,13 @@ pub fn faults(case: &Case) -> Vec<(Fault, u64)> {
                     out.push((Fault::Beyond { at, value }, 7));
                 }
             }
-            Role::Packed { at } => {
+            Role::Packed { at, m } => {
+                if m % 5 != 0 {
+                    for trit in [1, 2] {
+                        out.push((Fault::PackedPast { at, place: m % 5, trit }, 15));
+                        out.push((Fault::PackedPast { at, place: 4, trit }, 15));
+                    }
+                }
                 if case.buffers[at].len() > 0 {
                     out.push((Fault::Big { at, value: 243, last: false }, 5));
                     out.push((Fault::Big { at, value: 255, last: false }, 5));

@@ -38,9 +38,9 @@ pub fn pack(rng: &mut Rng, m: usize) -> Case {
 }
 
 pub fn unpack(rng: &mut Rng, m: usize) -> Case {
-    let (row, ones, twos) = (rng.packed(bytes(m)), rng.words(words(m)), rng.words(words(m)));
+    let (row, ones, twos) = (rng.packed(m), rng.words(words(m)), rng.words(words(m)));
     let mut case = Case::new(Call::Unpack, vec![m as u64], vec![Bytes(row), Words(ones), Words(twos)]);
-    case.roles = vec![Role::Packed { at: 0 }];
+    case.roles = vec![Role::Packed { at: 0, m }];
     of_trits(case, m as u64)
 }
 
@@ -83,9 +83,9 @@ pub fn store(rng: &mut Rng, n: usize, k: usize, stored: usize) -> Case {
     let m = n - k;
     let (number, w) = (rng.below(256) as u64, rng.between(1, n) as u64);
     let (ones, twos) = (rng.words(k * words(m)), rng.words(k * words(m)));
-    let row = rng.packed(bytes(m));
+    let row = rng.packed(m);
     let mut case = Case::new(Call::Store, vec![1, number, n as u64, k as u64, w, stored as u64], vec![Words(ones), Words(twos), Bytes(row)]);
-    case.roles = vec![Role::Packed { at: 2 }];
+    case.roles = vec![Role::Packed { at: 2, m }];
     case.edges = state_edges(n as u64, k as u64, number, w);
     case.edges.push(Edge { at: 5, value: k as u64, refusal: 21 });
     case
@@ -95,14 +95,14 @@ pub fn check(rng: &mut Rng, n: usize, k: usize) -> Case {
     let m = n - k;
     let (number, w) = (rng.below(256) as u64, rng.between(1, n) as u64);
     let (ones, twos) = rng.planes(k, m);
-    let (y, s) = (rng.packed(bytes(m)), rng.packed(bytes(k)));
+    let (y, s) = (rng.packed(m), rng.packed(k));
     let (w1, w2) = (rng.words(words(m)), rng.words(words(m)));
     let mut case = Case::new(
         Call::Check,
         vec![1, number, n as u64, k as u64, w, k as u64, number],
         vec![Words(ones), Words(twos), Bytes(y), Bytes(s), Words(w1), Words(w2)],
     );
-    case.roles = vec![Role::Planes { at: 0, rows: k, m }, Role::Packed { at: 2 }, Role::Packed { at: 3 }];
+    case.roles = vec![Role::Planes { at: 0, rows: k, m }, Role::Packed { at: 2, m }, Role::Packed { at: 3, m: k }];
     case.edges = state_edges(n as u64, k as u64, number, w);
     case.edges.extend(edges(5, 20, &[0, k as u64 - 1]));
     case.edges.extend(edges(6, 22, &[number ^ 1, number ^ 128, 256, number + 256, number + (1 << 32), u64::MAX]));

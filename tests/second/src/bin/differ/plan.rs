@@ -31,6 +31,30 @@ pub fn packing(c: &mut Comparer) {
     }
 }
 
+/// Every last byte from 0 to 255 of every packed buffer, at every number of trits in it, is answered by the rule in numbers: 5 above 242, and 15 from
+/// 3 to the power q on where the byte has q of the row's trits, q not 0.
+pub fn last_bytes(c: &mut Comparer) {
+    for m in 2..=11 {
+        let row = make::store(&mut c.rng, 20, 20 - m, 0);
+        let (y, s) = (make::check(&mut c.rng, 20, 20 - m), make::check(&mut c.rng, 20, m));
+        for (mut case, at) in [(make::unpack(&mut c.rng, m), 0), (row, 2), (y, 2), (s, 3)] {
+            for last in 0..=255u8 {
+                *case.buffers[at].bytes_mut().last_mut().unwrap() = last;
+                let rule = match (last, m as u32 % 5) {
+                    (243.., _) => 5,
+                    (_, 0) => 0,
+                    (b, q) => 15 * (b >= 3u8.pow(q)) as u64,
+                };
+                let name = format!("last byte {last}");
+                let found = c.compare(&case, std::slice::from_ref(&name)).refusal();
+                if found != rule {
+                    c.report(&case, &[name], &format!("second answers {found}, the rule is {rule}"));
+                }
+            }
+        }
+    }
+}
+
 /// Beginning a key: numbers at every edge, over old states of every kind.
 pub fn beginning(c: &mut Comparer) {
     let old = [[0; 6], [1, 7, 4, 2, 4, 2], [1, 9, 256, 100, 30, 17], [2, 300, 5, 0, 0, u64::MAX], [u64::MAX; 6]];

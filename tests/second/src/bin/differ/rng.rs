@@ -1,5 +1,6 @@
 //! Numbers from a seed.
 
+use second::packing::bytes;
 use second::planes::words;
 
 pub struct Rng(u64);
@@ -92,12 +93,17 @@ impl Rng {
         (ones, twos)
     }
 
-    /// Packed bytes, the trits past the length at will.
-    pub fn packed(&mut self, count: usize) -> Vec<u8> {
-        match self.below(8) {
+    /// A packed row of m trits, those past the length 0.
+    pub fn packed(&mut self, m: usize) -> Vec<u8> {
+        let count = bytes(m);
+        let mut row = match self.below(8) {
             0 => vec![0; count],
             1 => vec![242; count],
             _ => (0..count).map(|_| self.below(243) as u8).collect(),
+        };
+        if m % 5 != 0 {
+            row[count - 1] %= 3u8.pow(m as u32 % 5);
         }
+        row
     }
 }

@@ -64,6 +64,10 @@ pub fn cases(c: &mut Comparer) {
     let [ones, twos] = pair("22222");
     expect(c, reads(242), &[0], &[(1, ones), (2, twos)]);
     expect(c, reads(243), &[5], &[(1, one(3)), (2, one(4))]);
+    // two trits: 8 is 22, and 242 has trits past the length
+    let two = |byte: u8| Case::new(Call::Unpack, vec![2], vec![Bytes(vec![byte]), one(3), one(4)]);
+    expect(c, two(8), &[0], &[(1, one(0)), (2, one(3))]);
+    expect(c, two(242), &[15], &[(1, one(3)), (2, one(4))]);
 
     let [k1, k2] = pair("02 22");
     expect(c, build([0, 1, 2, 3]), &[0], &[(9, Order(vec![0, 1, 2, 3])), (10, k1), (11, k2), (12, Words(vec![0; 4])), (13, Words(vec![0; 4]))]);
@@ -82,6 +86,18 @@ pub fn cases(c: &mut Comparer) {
     expect(c, check(7, 4, "12", "12"), &[0, 0, 1, 2], &[(4, one(0)), (5, one(0))]);
     expect(c, check(8, 4, "12", "11"), &[22, 0, 0, 0], &[(4, one(5)), (5, one(6))]);
     expect(c, check(7, 2, "12", "00"), &[0, 1, 1, 1], &[(4, one(0)), (5, one(0))]);
+    // a trit past the length in y, in s; y's 15 before s's 5, y's 5 before s's 15
+    for (y, s, refusal) in [(16, 4, 15), (7, 22, 15), (16, 243, 15), (243, 22, 5)] {
+        let mut asked = check(7, 4, "12", "11");
+        asked.buffers[2] = Bytes(vec![y]);
+        asked.buffers[3] = Bytes(vec![s]);
+        expect(c, asked, &[refusal, 0, 0, 0], &[(4, one(5)), (5, one(6))]);
+    }
+    // the row 02 is 6, and 33 has a 1 past the length: the state and the planes stay
+    for (byte, answer, plane) in [(6, vec![0, 1, 7, 4, 2, 4, 1], 2), (33, vec![15, 1, 7, 4, 2, 4, 0], 9)] {
+        let row = Case::new(Call::Store, vec![1, 7, 4, 2, 4, 0], vec![Words(vec![0, 8]), Words(vec![9, 8]), Bytes(vec![byte])]);
+        expect(c, row, &answer, &[(0, Words(vec![0, 8])), (1, Words(vec![plane, 8]))]);
+    }
 
     for (n, refusal) in [(4, 0), (16384, 0), (2, 1), (16386, 1)] {
         let state = if refusal == 0 { vec![refusal, 1, 0, n, 2, 1, 0] } else { vec![refusal, 0, 0, 0, 0, 0, 0] };

@@ -92,7 +92,7 @@ leaves-packed-check c =
     (leaves-demand (eqb (length (c .s)) (bytesFor (h .k))) 2 0 refl
     leaves-none))
     (leaves-first _ _ (leaves-planes (c .ones) (c .twos) (h .k) (rowTrits h))
-    (leaves-first _ _ (leaves-packed (rowTrits h) (c .y)) (leaves-packed (h .k) (c .s)))))
+    (leaves-first _ _ (leaves-packed _ (c .y)) (leaves-packed _ (c .s)))))
 
 -- a plane that was zeroed after a check that passed
 pub left-zero : (plane : List ℕ) {p : List ℕ} {r n : ℕ} → r ≡ 0 → n ≡ length plane → p ≡ zeroWords n → p ≡ spaceExit r plane

@@ -82,15 +82,17 @@ pub no-byte : packedRefusal 0 [] ≡ 0
 unfolding packedRefusal badByte packedPastEnd anyTo
 no-byte = refl
 
--- a byte of 243 or more is skipped, and the last byte gives only what is missing: what it holds past that is not looked at
+-- 242 as a stream of two trits is not refused, though as a packed row it is: what the last byte holds past them is not looked at
+pub stream-past : (packedRefusal 2 (242 ∷ []) ≡ 15) × (streamRefusal (streamOf 2 (242 ∷ []) (7 ∷ []) (9 ∷ [])) ≡ 0)
+    × (streamTwos (streamOf 2 (242 ∷ []) (7 ∷ []) (9 ∷ [])) ≡ 3 ∷ [])
+unfolding streamTwos streamRefusal tooShort kept twosOf tabulate fromBits streamRow packedRow digitOf upTo packedRefusal badByte packedPastEnd anyTo
+stream-past = (refl, refl, refl)
+
+-- a byte of 243 or more is skipped, and the last byte gives only what is missing
 pub stream-skips : (streamOnes (streamOf 6 (243 ∷ 1 ∷ 255 ∷ 4 ∷ 9 ∷ []) (7 ∷ []) (9 ∷ [])) ≡ 33 ∷ [])
     × (streamTwos (streamOf 6 (243 ∷ 1 ∷ 255 ∷ 4 ∷ 9 ∷ []) (7 ∷ []) (9 ∷ [])) ≡ 0 ∷ [])
 unfolding streamOnes streamTwos streamRefusal tooShort kept onesOf twosOf tabulate fromBits streamRow packedRow digitOf upTo
 stream-skips = (refl, refl)
-
-pub stream-past : streamRefusal (streamOf 1 (242 ∷ []) (7 ∷ []) (9 ∷ [])) ≡ 0
-unfolding streamRefusal tooShort kept
-stream-past = refl
 
 -- six trits of one byte that counts: 6
 pub stream-short : streamRefusal (streamOf 6 (243 ∷ 1 ∷ 255 ∷ []) (7 ∷ []) (9 ∷ [])) ≡ 6

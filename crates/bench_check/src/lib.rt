@@ -2,7 +2,6 @@
 ghost use mathlib.Core.Path.{_≡_};
 ghost use Rattle.trits.specs.Planes.{tritAt};
 ghost use Rattle.packed.specs.Packed.{packedRow};
-ghost use Rattle.held_key.specs.Held.{rowTrits};
 ghost use Rattle.check_tests.specs.Check.{heldCounts, answered};
 ghost use Rattle.check_tests.specs.Check.{checkOf, checkRefusal, checkCounts, checkAnswer, checkWorkOnes, checkWorkTwos};
 ghost use Rattle.check_tests.specs.Check.{packedCheckOf, checkPackedRefusal, checkPackedCounts, checkPackedWorkOnes, checkPackedWorkTwos};

@@ -2,13 +2,13 @@
 use mathlib.Core.Path.{_≡_, refl, _∙_}
 use mathlib.Core.Bool.{Bool, true, false, cond, _||_}
 use mathlib.Core.List.{List}
-use Prim.Native.Nat.{ℕ, _*_, _≤_}
-use native.Mathlib.Omega.{arith}
+use Prim.Native.Nat.{ℕ, _*_}
 use lib.Dec.{eqb, lit<}
 use lib.ListN.{length}
 use Rattle.trits.specs.Planes.{zeroWords}
 use Rattle.trits.specs.Refusal.{demand, first, spaceExit}
-use Rattle.trits.proofs.Refusals.{passed-first, passed-demand, first-all, demand-all, left-cleared, clears-demand, clears-none}
+use Rattle.trits.proofs.Refusals.{passed-first, passed-demand, left-cleared, clears-demand, clears-none}
+use Rattle.trits.proofs.Refusals.{Leaves, leaves-none, leaves-demand, leaves-first}
 use Rattle.trits.proofs.Tests.{or-false-both}
 use Rattle.matrix.specs.Orders.{Order, isOrder}
 use Rattle.matrix.proofs.Orders.{order-test}
@@ -19,8 +19,7 @@ use Rattle.scheme.specs.Secret.{Secret}
 use Rattle.scheme.specs.Build.{buildRefusal}
 use Rattle.calls.specs.Lent.{secretOf, pairDiffers, secretRefusal}
 use Rattle.calls.specs.BuildCall.{BuildCall, keyRowWords, buildWorkWords, keyDiffers, buildLengthsDiffer, buildAnswer}
-use Rattle.calls.proofs.Exits.{Low}
-use Rattle.calls.proofs.Secrets.{pair-same, differs, Lengths, secret-lengths, secret-low}
+use Rattle.calls.proofs.Secrets.{pair-same, differs, Lengths, secret-lengths, secret-leaves}
 
 -- ---- the answer
 
@@ -65,11 +64,13 @@ module _ (z : Sizes) (i : BuildCall) where
               → buildRefusal z (secretOf z (i .secret)) ≡ first x (demand t 7 (buildRefusal z (secretOf z (i .secret))))
           by t u x y = rw (u, y)
 
-pub contents-le : (z : Sizes) (i : BuildCall) → contents z i ≤ 8
-contents-le z i = first-all Low _ _ (secret-low z (i .secret)) (demand-all Low (isOrder (places z) (i .start)) 7 0 (omega arith) (omega arith))
-
 -- ---- the working space
 
+-- a refusal of the contents leaves it
+pub contents-leaves : (z : Sizes) (i : BuildCall) → Leaves (contents z i)
+contents-leaves z i = leaves-first _ _ (secret-leaves z (i .secret)) (leaves-demand (isOrder (places z) (i .start)) 7 0 refl leaves-none)
+
+-- after the ranks it is 0
 pub work-ended : (z : Sizes) (s : Secret) (w : List ℕ) → zeroWords (length w) ≡ spaceExit (buildRefusal z s) w
 unfolding buildRefusal
 work-ended z s w =

@@ -1,9 +1,8 @@
 -- The secret's lengths and contents: what tests that have passed show. Assumes nothing.
-use mathlib.Core.Path.{_≡_, sym, ap, _∙_}
+use mathlib.Core.Path.{_≡_, refl, sym, ap, _∙_}
 use mathlib.Core.Bool.{Bool, true, false, not, _||_}
 use Prim.Native.Nat.{ℕ, _+_, _*_}
 use native.Mathlib.Nat.{zero-add}
-use native.Mathlib.Omega.{arith}
 use borrow.Author.Tests.{eqb-true}
 use mir.Syntax.{w64}
 use mir.Val.{Fits}
@@ -12,7 +11,8 @@ use lib.ListN.{length, getD}
 use Rattle.trits.specs.Planes.{tritAt}
 use Rattle.trits.specs.Refusal.{planesRefusal}
 use Rattle.trits.proofs.Tests.{any-cong, or-false-both}
-use Rattle.trits.proofs.Refusals.{first-stops, first-goes, passed-first, planes-row, first-all, refuse-all}
+use Rattle.trits.proofs.Refusals.{first-stops, first-goes, passed-first, planes-row}
+use Rattle.trits.proofs.Refusals.{Leaves, leaves-none, leaves-refuse, leaves-first, leaves-planes}
 use Rattle.matrix.specs.Linear.{Vector}
 use Rattle.matrix.proofs.Field.{not-false}
 use Rattle.scheme.specs.declared.sizes.Sizes.{Sizes}
@@ -20,7 +20,6 @@ use Rattle.scheme.specs.Sizes.{half, ru, rv}
 use Rattle.calls.specs.Lent.{Planes, halfWords, pairDiffers, secretDiffers, secretRefusal}
 use Rattle.calls.specs.Steps.{SecretLengths, Readable}
 use Rattle.calls.proofs.Marks.{isZero}
-use Rattle.calls.proofs.Exits.{Low, planes-low}
 use Rattle.scheme.specs.Secret.{hasZero}
 
 -- ---- lengths that do not differ
@@ -81,11 +80,12 @@ module _ (z : Sizes) (i : Planes) where
   abbrev pub zeroInC : Bool
   zeroInC = hasZero (half z) (tritAt (i .c .ones) (i .c .twos))
 
-  pub secret-low : Low (secretRefusal z i)
+  -- each refusal of a secret leaves the working space
+  pub secret-leaves : Leaves (secretRefusal z i)
   unfolding secretRefusal
-  secret-low =
-      first-all Low _ _ (planes-low _ _ _ _) (first-all Low _ _ (planes-low _ _ _ _)
-      (first-all Low _ _ (planes-low _ _ _ _) (first-all Low _ _ (planes-low _ _ _ _) (refuse-all Low zeroInC 8 0 (omega arith) (omega arith)))))
+  secret-leaves =
+      leaves-first _ _ (leaves-planes _ _ _ _) (leaves-first _ _ (leaves-planes _ _ _ _)
+      (leaves-first _ _ (leaves-planes _ _ _ _) (leaves-first _ _ (leaves-planes _ _ _ _) (leaves-refuse zeroInC 8 0 refl leaves-none))))
 
 module _ (z : Sizes) (i : Planes) {x : ℕ} (a : x ≡ refusalHU z i) where
   pub secret-hu : (x ≡ 0 → ⊥) → x ≡ secretRefusal z i

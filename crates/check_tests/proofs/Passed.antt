@@ -1,15 +1,16 @@
 -- What the tests of a check have shown where none of them applied. Assumes nothing.
-use mathlib.Core.Path.{_≡_}
+use mathlib.Core.Path.{_≡_, sym, ap, _∙_}
 use mathlib.Core.Bool.{true}
 use mathlib.Core.List.{List}
-use Prim.Native.Nat.{ℕ}
+use Prim.Native.Nat.{ℕ, _<_}
 use lib.Dec.{eqb, lit<}
 use lib.ListN.{length}
 use borrow.Author.Tests.{eqb-true}
 use Rattle.trits.specs.Planes.{wordsFor}
 use Rattle.trits.specs.Refusal.{planesRefusal}
 use Rattle.trits.proofs.Refusals.{passed-refuse, passed-demand, passed-first}
-use Rattle.packed.specs.Packed.{bytesFor, packedRefusal}
+use Rattle.packed.specs.Packed.{bytesFor, packedRow, packedRefusal}
+use Rattle.packed.proofs.RoundTrip.{one-form}
 use Rattle.held_key.specs.declared.state.Held.{Held}
 use Rattle.held_key.specs.Held.{sound, rowTrits, rowWords, keyWords}
 use Rattle.check_tests.specs.Check.{Check, checkRefusal, PackedCheck, checkPackedRefusal}
@@ -113,3 +114,14 @@ check-packed-passed c e =
     let a = passed-first (callRefusal h (c .number) (length (c .ones)) (length (c .twos)) (length (c .workOnes)) (length (c .workTwos))) _ e in
     let b = passed-first (packedLengths h (length (c .y)) (length (c .s))) _ (a .1) in
     (called h (c .number) (length (c .ones)) (length (c .twos)) (length (c .workOnes)) (length (c .workTwos)) (a .0), b .0, b .1)
+
+-- one packed form for one signature: of two packed checks that passed, with keys of as many rows, the same trits of s are the same bytes
+pub checked-apart : (c d : PackedCheck) → c .held .k ≡ d .held .k → checkPackedRefusal c ≡ 0 → checkPackedRefusal d ≡ 0
+    → ((i : ℕ) → i < c .held .k → packedRow (c .s) i ≡ packedRow (d .s) i) → c .s ≡ d .s
+checked-apart c d e p q same =
+    let (_, lc, gc) = check-packed-passed c p in
+    let (_, ld, gd) = check-packed-passed d q in
+    let size = packed-fitted (d .held) (length (d .y)) (length (d .s)) ld .1 in
+    let good = packed-contents (d .held) (d .ones) (d .twos) (d .y) (d .s) gd .2 in
+    one-form (c .held .k) (c .s) (d .s) (packed-fitted (c .held) (length (c .y)) (length (c .s)) lc .1) (size ∙ ap bytesFor (sym e))
+    (packed-contents (c .held) (c .ones) (c .twos) (c .y) (c .s) gc .2) (ap (λ (k : ℕ). packedRefusal k (d .s)) e ∙ good) same

@@ -4,7 +4,7 @@ use mathlib.Core.List.{List, [], _∷_}
 use mathlib.Core.Bool.{cond}
 use Prim.Native.Nat.{ℕ}
 use lib.Dec.{eqb}
-use Rattle.trits.specs.Trit.{sumTo, dotV, anyTo, upTo}
+use Rattle.trits.specs.Trit.{sumTo, dotV, anyTo}
 use Rattle.trits.specs.Planes.{bit, bitAt, tritAt, fromBits, tabulate, onesOf, twosOf, bothSet, pastEnd, zeroWords}
 use Rattle.trits.specs.Rows.{rowPart, putWords, rowsPastEnd}
 use Rattle.trits.specs.Refusal.{first, spaceExit, planesRefusal}

@@ -6,7 +6,7 @@ ghost use Rattle.trits.specs.Trit.{subT, mulT, zipV, countsV, sumOf, tritOf};
 ghost use Rattle.trits.specs.Planes.{tritAt, Reads};
 ghost use Rattle.packed.specs.Packed.{packedRow};
 ghost use Rattle.verdict.specs.Verdict.{timesKey};
-ghost use Rattle.held_key.specs.Held.{rowTrits, heldKey};
+ghost use Rattle.held_key.specs.Held.{heldKey};
 ghost use Rattle.check_tests.specs.Check.{heldCounts};
 ghost use Rattle.checker.specs.Steps.{ForTakeRow, ForTakeRows, ForTakeByTable, ForTakePackedRows, ForWeigh, ForWeighPacked, moreCounts, addCounts};
 use held_key::state::Held;

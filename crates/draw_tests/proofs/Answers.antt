@@ -2,17 +2,16 @@
 use mathlib.Core.Path.{_≡_, refl, sym, _∙_}
 use mathlib.Core.Bool.{Bool, true, false, not, _||_, cond}
 use mathlib.Core.List.{List}
-use Prim.Native.Nat.{ℕ, _+_, _-_, _≤_}
-use native.Mathlib.Omega.{arith}
+use Prim.Native.Nat.{ℕ, _+_, _-_}
 use borrow.Author.Tests.{eqb-true}
 use mir.Syntax.{w64}
 use mir.Val.{Fits}
 use lib.Dec.{eqb, lit<}
 use lib.ListN.{length, getD}
 use Rattle.trits.specs.Planes.{wordsFor, tritAt, zeroWords}
-use Rattle.trits.specs.Refusal.{demand, first, spaceExit, planesRefusal}
-use Rattle.trits.proofs.Refusals.{passed-first, passed-refuse, passed-demand, first-all, demand-all, refuse-all, planes-row, left-cleared, clears-demand}
-use Rattle.trits.proofs.Refusals.{clears-none}
+use Rattle.trits.specs.Refusal.{first, spaceExit, planesRefusal}
+use Rattle.trits.proofs.Refusals.{passed-first, passed-refuse, passed-demand, planes-row, left-cleared, clears-demand, clears-none}
+use Rattle.trits.proofs.Refusals.{Leaves, leaves-none, leaves-refuse, leaves-demand, leaves-first, leaves-planes}
 use Rattle.trits.proofs.Tests.{or-false-both}
 use Rattle.trits.specs.Trit.{weightV}
 use Rattle.matrix.specs.Linear.{Vector, rank}
@@ -27,8 +26,7 @@ use Rattle.scheme.proofs.Zeros.{noZero-of}
 use Rattle.calls.specs.Lent.{pairDiffers, secretRefusal}
 use Rattle.calls.specs.Steps.{Readable}
 use Rattle.calls.specs.DrawCall.{DrawCall, drawWorkWords, choicesDiffer, drawLengthsDiffer, choicesRefusal, drawAnswer}
-use Rattle.calls.proofs.Exits.{Low, planes-low}
-use Rattle.calls.proofs.Secrets.{pair-same, differs, Lengths, secret-lengths, secret-low}
+use Rattle.calls.proofs.Secrets.{pair-same, differs, Lengths, secret-lengths, secret-leaves}
 use Rattle.draw_tests.specs.Steps.{given, chosen, ending, Ready, ChosenLengths}
 
 -- ---- the answer
@@ -79,20 +77,19 @@ pub same-choices : (z : Sizes) (i : DrawCall)
 unfolding choicesRefusal
 same-choices z i = refl
 
-pub contents-le : (z : Sizes) (i : DrawCall) → contents z i ≤ 8
-unfolding choicesRefusal
-contents-le z i =
-    first-all Low (secretRefusal z (i .secret)) (choicesRefusal z i) (secret-low z (i .secret))
-    (ordered (isOrder (places z) (i .p)) _ (first-all Low _ _ (planes-low (i .y .ones) (i .y .twos) 1 (codim z))
-    (ordered (isOrder (half z) (i .orderV)) _ (first-all Low _ _ (planes-low (i .v .ones) (i .v .twos) 1 (z .kv))
-    (ordered (isOrder (half z) (i .orderU)) _ (first-all Low _ _ (planes-low (i .u .ones) (i .u .twos) 1 (z .ku))
-    (refuse-all Low (hasZero (z .ku - gapU z) (λ j. tritAt (i .u .ones) (i .u .twos) (gapU z + j))) 8 0 (omega arith) (omega arith))))))))
-  where
-    ordered : (t : Bool) (r : ℕ) → Low r → Low (demand t 7 r)
-    ordered t r h = demand-all Low t 7 r (omega arith) h
-
 -- ---- the working space
 
+-- a refusal of the contents leaves it
+pub contents-leaves : (z : Sizes) (i : DrawCall) → Leaves (contents z i)
+unfolding choicesRefusal
+contents-leaves z i =
+    leaves-first (secretRefusal z (i .secret)) (choicesRefusal z i) (secret-leaves z (i .secret))
+    (leaves-demand (isOrder (places z) (i .p)) 7 _ refl (leaves-first _ _ (leaves-planes (i .y .ones) (i .y .twos) 1 (codim z))
+    (leaves-demand (isOrder (half z) (i .orderV)) 7 _ refl (leaves-first _ _ (leaves-planes (i .v .ones) (i .v .twos) 1 (z .kv))
+    (leaves-demand (isOrder (half z) (i .orderU)) 7 _ refl (leaves-first _ _ (leaves-planes (i .u .ones) (i .u .twos) 1 (z .ku))
+    (leaves-refuse (hasZero (z .ku - gapU z) (λ j. tritAt (i .u .ones) (i .u .twos) (gapU z + j))) 8 0 refl leaves-none)))))))
+
+-- after the word it is 0
 pub work-ended : (z : Sizes) (s : Secret) (p : List ℕ) (y : Vector) (ch : Choices) (w : List ℕ) → zeroWords (length w) ≡ spaceExit (drawRefusal z s p y ch) w
 unfolding drawRefusal
 work-ended z s p y ch w =

@@ -1,12 +1,12 @@
 -- Bytes and their five digits to the base 3: each determines the other. Assumes nothing.
-use mathlib.Core.Path.{_≡_, refl, sym, ap, ap₂, _∙_}
+use mathlib.Core.Path.{_≡_, refl, ap, ap₂, _∙_}
 use mathlib.Core.List.{List}
-use Prim.Native.Nat.{ℕ, zero, suc, _+_, _*_, _/_, _%_, _^_, _≤_, _<_}
+use Prim.Native.Nat.{ℕ, zero, suc, _+_, _*_, _/_, _%_, _^_, _<_}
 use native.Mathlib.Nat.{mod-lt, zero-lt-suc}
 use native.Mathlib.Omega.{arith}
 use lib.Arith.{digits-div, digits-mod}
 use lib.ListN.{getD}
-use Rattle.trits.specs.Trit.{Trit, t0, t1, t2, number, tritOf}
+use Rattle.trits.specs.Trit.{Trit, number, tritOf}
 use Rattle.trits.proofs.Arithmetic.{number-lt, number-tritOf}
 use Rattle.trits.proofs.Lists.{getD-tabulate}
 use Rattle.packed.specs.Packed.{byteOf, digitOf, byteTable, packedRow}

@@ -18,7 +18,7 @@ use Rattle.trits.proofs.Lists.{length-tabulate, getD-tabulate, tabulated}
 use Rattle.trits.proofs.Reading.{read-holds, holds-reads, length-ones, length-twos}
 use Rattle.trits.proofs.Tests.{none-any, both-apart, past-zero, written-both, written-past}
 use Rattle.trits.proofs.Matrix.{one-row-past}
-use Rattle.trits.proofs.Ends.{upto-in, upto-out, upto-ended}
+use Rattle.trits.proofs.Ends.{upto-out, upto-ended}
 use Rattle.trits.proofs.Refusals.{passed-refuse, passed-demand, planes-passed, exit-new}
 use Rattle.packed.specs.Packed.{bytesFor, byteOf, digitOf, packedRow, packedBytes, badByte, packedRefusal}
 use Rattle.packed.specs.Calls.{Pack, packOf, packRefusal, packExit, Unpack, unpackOf, unpackRefusal, unpackOnes, unpackTwos}

@@ -8,7 +8,6 @@ use Rattle.trits.specs.Planes.{tritAt}
 use Rattle.trits.specs.declared.Counts.{Counts}
 use Rattle.packed.specs.Packed.{packedRow}
 use Rattle.matrix.specs.Linear.{Vector}
-use Rattle.held_key.specs.Held.{rowTrits}
 use Rattle.check_tests.specs.Check.{Check, PackedCheck, checkRefusal, checkPackedRefusal, answered, checkAnswer, checkPackedAnswer}
 use Rattle.check_tests.proofs.Passed.{check-passed, check-packed-passed}
 use Rattle.checker.proofs.Verdicts.{check-verdict, check-packed-verdict, found-once}

@@ -8,7 +8,6 @@ use Prim.Native.Nat.{ℕ, _<_}
 use Rattle.trits.specs.Planes.{tritAt}
 use Rattle.packed.specs.Packed.{packedRow}
 use Rattle.matrix.specs.Linear.{Vector}
-use Rattle.held_key.specs.Held.{rowTrits}
 use Rattle.check_tests.specs.Check.{Check, checkAnswer, PackedCheck, checkPackedAnswer}
 use Rattle.scheme.specs.declared.sizes.Sizes.{Sizes}
 use Rattle.scheme.specs.Sizes.{sizesFit}

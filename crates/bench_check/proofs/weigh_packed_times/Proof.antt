@@ -5,7 +5,6 @@ use mathlib.Core.Path.{_≡_, refl, _∙_}
 use native.Mathlib.Omega.{arith}
 use lib.ListN.{length}
 use Rattle.packed.specs.Packed.{packedRow}
-use Rattle.held_key.specs.Held.{rowTrits}
 use Rattle.check_tests.specs.Check.{heldCounts}
 use Rattle.bench_check.specs.{after}
 use Rattle.bench_check.proofs.Laws.{after-turn}

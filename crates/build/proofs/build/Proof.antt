@@ -1,14 +1,13 @@
 -- Each return has the number of the first test that applies; nothing is written before the ranks are tested, and then what `finish` says.
 -- Assumes nothing.
-use Prim.Native.Nat.{ℕ, _≤_, _<_}
-use mathlib.Core.Path.{_≡_, sym, ap, ap₂, _∙_}
+use Prim.Native.Nat.{ℕ, _<_}
+use mathlib.Core.Path.{_≡_, refl, sym, ap, ap₂, _∙_}
 use mathlib.Core.Bool.{true, false}
-use native.Mathlib.Omega.{arith}
 use denote.Ref.{now}
 use lib.Dec.{lit<}
 use Rattle.trits.specs.Planes.{pairOf}
-use Rattle.trits.specs.Refusal.{codeOf, atExit, spaceExit}
-use Rattle.trits.proofs.Refusals.{exit-kept, positive}
+use Rattle.trits.specs.Refusal.{codeOf, atExit, spaceStays, spaceExit}
+use Rattle.trits.proofs.Refusals.{exit-kept, space-kept, positive}
 use Rattle.matrix.proofs.Field.{not-true, not-false}
 use Rattle.scheme.specs.declared.sizes.Sizes.{Sizes}
 use Rattle.scheme.specs.Sizes.{sizesFit}
@@ -16,9 +15,8 @@ use Rattle.scheme.specs.Build.{buildRefusal, keyOrder}
 use Rattle.calls.specs.Lent.{planes, secretOf}
 use Rattle.calls.specs.Steps.{Readable}
 use Rattle.calls.specs.BuildCall.{BuildCall, buildCall, buildLengthsDiffer, buildAnswer, orderExit, keyOnesOf, keyTwosOf, keyExit, buildWorkExit}
-use Rattle.calls.proofs.Exits.{work-kept}
 use Rattle.calls.proofs.Secrets.{readable}
-use Rattle.build.proofs.Answers.{contents, contents-le, contents-passed, answer-size, answer-length, answer-contents, answer-ranks}
+use Rattle.build.proofs.Answers.{contents, contents-leaves, contents-passed, answer-size, answer-length, answer-contents, answer-ranks}
 use Rattle.build.proofs.Answers.{same-lengths, lengths-secret, lengths-key, work-ended}
 use borrow.Author.Needs.{needs}
 use Rattle.build.proofs.build.Statement.{statement}
@@ -28,21 +26,21 @@ use Rattle.build.proofs.build.Tie as tie
 abbrev start-from-shared-slice-known8 : tie.After-shared-slice-known8 → tie.Start
 start-from-shared-slice-known8 c = c .before .before .before .before .before .before .before .before
 
--- a number from 1 to 8 is the whole answer: every buffer stays
-refused : (z : Sizes) (i : BuildCall) {r : ℕ} → r ≡ buildAnswer z i → 0 < r → r ≤ 8
+-- a refusal that leaves the working space is the whole answer: every buffer stays
+refused : (z : Sizes) (i : BuildCall) {r : ℕ} → r ≡ buildAnswer z i → 0 < r → spaceStays r ≡ true
     → (r ≡ buildAnswer z i) × (i .p ≡ orderExit z i) × (i .key ≡ keyExit z i) × (i .work ≡ buildWorkExit z i)
 unfolding orderExit keyExit buildWorkExit
 refused z i e h g = (
   e,
   exit-kept _ _ e h,
   ap₂ pairOf (exit-kept _ _ e h) (exit-kept _ _ e h),
-  ap₂ pairOf (work-kept _ e h g) (work-kept _ e h g),
+  ap₂ pairOf (space-kept _ e g) (space-kept _ e g),
 )
 
 -- 1 is told before anything is touched
 returns : tie.Need-returns
 returns c =
-    refused _ _ (answer-size _ _ (sym (c .before .sizes-fit .ensures) ∙ not-true (c .before .sizes-fit .result) (c .if1 .taken))) (lit< tt) (lit< tt)
+    refused _ _ (answer-size _ _ (sym (c .before .sizes-fit .ensures) ∙ not-true (c .before .sizes-fit .result) (c .if1 .taken))) (lit< tt) refl
 
 -- The other places.
 abbrev shared-slice-known9-from-sizes-fit : tie.After-sizes-fit → tie.After-shared-slice-known9
@@ -134,7 +132,7 @@ returns-2 c =
     let else1 = c .before .before in
     let s = start-from-else1 else1 in
     let f = same-lengths (s .args .z) (lent s) (sym (c .before .lengths-differ .ensures) ∙ c .if2 .taken) in
-    refused (s .args .z) (lent s) (answer-length (s .args .z) (lent s) (fits else1) f) (lit< tt) (lit< tt)
+    refused (s .args .z) (lent s) (answer-length (s .args .z) (lent s) (fits else1) f) (lit< tt) refl
 
 test-contents-requires : tie.Need-test-contents-requires
 test-contents-requires c κs =
@@ -153,7 +151,8 @@ returns-3 c =
     let s = start-from-else2 else2 in
     let e = c .before .before .test-contents .ensures in
     let g = answer-contents (s .args .z) (lent s) (fits (else2 .before .before)) (lengths else2) e (stopped c) in
-    refused (s .args .z) (lent s) g (positive (stopped c)) (omega (arith, e, contents-le (s .args .z) (lent s)))
+    refused (s .args .z) (lent s) g (positive (stopped c))
+    (ap spaceStays e ∙ contents-leaves (s .args .z) (lent s) .stays (λ z. stopped c (e ∙ z)))
 
 finish-requires : tie.Need-finish-requires
 finish-requires c κs =

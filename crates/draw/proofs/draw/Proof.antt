@@ -1,14 +1,13 @@
 -- Each return has the number of the first test that applies; nothing is written before all tests have passed, and then what `finish` says.
 -- Assumes nothing.
-use Prim.Native.Nat.{ℕ, _≤_, _<_}
-use mathlib.Core.Path.{_≡_, sym, ap, ap₂, _∙_}
+use Prim.Native.Nat.{ℕ, _<_}
+use mathlib.Core.Path.{_≡_, refl, sym, ap, ap₂, _∙_}
 use mathlib.Core.Bool.{true, false}
-use native.Mathlib.Omega.{arith}
 use denote.Ref.{now}
 use lib.Dec.{lit<}
 use Rattle.trits.specs.Planes.{Pair, pairOf, rowPair}
-use Rattle.trits.specs.Refusal.{codeOf, first, atExit, spaceExit}
-use Rattle.trits.proofs.Refusals.{exit-kept, positive}
+use Rattle.trits.specs.Refusal.{codeOf, first, atExit, spaceStays, spaceExit}
+use Rattle.trits.proofs.Refusals.{exit-kept, space-kept, positive}
 use Rattle.matrix.proofs.Field.{not-true, not-false}
 use Rattle.scheme.specs.declared.sizes.Sizes.{Sizes}
 use Rattle.scheme.specs.Sizes.{places, dim, sizesFit}
@@ -16,10 +15,9 @@ use Rattle.scheme.specs.Draw.{signature}
 use Rattle.calls.specs.Lent.{planes, secretOf, secretRefusal}
 use Rattle.calls.specs.Steps.{Readable}
 use Rattle.calls.specs.DrawCall.{DrawCall, drawCall, syndromeOf, choicesOf, drawLengthsDiffer, drawAnswer, wordOf, wordExit, sExit, drawWorkExit}
-use Rattle.calls.proofs.Exits.{work-kept}
 use Rattle.calls.proofs.Secrets.{readable}
 use Rattle.draw_tests.specs.Steps.{given, ending, Ready}
-use Rattle.draw_tests.proofs.Answers.{contents, same-choices, contents-le, contents-secret, answer-size, answer-length, answer-contents, answer-ending}
+use Rattle.draw_tests.proofs.Answers.{contents, same-choices, contents-leaves, contents-secret, answer-size, answer-length, answer-contents, answer-ending}
 use Rattle.draw_tests.proofs.Answers.{same-lengths, lengths-secret, lengths-choices, ready, work-ended}
 use borrow.Author.Needs.{needs}
 use Rattle.draw.proofs.draw.Statement.{statement}
@@ -35,21 +33,21 @@ shared-slice-known8-from-shared-slice-known17 c = c .before .before .before .bef
 abbrev start-from-shared-slice-known17 : tie.After-shared-slice-known17 → tie.Start
 start-from-shared-slice-known17 c = start-from-shared-slice-known8 (shared-slice-known8-from-shared-slice-known17 c)
 
--- a number from 1 to 8 is the whole answer: every buffer stays
-refused : (z : Sizes) (i : DrawCall) {r : ℕ} → r ≡ drawAnswer z i → 0 < r → r ≤ 8
+-- a refusal that leaves the working space is the whole answer: every buffer stays
+refused : (z : Sizes) (i : DrawCall) {r : ℕ} → r ≡ drawAnswer z i → 0 < r → spaceStays r ≡ true
     → (r ≡ drawAnswer z i) × (i .word ≡ wordExit z i) × (i .s ≡ sExit z i) × (i .work ≡ drawWorkExit z i)
 unfolding wordExit sExit drawWorkExit
 refused z i e h g = (
   e,
   ap₂ pairOf (exit-kept _ _ e h) (exit-kept _ _ e h),
   ap₂ pairOf (exit-kept _ _ e h) (exit-kept _ _ e h),
-  ap₂ pairOf (work-kept _ e h g) (work-kept _ e h g),
+  ap₂ pairOf (space-kept _ e g) (space-kept _ e g),
 )
 
 -- 1 is told before anything is touched
 returns : tie.Need-returns
 returns c =
-    refused _ _ (answer-size _ _ (sym (c .before .sizes-fit .ensures) ∙ not-true (c .before .sizes-fit .result) (c .if1 .taken))) (lit< tt) (lit< tt)
+    refused _ _ (answer-size _ _ (sym (c .before .sizes-fit .ensures) ∙ not-true (c .before .sizes-fit .result) (c .if1 .taken))) (lit< tt) refl
 
 -- The other places.
 abbrev slice-known-from-sizes-fit : tie.After-sizes-fit → tie.After-slice-known
@@ -176,7 +174,7 @@ returns-2 c =
     let else1 = c .before .before in
     let s = start-from-else1 else1 in
     let f = same-lengths (s .args .z) (lent s) (sym (c .before .lengths-differ .ensures) ∙ c .if2 .taken) in
-    refused (s .args .z) (lent s) (answer-length (s .args .z) (lent s) (fits else1) f) (lit< tt) (lit< tt)
+    refused (s .args .z) (lent s) (answer-length (s .args .z) (lent s) (fits else1) f) (lit< tt) refl
 
 test-contents-requires : tie.Need-test-contents-requires
 test-contents-requires c κs =
@@ -195,7 +193,8 @@ returns-3 c =
     let s = start-from-else2 else2 in
     let e = told (c .before .before) in
     let g = answer-contents (s .args .z) (lent s) (fits (else2 .before .before)) (lengths else2) e (stopped c) in
-    refused (s .args .z) (lent s) g (positive (stopped c)) (omega (arith, e, contents-le (s .args .z) (lent s)))
+    refused (s .args .z) (lent s) g (positive (stopped c))
+    (ap spaceStays e ∙ contents-leaves (s .args .z) (lent s) .stays (λ z. stopped c (e ∙ z)))
 
 finish-requires : tie.Need-finish-requires
 finish-requires c κs =

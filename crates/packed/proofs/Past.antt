@@ -1,7 +1,7 @@
 -- Trits past the length in packed bytes, 15: the last byte alone tells it, and a row that passes is 0 past its length. Assumes nothing.
 use mathlib.Core.Path.{_≡_, refl, sym, ap, _∙_}
 use mathlib.Core.Bool.{Bool, true, false, true≢false}
-use mathlib.Core.List.{List, [], _∷_}
+use mathlib.Core.List.{List}
 use Prim.Native.Nat.{ℕ, zero, suc, _+_, _-_, _*_, _/_, _%_, _^_, _≤_, _<_}
 use native.Mathlib.Nat.{zero-div, zero-lt-suc, mod-lt, div-eq-of-lt, pow-suc, add-zero, add-suc}
 use native.Mathlib.Decide.{decLt}
@@ -125,12 +125,3 @@ module _ (m : ℕ) (bytes : List ℕ) (size : length bytes ≡ bytesFor m) where
       by (no h) =
           let l : 3 ^ (m % 5) ≤ getD bytes (m / 5) 0 = omega arith in
           le-leb (3 ^ (m % 5)) (getD bytes (m / 5) 0) l ∙ sym (past-above g (positive f) l)
-
--- the powers of 3 below 243
-pub power-at : (q : ℕ) → q < 5 → getD (1 ∷ 3 ∷ 9 ∷ 27 ∷ 81 ∷ []) q 0 ≡ 3 ^ q
-power-at zero l = refl
-power-at (suc zero) l = refl
-power-at (suc (suc zero)) l = refl
-power-at (suc (suc (suc zero))) l = refl
-power-at (suc (suc (suc (suc zero)))) l = refl
-power-at (suc (suc (suc (suc (suc q))))) l = absurd (omega arith)

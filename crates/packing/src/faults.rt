@@ -1,6 +1,7 @@
 // The tests for 5, 15 and 6: a packed byte above 242, a nonzero trit past the length, and a stream that ends too soon.
 ghost use mathlib.Core.Path.{_≡_};
 ghost use mathlib.Core.Bool.{false};
+ghost use Prim.Native.Nat.{_^_, _<_};
 ghost use lib.ListN.{length};
 ghost use Rattle.trits.specs.Refusal.{codeOf};
 ghost use Rattle.packed.specs.Packed.{bytesFor, badByte, packedPastEnd, packedRefusal};
@@ -23,8 +24,22 @@ pub fn bad_byte(bytes: &[u8]) -> bool
     false
 }
 
-// 3 to the power q: the first byte with a nonzero trit past its first q.
-const POWERS: [u8; 5] = [1, 3, 9, 27, 81];
+// 3 to the power of a number of trits: the first byte with a nonzero trit past so many.
+fn power(trits: usize) -> u8
+    requires { ⌜ (0 < trits) × (trits < 5) ⌝ }
+    ensures { λ r. ⌜ r ≡ 3 ^ trits ⌝ }
+{
+    if trits == 1 {
+        return 3;
+    }
+    if trits == 2 {
+        return 9;
+    }
+    if trits == 3 {
+        return 27;
+    }
+    81
+}
 
 // Whether a trit past the length is not 0, in the bytes of m trits: the last byte tells it.
 fn packed_past_end(m: usize, bytes: &[u8]) -> bool
@@ -35,7 +50,7 @@ fn packed_past_end(m: usize, bytes: &[u8]) -> bool
     if used == 0 {
         return false;
     }
-    bytes[m / 5] >= POWERS[used]
+    bytes[m / 5] >= power(used)
 }
 
 // The contents of a packed row of m trits: a byte above 242, over the whole buffer, before a trit past the length.

@@ -52,11 +52,11 @@ unfolding packedPastEnd
 ended-passes m bytes z =
     none-any (5 * length bytes - m) (λ k. isSet (packedRow bytes (m + k))) (λ k l. ap isSet (z (m + k) (omega arith) (omega arith)))
 
--- such a row reads as it did when those trits were ignored
+-- so to cut such a row at its length changes nothing
 pub packed-upto : (m : ℕ) (bytes : List ℕ) → packedPastEnd m bytes ≡ false → upTo m (packedRow bytes) ≡ packedRow bytes
 packed-upto m bytes e = upto-ended (packedRow bytes) m (packed-ended m bytes e)
 
--- and where no byte of it is skipped, as a stream does
+-- and where no byte of it is skipped, a stream of the same bytes has the same row
 pub kept-row : (m : ℕ) (bytes : List ℕ) → badByte bytes ≡ false → packedPastEnd m bytes ≡ false → streamRow m bytes ≡ packedRow bytes
 unfolding streamRow
 kept-row m bytes g e = ap (λ (l : List ℕ). upTo m (packedRow l)) (kept-all bytes g) ∙ packed-upto m bytes e

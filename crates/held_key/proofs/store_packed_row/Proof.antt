@@ -149,9 +149,9 @@ returns-2 c =
       else1 .before .before .test-packed-row .ensures,
       c .count-row .ensures ∙ exit-new _ _ z,
       plane-lent _ _ _ z e (d ∙ w .ensures ∙ sym (length-ones v (rowWords (a .held))))
-          (g .ones-are ∙ ap (λ (m : ℕ). onesOf (packedRow (now (a .row))) (wordsFor m)) m),
+          (g .ones-are ∙ ap (λ (m : ℕ). onesOf v (wordsFor m)) m),
       plane-lent _ _ _ z e (d ∙ w .ensures ∙ sym (length-twos v (rowWords (a .held))))
-          (g .twos-are ∙ ap (λ (m : ℕ). twosOf (packedRow (now (a .row))) (wordsFor m)) m),
+          (g .twos-are ∙ ap (λ (m : ℕ). twosOf v (wordsFor m)) m),
     )
 
 pub store-packed-row-spec : {M : Type 1} → statement M

@@ -85,17 +85,17 @@ pub fn stream(m: usize, bytes: &[u8], ones: &mut [u64], twos: &mut [u64])
 }
 
 // What unpack answers for bytes.
-fn told(m: usize, bytes: &[u8]) {
+fn answer_to(m: usize, bytes: &[u8]) {
     number(trits::refusal::code(packing::unpack(m, bytes, &mut [9], &mut [9])));
 }
 
 // What it answers for a row of one or two bytes by its last byte; the trits of a byte before it are all 2.
-fn told_by_last(m: usize, last: u8) {
+fn answer_to_last(m: usize, last: u8) {
     if m > 5 {
-        told(m, &[242, last]);
+        answer_to(m, &[242, last]);
         return;
     }
-    told(m, &[last]);
+    answer_to(m, &[last]);
 }
 
 // What it answers for every last byte.
@@ -105,7 +105,7 @@ pub fn last_bytes(m: usize) {
     io::write_all(STDOUT_FILENO, b", last byte 0 to 255, answers");
     let mut last: usize = 0;
     while last < 256 {
-        told_by_last(m, last as u8);
+        answer_to_last(m, last as u8);
         last += 1;
     }
     io::write_all(STDOUT_FILENO, b"\n");

@@ -29,11 +29,11 @@ write-all-requires-2 c κs = search needs
 loop-holds : tie.Need-loop-holds Inv-loop μ-loop
 loop-holds c = search needs
 
-cast-told-by-last : tie.Need-cast-told-by-last Inv-loop μ-loop
-cast-told-by-last c = search needs
+cast-answer-to-last : tie.Need-cast-answer-to-last Inv-loop μ-loop
+cast-answer-to-last c = search needs
 
-told-by-last-requires : tie.Need-told-by-last-requires Inv-loop μ-loop
-told-by-last-requires c κs = search needs
+answer-to-last-requires : tie.Need-answer-to-last-requires Inv-loop μ-loop
+answer-to-last-requires c κs = search needs
 
 add-last : tie.Need-add-last Inv-loop μ-loop
 add-last c = search needs
@@ -65,8 +65,8 @@ last-bytes-spec =
     slice-aggregate-write-all-2
     write-all-requires-2
     loop-holds
-    cast-told-by-last
-    told-by-last-requires
+    cast-answer-to-last
+    answer-to-last-requires
     add-last
     loop-less
     loop-again

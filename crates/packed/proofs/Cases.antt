@@ -49,9 +49,9 @@ pub past-refused : (unpackRefusal (unpackOf 2 (242 ∷ []) (7 ∷ []) (9 ∷ [])
 unfolding unpackOnes unpackTwos unpackRefusal packedRefusal badByte packedPastEnd packedRow digitOf anyTo
 past-refused = (refl, refl, refl)
 
-pub past-none : unpackTwos (unpackOf 2 (8 ∷ []) (7 ∷ []) (9 ∷ [])) ≡ 3 ∷ []
+pub past-zeros : unpackTwos (unpackOf 2 (8 ∷ []) (7 ∷ []) (9 ∷ [])) ≡ 3 ∷ []
 unfolding unpackTwos unpackRefusal packedRefusal badByte packedPastEnd twosOf tabulate fromBits packedRow digitOf anyTo
-past-none = refl
+past-zeros = refl
 
 -- 5 comes first, wherever in the bytes it stands
 pub large-first : (packedRefusal 7 (243 ∷ 242 ∷ []) ≡ 5) × (packedRefusal 7 (242 ∷ 243 ∷ []) ≡ 5) × (packedRefusal 7 (242 ∷ 242 ∷ []) ≡ 15)

@@ -34,7 +34,7 @@ pub bytes-end : (bytes : List ℕ) (q : ℕ) → 5 * length bytes ≤ q → pack
 unfolding packedRow
 bytes-end bytes q h = ap (λ (b : ℕ). tritOf (digitOf b (q % 5))) (List·getD-eq-default bytes 0 (omega arith)) ∙ ap tritOf (digit-none (q % 5))
 
--- so is every place past the length
+-- and so there is past the length
 pub packed-ended : (m : ℕ) (bytes : List ℕ) → packedPastEnd m bytes ≡ false → (q : ℕ) → m ≤ q → packedRow bytes q ≡ t0
 unfolding packedPastEnd
 packed-ended m bytes e q h = by (decLt q (5 * length bytes))
@@ -93,19 +93,19 @@ digits-past b q h p l z = by q (byte-digits b h) p l z
 
 module _ (m : ℕ) (bytes : List ℕ) (size : length bytes ≡ bytesFor m) where
   -- the length ends with a byte: nothing is past it
-  pub past-none : m % 5 ≡ 0 → packedPastEnd m bytes ≡ false
-  past-none e = ended-passes m bytes (λ q h l. absurd (omega arith))
+  pub last-full : m % 5 ≡ 0 → packedPastEnd m bytes ≡ false
+  last-full e = ended-passes m bytes (λ q h l. absurd (omega arith))
 
   -- the last byte is below 3 ^ q
-  past-below : getD bytes (m / 5) 0 < 3 ^ (m % 5) → packedPastEnd m bytes ≡ false
-  past-below h = ended-passes m bytes (λ q g l.
+  last-below : getD bytes (m / 5) 0 < 3 ^ (m % 5) → packedPastEnd m bytes ≡ false
+  last-below h = ended-passes m bytes (λ q g l.
       let e : q ≡ 5 * (m / 5) + q % 5 = omega arith in
       ap (packedRow bytes) e ∙ packed-place bytes (m / 5) (q % 5) (mod-lt q (zero-lt-suc 4))
       ∙ ap tritOf (digit-past (getD bytes (m / 5) 0) (m % 5) (q % 5) h (omega arith)))
 
   -- it is not
-  past-above : badByte bytes ≡ false → 0 < m % 5 → 3 ^ (m % 5) ≤ getD bytes (m / 5) 0 → packedPastEnd m bytes ≡ true
-  past-above g p h = by (packedPastEnd m bytes) refl
+  last-above : badByte bytes ≡ false → 0 < m % 5 → 3 ^ (m % 5) ≤ getD bytes (m / 5) 0 → packedPastEnd m bytes ≡ true
+  last-above g p h = by (packedPastEnd m bytes) refl
     where
       by : (t : Bool) → packedPastEnd m bytes ≡ t → packedPastEnd m bytes ≡ true
       by true e = e
@@ -117,11 +117,11 @@ module _ (m : ℕ) (bytes : List ℕ) (size : length bytes ≡ bytesFor m) where
           absurd (omega (arith, h, digits-past b (m % 5) small p (mod-lt m (zero-lt-suc 4)) none))
 
   -- so it is held against 3 ^ q
-  pub past-last : badByte bytes ≡ false → (m % 5 ≡ 0 → ⊥) → leb (3 ^ (m % 5)) (getD bytes (m / 5) 0) ≡ packedPastEnd m bytes
-  past-last g f = by (decLt (getD bytes (m / 5) 0) (3 ^ (m % 5)))
+  pub last-tells : badByte bytes ≡ false → (m % 5 ≡ 0 → ⊥) → leb (3 ^ (m % 5)) (getD bytes (m / 5) 0) ≡ packedPastEnd m bytes
+  last-tells g f = by (decLt (getD bytes (m / 5) 0) (3 ^ (m % 5)))
     where
       by : Dec (getD bytes (m / 5) 0 < 3 ^ (m % 5)) → leb (3 ^ (m % 5)) (getD bytes (m / 5) 0) ≡ packedPastEnd m bytes
-      by (yes l) = lt-leb (3 ^ (m % 5)) (getD bytes (m / 5) 0) l ∙ sym (past-below l)
+      by (yes l) = lt-leb (3 ^ (m % 5)) (getD bytes (m / 5) 0) l ∙ sym (last-below l)
       by (no h) =
           let l : 3 ^ (m % 5) ≤ getD bytes (m / 5) 0 = omega arith in
-          le-leb (3 ^ (m % 5)) (getD bytes (m / 5) 0) l ∙ sym (past-above g (positive f) l)
+          le-leb (3 ^ (m % 5)) (getD bytes (m / 5) 0) l ∙ sym (last-above g (positive f) l)

@@ -16,10 +16,10 @@ use Rattle.trits.specs.Planes.{tabulate, tritAt, onesOf, twosOf, wordsFor, both
 use Rattle.trits.specs.Refusal.{planesRefusal}
 use Rattle.trits.proofs.Lists.{length-tabulate, getD-tabulate, tabulated}
 use Rattle.trits.proofs.Reading.{read-holds, holds-reads, length-ones, length-twos}
-use Rattle.trits.proofs.Tests.{none-any, both-apart, past-zero, written-both, written-past}
+use Rattle.trits.proofs.Tests.{none-any, both-apart, past-zero}
 use Rattle.trits.proofs.Matrix.{one-row-past}
 use Rattle.trits.proofs.Ends.{upto-out, upto-ended}
-use Rattle.trits.proofs.Refusals.{passed-refuse, passed-demand, planes-passed, exit-new}
+use Rattle.trits.proofs.Refusals.{passed-refuse, passed-demand, planes-passed, vector-passes, exit-new}
 use Rattle.packed.specs.Packed.{bytesFor, byteOf, digitOf, packedRow, packedBytes, badByte, packedRefusal}
 use Rattle.packed.specs.Calls.{Pack, packOf, packRefusal, packExit, Unpack, unpackOf, unpackRefusal, unpackOnes, unpackTwos}
 use Rattle.trits.proofs.Arithmetic.{trit-number}
@@ -236,19 +236,12 @@ module _ (c : Unpack) (e : unpackRefusal c ≡ 0) where
       ap₂ tritAt ones-wrote twos-wrote
       ∙ holds-reads (onesOf u n) (twosOf u n) n u (λ i l. ended i (omega arith)) (record { ones-are = refl; twos-are = refl }) .trits
 
-  planes-pass : planesRefusal (onesOf u n) (twosOf u n) 1 (c .m) ≡ 0
-  unfolding planesRefusal
-  planes-pass = rw (
-    written-both u n,
-    one-row-past (onesOf u n) (twosOf u n) (c .m) (length-ones u n) (length-twos u n) ∙ written-past u (c .m) n ended (omega arith),
-  )
-
   module _ (b : List ℕ) (lb : length b ≡ bytesFor (c .m)) where
     -- pack does not refuse it
     pub again-passes : packRefusal (packOf (c .m) (unpackOnes c) (unpackTwos c) b) ≡ 0
     again-passes =
         sym (pack-passed (c .m) (unpackOnes c) (unpackTwos c) b (q .few) lb (ap length ones-wrote ∙ length-ones u n) (ap length twos-wrote ∙ length-twos u n))
-        ∙ ap₂ (λ (x y : List ℕ). planesRefusal x y 1 (c .m)) ones-wrote twos-wrote ∙ planes-pass
+        ∙ ap₂ (λ (x y : List ℕ). planesRefusal x y 1 (c .m)) ones-wrote twos-wrote ∙ vector-passes u (c .m) ended
 
     -- and gives back the bytes that were unpacked, whatever was lent for them
     pub again-bytes : packExit (packOf (c .m) (unpackOnes c) (unpackTwos c) b) ≡ c .bytes
@@ -257,7 +250,7 @@ module _ (c : Unpack) (e : unpackRefusal c ≡ 0) where
         sym (exit-new (packedBytes (c .m) (tritAt (unpackOnes c) (unpackTwos c))) b again-passes) ∙ ap (packedBytes (c .m)) trits-wrote
         ∙ bytes-back (c .m) (c .bytes) (q .bytes-size) (q .good)
 
--- so bytes that unpack takes and that leave the same words are the same bytes
+-- so bytes that unpack takes and that leave the same words are the same
 pub unpacked-apart : (c d : Unpack) → c .m ≡ d .m → unpackRefusal c ≡ 0 → unpackRefusal d ≡ 0 → unpackOnes c ≡ unpackOnes d → unpackTwos c ≡ unpackTwos d
     → c .bytes ≡ d .bytes
 unpacked-apart c d s e f o t =

@@ -11,15 +11,16 @@ use lib.Dec.{eqb, lit<}
 use lib.ListN.{length, getD}
 use mir.Syntax.{w64}
 use mir.Val.{Fits}
-use Rattle.trits.specs.Trit.{t0}
-use Rattle.trits.specs.Planes.{tritAt, bothSet, wordsFor, zeroWords, Row}
+use Rattle.trits.specs.Trit.{Trit, t0}
+use Rattle.trits.specs.Planes.{tritAt, onesOf, twosOf, bothSet, wordsFor, zeroWords, Row}
 use Rattle.trits.specs.Rows.{rowsPastEnd}
 use Rattle.trits.specs.Refusal.{numberOf, refuse, demand, first, atExit, spaceStays, spaceExit, planesRefusal}
 use Rattle.trits.specs.declared.refusal.Refusal.{Refusal}
 use Rattle.trits.specs.declared.refusal.Refusal.the-variants.{Size, Length, BothPlanes, PastEnd, PackedByte, StreamEnd, NoPermutation, ZeroTrit, RankU}
 use Rattle.trits.specs.declared.refusal.Refusal.the-variants.{RankV, Line, FirstPartV, FirstPartU, Weight, PackedPastEnd, NoKey, WholeKey}
 use Rattle.trits.specs.declared.refusal.Refusal.the-variants.{OtherKey}
-use Rattle.trits.proofs.Tests.{both-apart, past-zero}
+use Rattle.trits.proofs.Reading.{length-ones, length-twos}
+use Rattle.trits.proofs.Tests.{both-apart, past-zero, written-both, written-past}
 use Rattle.trits.proofs.Matrix.{one-row-past}
 
 -- ---- the number of a refusal is never 0
@@ -98,6 +99,13 @@ pub row-ended : (ones twos : List ℕ) (m : ℕ) → planesRefusal ones twos 1 m
     → (q : ℕ) → m ≤ q → tritAt ones twos q ≡ t0
 row-ended ones twos m e lo lt =
     past-zero ones twos m (lt ∙ sym lo) (sym (one-row-past ones twos m lo lt) ∙ planes-passed ones twos 1 m e .1)
+
+-- the planes of a vector that is 0 from m on are not refused
+pub vector-passes : (v : ℕ → Trit) (m : ℕ) → ((i : ℕ) → m ≤ i → v i ≡ t0) → planesRefusal (onesOf v (wordsFor m)) (twosOf v (wordsFor m)) 1 m ≡ 0
+unfolding planesRefusal
+vector-passes v m z =
+    let n = wordsFor m in
+    rw (written-both v n, one-row-past (onesOf v n) (twosOf v n) m (length-ones v n) (length-twos v n) ∙ written-past v m n z (omega arith))
 
 -- ---- what is true of each refusal in a chain is true of what the chain tells
 

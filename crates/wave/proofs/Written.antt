@@ -15,8 +15,8 @@ use Rattle.trits.proofs.Bits.{from-lt}
 use Rattle.trits.proofs.Lists.{getD-tabulate, zero-at}
 use Rattle.trits.proofs.Reading.{one-lt, two-lt, length-ones, length-twos, holds-reads}
 use Rattle.trits.proofs.Ends.{upto-out}
-use Rattle.trits.proofs.Tests.{written-both, written-past}
-use Rattle.trits.proofs.Matrix.{row-le, part-there, one-row-past, length-rows}
+use Rattle.trits.proofs.Refusals.{vector-passes}
+use Rattle.trits.proofs.Matrix.{row-le, part-there, length-rows}
 use Rattle.matrix.specs.Linear.{Vector}
 use Rattle.wave.specs.Terms.{Bits}
 
@@ -35,13 +35,7 @@ module _ (m : ℕ) (v : Vector) where
 
   -- its planes are not refused
   pub written-passes : planesRefusal (onesOf (upTo m v) (wordsFor m)) (twosOf (upTo m v) (wordsFor m)) 1 m ≡ 0
-  unfolding planesRefusal
-  written-passes =
-      rw (
-        written-both (upTo m v) (wordsFor m),
-        one-row-past ones twos m (length-ones (upTo m v) (wordsFor m)) (length-twos (upTo m v) (wordsFor m)),
-        written-past (upTo m v) m (wordsFor m) (λ i l. upto-out v m i l) (omega arith),
-      )
+  written-passes = vector-passes (upTo m v) m (λ i l. upto-out v m i l)
 
 -- ---- 64-bit words
 

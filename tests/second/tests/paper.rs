@@ -70,8 +70,7 @@ fn packing_examples() {
     assert_eq!(pack(2, &[4], &[0], &mut [0]), 4);
 }
 
-/// Every row of up to two bytes, the first of them 0 to 255 too where it is not the last: what is read packs to its bytes, and as many texts are read as
-/// there are rows of trits.
+/// Every text of one byte or two, at every length that takes so many: what is read packs to its bytes, and as many texts are read as there are rows.
 #[test]
 fn one_packed_form() {
     for m in 1..=10u32 {

@@ -1,4 +1,4 @@
--- Where the length ends with a byte nothing is past it (`past-none`); else the last byte is held against a power of 3 (`past-last`).
+-- Where the length ends with a byte nothing is past it (`last-full`); else the last byte is held against a power of 3 (`last-tells`).
 -- Assumes nothing.
 use Prim.Native.Nat.{ℕ, _/_}
 use mathlib.Core.Path.{sym, ap, _∙_}
@@ -8,14 +8,14 @@ use lib.Dec.{leb}
 use lib.ListN.{getD}
 use denote.Ref.{now}
 use Rattle.trits.proofs.Refusals.{positive}
-use Rattle.packed.proofs.Past.{past-none, past-last}
+use Rattle.packed.proofs.Past.{last-full, last-tells}
 use Rattle.packing.proofs.faults.packed_past_end.Statement.{statement}
 use Rattle.packing.proofs.faults.packed_past_end.Tie as tie
 
 returns : tie.Need-returns
 returns c =
     let s = c .before .before in
-    sym (past-none (s .args .m) (now (s .args .bytes)) (s .pre .0) (c .if1 .taken))
+    sym (last-full (s .args .m) (now (s .args .bytes)) (s .pre .0) (c .if1 .taken))
 
 shared-slice-read-result : tie.Need-shared-slice-read-result
 shared-slice-read-result c = search needs
@@ -31,7 +31,7 @@ returns-2 c =
     let s = else1 .before .before in
     let bytes = now (s .args .bytes) in
     ap (λ (power : ℕ). leb power (getD bytes (s .args .m / 5) 0)) (c .power .ensures)
-    ∙ past-last (s .args .m) bytes (s .pre .0) (s .pre .1) (else1 .if1 .left)
+    ∙ last-tells (s .args .m) bytes (s .pre .0) (s .pre .1) (else1 .if1 .left)
 
 pub packed-past-end-spec : {M : Type 1} → statement M
 packed-past-end-spec = tie.close (tie.spec returns shared-slice-read-result power-requires returns-2)

@@ -13,7 +13,8 @@ use Rattle.trits.specs.Refusal.{numberOf, spaceExit}
 use Rattle.trits.specs.declared.refusal.Refusal.{Refusal}
 use Rattle.trits.proofs.Refusals.{number-positive, space-zero}
 use Rattle.trits.proofs.Refusals.{Leaves, leaves-none, leaves-refuse, leaves-demand, leaves-first, leaves-planes}
-use Rattle.packed.specs.Packed.{bytesFor, badByte, packedPastEnd, packedRefusal}
+use Rattle.packed.specs.Packed.{bytesFor}
+use Rattle.packed.proofs.Turned.{leaves-packed}
 use Rattle.held_key.specs.declared.state.Held.{Held}
 use Rattle.held_key.specs.Held.{sound, rowTrits, rowWords, keyWords}
 use Rattle.check_tests.specs.declared.Checked.{Checked}
@@ -77,10 +78,6 @@ leaves-check c =
     leaves-none))))
     (leaves-first _ _ (leaves-planes (c .ones) (c .twos) (h .k) (rowTrits h))
     (leaves-first _ _ (leaves-planes (c .yOnes) (c .yTwos) 1 (rowTrits h)) (leaves-planes (c .sOnes) (c .sTwos) 1 (h .k)))))
-
-leaves-packed : (m : ℕ) (bytes : List ℕ) → Leaves (packedRefusal m bytes)
-unfolding packedRefusal
-leaves-packed m bytes = leaves-refuse (badByte bytes) 5 _ refl (leaves-refuse (packedPastEnd m bytes) 15 0 refl leaves-none)
 
 pub leaves-packed-check : (c : PackedCheck) → Leaves (checkPackedRefusal c)
 unfolding checkPackedRefusal packedLengths packedContents

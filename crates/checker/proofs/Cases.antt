@@ -55,7 +55,8 @@ number-256 = refl
 abbrev rows : ℕ → List ℕ
 rows i = cond (eqb i 0) (6 ∷ []) (8 ∷ [])
 
-loaded : offerAll rows 2 (record { held = held 0; ones = 99 ∷ 99 ∷ []; twos = 98 ∷ 98 ∷ [] }) ≡ record { held = held 2; ones = 0 ∷ 0 ∷ []; twos = 2 ∷ 3 ∷ [] }
+loaded : offerAll rows 2 (record { held = held 0; ones = 99 ∷ 99 ∷ []; twos = 98 ∷ 98 ∷ [] })
+    ≡ record { held = held 2; ones = 0 ∷ 0 ∷ []; twos = 2 ∷ 3 ∷ [] }
 unfolding offerAll offer storedHeld storedPlane storePackedRefusal first rowRefusal sound numbersFit packedRefusal badByte packedPastEnd anyTo nextHeld
     putWords onesOf twosOf tabulate fromBits packedRow digitOf
 loaded = refl

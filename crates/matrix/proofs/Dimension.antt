@@ -9,10 +9,10 @@ use borrow.Author.Tests.{leb-true, leb-false, eqb-true, eqb-false, eq-eqb}
 use lib.Dec.{eqb, leb}
 use Rattle.trits.specs.Trit.{Trit, t0, t1, addT, negT, subT, mulT, putV, isSet, dotV, anyTo}
 use Rattle.trits.proofs.Tests.{any-some, any-none}
-use Rattle.trits.proofs.Arithmetic.{add-zero-r, add-comm, mul-assoc, add-neg, mul-zero}
+use Rattle.trits.proofs.Arithmetic.{add-zero-r, add-comm, mul-assoc, add-neg, mul-zero, unset-zero}
 use Rattle.trits.proofs.Products.{dot-zero}
 use Rattle.matrix.specs.Linear.{Vector, zeros, Matrix, column, times}
-use Rattle.matrix.proofs.Field.{unset-zero, solved, mul-neg, square, zero-or, set-not}
+use Rattle.matrix.proofs.Field.{solved, mul-neg, square, zero-or, set-not}
 use Rattle.matrix.proofs.Dots.{put-same, put-other, dot-left, dot-right, dot-zeros, dot-mul, dot-swap, dot-unit, dot-less}
 
 -- a vector that is not 0 everywhere below m, and that the first r rows of A take to 0

@@ -73,11 +73,6 @@ zero-or t0 = inl refl
 zero-or t1 = inr refl
 zero-or t2 = inr refl
 
-pub unset-zero : (x : Trit) → isSet x ≡ false → x ≡ t0
-unset-zero t0 e = refl
-unset-zero t1 e = absurd (true≢false e)
-unset-zero t2 e = absurd (true≢false e)
-
 pub set-not : {x : Trit} → isSet x ≡ true → x ≡ t0 → ⊥
 set-not h e = true≢false (sym h ∙ ap isSet e)
 

@@ -8,10 +8,10 @@ use Prim.Native.Nat.{ℕ, _<_}
 use borrow.Author.Tests.{eqb-true, eqb-false}
 use lib.Dec.{eqb}
 use Rattle.trits.specs.Trit.{Trit, t0, t1, t2, subT, isSet, putV, anyTo}
-use Rattle.trits.proofs.Arithmetic.{add-neg}
+use Rattle.trits.proofs.Arithmetic.{add-neg, unset-zero}
 use Rattle.trits.proofs.Tests.{any-none, none-any}
 use Rattle.matrix.specs.Linear.{Vector, zeros, agree, Matrix, times, elem, find, orElse, found, solve, inSpan}
-use Rattle.matrix.proofs.Field.{not-true, sub-zero-eq, unset-zero}
+use Rattle.matrix.proofs.Field.{not-true, sub-zero-eq}
 use Rattle.matrix.proofs.Dots.{put-same, put-other}
 use Rattle.matrix.proofs.Places.{Supported, or-false-left, or-false-right, false-or-false}
 

@@ -7,10 +7,9 @@ use native.Mathlib.Decide.{ℕ-discrete}
 use native.Mathlib.Omega.{arith}
 use borrow.Author.Tests.{eq-eqb, ne-eqb, lt-ltb, le-ltb, ltb-true, ltb-false}
 use Rattle.trits.specs.Trit.{t0, mulT, isSet}
-use Rattle.trits.proofs.Arithmetic.{mul-assoc}
+use Rattle.trits.proofs.Arithmetic.{mul-assoc, unset-zero}
 use Rattle.matrix.specs.Linear.{Matrix}
 use Rattle.matrix.specs.Steps.{swapRows, clearRows, scaleRow, takeOut, firstRow, pivotRow, hasPivot, stepOf}
-use Rattle.matrix.proofs.Field.{unset-zero}
 
 -- ---- the search for a row
 

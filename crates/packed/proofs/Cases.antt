@@ -33,7 +33,8 @@ pub five-read : (packedRow (242 ∷ []) 0 ≡ t2) × (packedRow (242 ∷ []) 1 �
 unfolding packedRow digitOf
 five-read = (refl, refl, refl, refl, refl)
 
-pub five-unpack : (unpackOnes (unpackOf 5 (242 ∷ []) (7 ∷ []) (9 ∷ [])) ≡ 0 ∷ []) × (unpackTwos (unpackOf 5 (242 ∷ []) (7 ∷ []) (9 ∷ [])) ≡ 31 ∷ [])
+pub five-unpack : (unpackOnes (unpackOf 5 (242 ∷ []) (7 ∷ []) (9 ∷ [])) ≡ 0 ∷ [])
+    × (unpackTwos (unpackOf 5 (242 ∷ []) (7 ∷ []) (9 ∷ [])) ≡ 31 ∷ [])
 unfolding unpackOnes unpackTwos unpackRefusal packedRefusal badByte packedPastEnd onesOf twosOf tabulate fromBits packedRow digitOf upTo anyTo
 five-unpack = (refl, refl)
 
@@ -113,6 +114,7 @@ pub too-many : (packRefusal (packOf 16385 [] [] []) ≡ 1) × (unpackRefusal (un
 unfolding packRefusal unpackRefusal streamRefusal
 too-many = (refl, refl, refl)
 
-pub most-many : (packRefusal (packOf 16384 [] [] []) ≡ 2) × (unpackRefusal (unpackOf 16384 [] [] []) ≡ 2) × (streamRefusal (streamOf 16384 [] [] []) ≡ 2)
+pub most-many : (packRefusal (packOf 16384 [] [] []) ≡ 2) × (unpackRefusal (unpackOf 16384 [] [] []) ≡ 2)
+    × (streamRefusal (streamOf 16384 [] [] []) ≡ 2)
 unfolding packRefusal unpackRefusal streamRefusal
 most-many = (refl, refl, refl)

@@ -34,7 +34,8 @@ digit-byte v j k h =
     (ap (λ (p : ℕ). number (v p)) (omega arith)) refl refl refl refl
   where
     by : (a b c d e k : ℕ) → k < 5 → a < 3 → b < 3 → c < 3 → d < 3 → e < 3
-        → a ≡ number (v (5 * j + 0)) → b ≡ number (v (5 * j + 1)) → c ≡ number (v (5 * j + 2)) → d ≡ number (v (5 * j + 3)) → e ≡ number (v (5 * j + 4))
+        → a ≡ number (v (5 * j + 0)) → b ≡ number (v (5 * j + 1)) → c ≡ number (v (5 * j + 2))
+        → d ≡ number (v (5 * j + 3)) → e ≡ number (v (5 * j + 4))
         → (a + 3 * b + 9 * c + 27 * d + 81 * e) / 3 ^ k % 3 ≡ number (v (5 * j + k))
     by a b c d e zero h la lb lc ld le pa pb pc pd pe = omega arith
     by a b c d e (suc zero) h la lb lc ld le pa pb pc pd pe = omega arith
@@ -48,7 +49,8 @@ digit-byte v j k h =
 split : (x : ℕ) → x ≡ x % 3 + 3 * (x / 3)
 split x = omega arith
 
-join : (b q r s t d e f g h : ℕ) → b ≡ d + 3 * q → q ≡ e + 3 * r → r ≡ f + 3 * s → s ≡ g + 3 * t → t ≡ h → d + 3 * e + 9 * f + 27 * g + 81 * h ≡ b
+join : (b q r s t d e f g h : ℕ) → b ≡ d + 3 * q → q ≡ e + 3 * r → r ≡ f + 3 * s → s ≡ g + 3 * t → t ≡ h
+    → d + 3 * e + 9 * f + 27 * g + 81 * h ≡ b
 join b q r s t d e f g h p₁ p₂ p₃ p₄ p₅ = omega arith
 
 pub byte-digits : (b : ℕ) → b < 243 → digitOf b 0 + 3 * digitOf b 1 + 9 * digitOf b 2 + 27 * digitOf b 3 + 81 * digitOf b 4 ≡ b

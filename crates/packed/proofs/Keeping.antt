@@ -113,7 +113,8 @@ unfolding missing
 missing-five left b h = sym (ap (λ (t : Bool). cond t (left - 5) left) (lt-ltb b 243 h))
 
 module _ (m : ℕ) (bytes : List ℕ) (i : ℕ) where
-  pub missing-turn : {left new : ℕ} → i < length bytes → left ≡ m - 5 * given bytes i → new ≡ missing left (getD bytes i 0) → new ≡ m - 5 * given bytes (i + 1)
+  pub missing-turn : {left new : ℕ} → i < length bytes → left ≡ m - 5 * given bytes i → new ≡ missing left (getD bytes i 0)
+      → new ≡ m - 5 * given bytes (i + 1)
   missing-turn {left} {new} h e f = by (decLt (getD bytes i 0) 243)
     where
       by : Dec (getD bytes i 0 < 243) → new ≡ m - 5 * given bytes (i + 1)

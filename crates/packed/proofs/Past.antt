@@ -1,6 +1,6 @@
 -- Trits past the length in packed bytes, 15: the last byte alone tells it, and a row that passes is 0 past its length. Assumes nothing.
 use mathlib.Core.Path.{_≡_, refl, sym, ap, _∙_}
-use mathlib.Core.Bool.{Bool, true, false, true≢false}
+use mathlib.Core.Bool.{Bool, true, false}
 use mathlib.Core.List.{List}
 use Prim.Native.Nat.{ℕ, zero, suc, _+_, _-_, _*_, _/_, _%_, _^_, _≤_, _<_}
 use native.Mathlib.Nat.{zero-div, zero-lt-suc, mod-lt, div-eq-of-lt, pow-suc, add-zero, add-suc}
@@ -9,7 +9,8 @@ use native.Mathlib.Omega.{arith}
 use borrow.Author.Tests.{le-leb, lt-leb}
 use lib.Dec.{leb}
 use lib.ListN.{length, getD, List·getD-eq-default}
-use Rattle.trits.specs.Trit.{Trit, t0, t1, t2, number, tritOf, isSet, upTo}
+use Rattle.trits.specs.Trit.{t0, number, tritOf, isSet, upTo}
+use Rattle.trits.proofs.Arithmetic.{unset-zero}
 use Rattle.trits.proofs.Tests.{any-none, none-any}
 use Rattle.trits.proofs.Ends.{upto-ended}
 use Rattle.trits.proofs.Refusals.{positive}
@@ -19,11 +20,6 @@ use Rattle.packed.proofs.Digits.{digit-lt, digit-number, byte-digits, p
 use Rattle.packed.proofs.Keeping.{bytes-small, kept-all}
 
 -- ---- a row that passes is 0 past its length
-
-not-set : (x : Trit) → isSet x ≡ false → x ≡ t0
-not-set t0 e = refl
-not-set t1 e = absurd (true≢false e)
-not-set t2 e = absurd (true≢false e)
 
 digit-none : (k : ℕ) → digitOf 0 k ≡ 0
 unfolding digitOf
@@ -43,7 +39,7 @@ packed-ended m bytes e q h = by (decLt q (5 * length bytes))
     by (yes l) =
         let s : m + (q - m) ≡ q = omega arith in
         sym (ap (packedRow bytes) s)
-        ∙ not-set (packedRow bytes (m + (q - m))) (any-none (5 * length bytes - m) (λ k. isSet (packedRow bytes (m + k))) e (q - m) (omega arith))
+        ∙ unset-zero (packedRow bytes (m + (q - m))) (any-none (5 * length bytes - m) (λ k. isSet (packedRow bytes (m + k))) e (q - m) (omega arith))
     by (no f) = bytes-end bytes q (omega arith)
 
 -- and a row that is 0 there passes

@@ -42,7 +42,8 @@ with-none u b at = fun-ext (λ p. by p (decLt p at))
 pub with-more : (u : ℕ → Trit) (b at k : ℕ) → putV (withByte u b at k) (at + k) (tritOf (digitOf b k)) ≡ withByte u b at (k + 1)
 with-more u b at k = fun-ext (λ p. by p (ℕ-discrete p (at + k)) (decLt p at) (decLt p (at + k)))
   where
-    by : (p : ℕ) → Dec (p ≡ at + k) → Dec (p < at) → Dec (p < at + k) → putV (withByte u b at k) (at + k) (tritOf (digitOf b k)) p ≡ withByte u b at (k + 1) p
+    by : (p : ℕ) → Dec (p ≡ at + k) → Dec (p < at) → Dec (p < at + k)
+        → putV (withByte u b at k) (at + k) (tritOf (digitOf b k)) p ≡ withByte u b at (k + 1) p
     by p (yes e) d c =
         ap (λ (t : Bool). cond t (tritOf (digitOf b k)) (withByte u b at k p)) (eq-eqb p (at + k) e) ∙ ap (λ (q : ℕ). tritOf (digitOf b q)) (omega arith)
         ∙ sym (with-in u b at (k + 1) p (omega arith) (omega arith))
@@ -69,7 +70,8 @@ gives-five m at b h l = ap₂ (λ (s t : Bool). cond s (cond t (m - at) 5) 0) (l
 
 -- ---- a row that holds the first places of v, after the byte that v's next trits are of
 
-with-next : (v : ℕ → Trit) (b at n : ℕ) → ((k : ℕ) → k < n → v (at + k) ≡ tritOf (digitOf b k)) → withByte (upTo at v) b at n ≡ upTo (at + n) v
+with-next : (v : ℕ → Trit) (b at n : ℕ) → ((k : ℕ) → k < n → v (at + k) ≡ tritOf (digitOf b k))
+    → withByte (upTo at v) b at n ≡ upTo (at + n) v
 with-next v b at n e = fun-ext (λ p. by p (decLt p at) (decLt p (at + n)))
   where
     by : (p : ℕ) → Dec (p < at) → Dec (p < at + n) → withByte (upTo at v) b at n p ≡ upTo (at + n) v p

@@ -240,7 +240,8 @@ module _ (c : Unpack) (e : unpackRefusal c ≡ 0) where
     -- pack does not refuse it
     pub again-passes : packRefusal (packOf (c .m) (unpackOnes c) (unpackTwos c) b) ≡ 0
     again-passes =
-        sym (pack-passed (c .m) (unpackOnes c) (unpackTwos c) b (q .few) lb (ap length ones-wrote ∙ length-ones u n) (ap length twos-wrote ∙ length-twos u n))
+        sym (pack-passed (c .m) (unpackOnes c) (unpackTwos c) b (q .few) lb (ap length ones-wrote ∙ length-ones u n)
+        (ap length twos-wrote ∙ length-twos u n))
         ∙ ap₂ (λ (x y : List ℕ). planesRefusal x y 1 (c .m)) ones-wrote twos-wrote ∙ vector-passes u (c .m) ended
 
     -- and gives back the bytes that were unpacked, whatever was lent for them
@@ -251,8 +252,8 @@ module _ (c : Unpack) (e : unpackRefusal c ≡ 0) where
         ∙ bytes-back (c .m) (c .bytes) (q .bytes-size) (q .good)
 
 -- so bytes that unpack takes and that leave the same words are the same
-pub unpacked-apart : (c d : Unpack) → c .m ≡ d .m → unpackRefusal c ≡ 0 → unpackRefusal d ≡ 0 → unpackOnes c ≡ unpackOnes d → unpackTwos c ≡ unpackTwos d
-    → c .bytes ≡ d .bytes
+pub unpacked-apart : (c d : Unpack) → c .m ≡ d .m → unpackRefusal c ≡ 0 → unpackRefusal d ≡ 0
+    → unpackOnes c ≡ unpackOnes d → unpackTwos c ≡ unpackTwos d → c .bytes ≡ d .bytes
 unpacked-apart c d s e f o t =
     let b = d .bytes in
     let l = unpackable d f .bytes-size in

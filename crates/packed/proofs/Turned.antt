@@ -1,5 +1,5 @@
 -- The calls' refusals: which test decides, and what is left to decide once sizes and lengths are right. Assumes nothing.
-use mathlib.Core.Path.{_≡_, sym, ap}
+use mathlib.Core.Path.{_≡_, refl, sym, ap}
 use mathlib.Core.Bool.{Bool, true, false}
 use mathlib.Core.List.{List}
 use Prim.Native.Nat.{ℕ, _*_, _≤_, _<_}
@@ -9,7 +9,7 @@ use lib.ListN.{length}
 use Rattle.trits.specs.Trit.{t0}
 use Rattle.trits.specs.Planes.{wordsFor}
 use Rattle.trits.specs.Refusal.{refuse, planesRefusal}
-use Rattle.trits.proofs.Refusals.{passed-refuse}
+use Rattle.trits.proofs.Refusals.{passed-refuse, Leaves, leaves-none, leaves-refuse}
 use Rattle.packed.specs.Packed.{bytesFor, packedRow, badByte, packedPastEnd, packedRefusal}
 use Rattle.packed.specs.Stream.{kept, tooShort}
 use Rattle.packed.specs.Calls.{packOf, packRefusal, unpackOf, unpackRefusal, streamOf, streamRefusal}
@@ -97,6 +97,11 @@ module _ (m : ℕ) (bytes : List ℕ) where
   pub bytes-good : badByte bytes ≡ false → packedPastEnd m bytes ≡ false → 0 ≡ packedRefusal m bytes
   unfolding packedRefusal
   bytes-good g e = rw (g, e)
+
+  -- each of them leaves the working space
+  pub leaves-packed : Leaves (packedRefusal m bytes)
+  unfolding packedRefusal
+  leaves-packed = leaves-refuse (badByte bytes) 5 _ refl (leaves-refuse (packedPastEnd m bytes) 15 0 refl leaves-none)
 
   -- packed bytes that passed
   pub bytes-passed : packedRefusal m bytes ≡ 0 → (badByte bytes ≡ false) × (packedPastEnd m bytes ≡ false)

@@ -7,9 +7,9 @@ use borrow.Author.Tests.{lt-ltb, le-ltb, ltb-true, ltb-false}
 use lib.Dec.{ltb}
 use Rattle.trits.specs.Trit.{Trit, t0, t1, addT, negT, subT, mulT, isSet, dotV, anyTo}
 use Rattle.trits.proofs.Tests.{any-none, none-any}
-use Rattle.trits.proofs.Arithmetic.{law3}
+use Rattle.trits.proofs.Arithmetic.{law3, unset-zero}
 use Rattle.matrix.specs.Linear.{Vector, times}
-use Rattle.matrix.proofs.Field.{law4, test4, implied, not-true, not-false, sub-zero-eq, unset-zero}
+use Rattle.matrix.proofs.Field.{law4, test4, implied, not-true, not-false, sub-zero-eq}
 use Rattle.matrix.proofs.Dots.{dot-cong, dot-left, dot-right, dot-split, dot-add}
 use Rattle.matrix.proofs.Dimension.{Reaches}
 use Rattle.scheme.specs.declared.sizes.Sizes.{Sizes}

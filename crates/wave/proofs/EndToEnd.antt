@@ -6,7 +6,7 @@ use mathlib.Core.List.{List}
 use Prim.Native.Nat.{ℕ, _+_, _-_, _*_, _%_, _≤_, _<_}
 use native.Mathlib.Nat.{le-refl}
 use native.Mathlib.Omega.{arith}
-use borrow.Author.Tests.{eq-eqb, leb-true, le-leb, le-ltb}
+use borrow.Author.Tests.{eq-eqb, leb-true, le-leb}
 use lib.Dec.{eqb, leb}
 use lib.ListN.{length}
 use Rattle.trits.specs.Trit.{onesV, twosV, countsV, sumOf, upTo}
@@ -21,6 +21,7 @@ use Rattle.trits.proofs.Ends.{upto-in, upto-out, upto-ended}
 use Rattle.packed.specs.Packed.{bytesFor, packedRow, packedBytes, packedRefusal}
 use Rattle.packed.specs.Calls.{packOf, packRefusal, packExit}
 use Rattle.packed.proofs.RoundTrip.{packed-length, packed-back, packed-accepted}
+use Rattle.packed.proofs.Turned.{pack-passed}
 use Rattle.matrix.specs.Linear.{Vector}
 use Rattle.matrix.proofs.Places.{or-false-left, or-false-right}
 use Rattle.verdict.specs.Verdict.{Key, fullCounts}
@@ -53,11 +54,10 @@ use Rattle.wave.proofs.ReachCalls.{few, built-ones, built-twos, built-r
 
 -- ---- a call of `pack`
 
-module _ (m : ℕ) (ones twos bytes : List ℕ) (few : m ≤ 16384) (o : length ones ≡ wordsFor m) (t : length twos ≡ wordsFor m) (b : length bytes ≡ bytesFor m)
-    (p : planesRefusal ones twos 1 m ≡ 0) where
+module _ (m : ℕ) (ones twos bytes : List ℕ) (few : m ≤ 16384) (o : length ones ≡ wordsFor m) (t : length twos ≡ wordsFor m)
+    (b : length bytes ≡ bytesFor m) (p : planesRefusal ones twos 1 m ≡ 0) where
   packs : packRefusal (packOf m ones twos bytes) ≡ 0
-  unfolding packRefusal
-  packs = rw (le-ltb 16384 m few, eq-eqb (length ones) (wordsFor m) o, eq-eqb (length twos) (wordsFor m) t, eq-eqb (length bytes) (bytesFor m) b) p
+  packs = sym (pack-passed m ones twos bytes few b o t) ∙ p
 
   pack-writes : packExit (packOf m ones twos bytes) ≡ packedBytes m (tritAt ones twos)
   unfolding packExit
@@ -92,7 +92,8 @@ fits-held z number h l =
     rw (le-leb number 255 l, a .0, b .0, c .0, le-leb 2 (dim z) (omega arith), le-leb (dim z) (z .n - 2) (omega arith), k .0, k .1)
 
 -- y has its lengths
-y-lengths : (z : Sizes) (l : DrawCall) → drawLengthsDiffer z l ≡ false → (length (l .y .ones) ≡ wordsFor (codim z)) × (length (l .y .twos) ≡ wordsFor (codim z))
+y-lengths : (z : Sizes) (l : DrawCall) → drawLengthsDiffer z l ≡ false
+    → (length (l .y .ones) ≡ wordsFor (codim z)) × (length (l .y .twos) ≡ wordsFor (codim z))
 unfolding drawLengthsDiffer choicesDiffer
 y-lengths z l e =
     let a = or-false-right (differs z (l .secret)) _ e in
@@ -292,13 +293,15 @@ module _ (z : Sizes) (i : BuildCall) (b : Built z i) (g w : ℕ) (l : DrawCall) 
 
 -- ---- the word handed out is the word drawn, and so are its ones and twos
 
-module _ (z : Sizes) (i : BuildCall) (b : Built z i) (g w : ℕ) (l : DrawCall) (e : Vector) (u : Under z i l) (h : HandsOut (sized z g w) l e) (m : Host z) where
+module _ (z : Sizes) (i : BuildCall) (b : Built z i) (g w : ℕ) (l : DrawCall) (e : Vector) (u : Under z i l)
+    (h : HandsOut (sized z g w) l e) (m : Host z) where
   handed : countsV (wordOf (sized z g w) l) (places z) ≡ countsV e (places z)
   handed =
       counts-same (places z) (wordOf (sized z g w) l) e
       (λ q k. sym (ap (λ (v : Vector). v q) (handed-word (sized z g w) l (h .passed)) ∙ upto-in (wordOf (sized z g w) l) (places z) q k) ∙ h .word q k)
 
-  accepts : {answer : Checked} → answer ≡ yes (onesV (wordOf (sized z g w) l) (places z)) (twosV (wordOf (sized z g w) l) (places z)) → Accepts z w e answer
+  accepts : {answer : Checked} → answer ≡ yes (onesV (wordOf (sized z g w) l) (places z)) (twosV (wordOf (sized z g w) l) (places z))
+      → Accepts z w e answer
   accepts a =
       let f = a ∙ ap (λ (c : Counts). yes (c .ones) (c .twos)) handed in record {
         says = f;

@@ -18,8 +18,8 @@ use Rattle.packed.proofs.Turned.{leaves-packed}
 use Rattle.held_key.specs.declared.state.Held.{Held}
 use Rattle.held_key.specs.Held.{sound, rowTrits, rowWords, keyWords}
 use Rattle.check_tests.specs.declared.Checked.{Checked}
-use Rattle.check_tests.specs.Check.{Check, PackedCheck, callRefusal, planesLengths, planesContents, packedLengths, packedContents}
-use Rattle.check_tests.specs.Check.{checkRefusal, checkPackedRefusal, answered}
+use Rattle.check_tests.specs.Check.{Check, PackedCheck, callRefusal, callRefusalUnder, planesLengths, planesContents, packedLengths, packedContents}
+use Rattle.check_tests.specs.Check.{checkRefusal, checkRefusalUnder, checkPackedRefusal, answered}
 
 -- ---- the verdict
 
@@ -53,7 +53,7 @@ refused-alike {r} a b w l = rw (ne-eqb r 0 (λ z. omega arith))
 
 -- every refusal of a check leaves it
 leaves-call : (h : Held) (number a b d e : ℕ) → Leaves (callRefusal h number a b d e)
-unfolding callRefusal
+unfolding callRefusalUnder
 leaves-call h number a b d e =
     leaves-refuse (eqb (h .begun) 0) 20 _ refl
     (leaves-demand (sound h) 1 _ refl
@@ -66,7 +66,7 @@ leaves-call h number a b d e =
     leaves-none)))))))
 
 pub leaves-check : (c : Check) → Leaves (checkRefusal c)
-unfolding checkRefusal planesLengths planesContents
+unfolding checkRefusalUnder planesLengths planesContents
 leaves-check c =
     let h = c .held in
     leaves-first _ _ (leaves-call h (c .number) (length (c .ones)) (length (c .twos)) (length (c .workOnes)) (length (c .workTwos)))

@@ -9,7 +9,7 @@ use Rattle.trits.specs.declared.Counts.{Counts}
 use Rattle.trits.proofs.Counting.{counts-weight}
 use Rattle.verdict.specs.Verdict.{fullCounts}
 use Rattle.held_key.specs.Held.{rowTrits}
-use Rattle.check_tests.specs.Check.{Check, PackedCheck, checkRefusal, checkPackedRefusal, heldCounts, answered, checkAnswer, checkPackedAnswer}
+use Rattle.check_tests.specs.Check.{Check, PackedCheck, checkRefusal, checkPackedRefusal, heldCountsUnder, answered, checkAnswer, checkAnswerUnder, checkPackedAnswer}
 use Rattle.check_tests.specs.AsBefore.{weightAlone, checkWord, checkPackedWord, checkBy, checkPackedBy, SameVerdict}
 
 -- an answer looks at the sum of its two numbers alone
@@ -20,11 +20,11 @@ by-sum (suc r) a b w e = let refused = ne-eqb (suc r) 0 (λ z. omega arith) in r
 
 -- the answer is that by `countsV`
 pub check-counts-apart : (c : Check) → checkAnswer c ≡ checkBy countsV c
-unfolding checkAnswer heldCounts fullCounts
+unfolding checkAnswerUnder heldCountsUnder fullCounts
 check-counts-apart c = refl
 
 pub check-packed-counts-apart : (c : PackedCheck) → checkPackedAnswer c ≡ checkPackedBy countsV c
-unfolding checkPackedAnswer heldCounts fullCounts
+unfolding checkPackedAnswer heldCountsUnder fullCounts
 check-packed-counts-apart c = refl
 
 -- and as it was by the weight

@@ -13,8 +13,8 @@ use Rattle.packed.specs.Packed.{bytesFor, packedRow, packedRefusal}
 use Rattle.packed.proofs.RoundTrip.{one-form}
 use Rattle.held_key.specs.declared.state.Held.{Held}
 use Rattle.held_key.specs.Held.{sound, rowTrits, rowWords, keyWords}
-use Rattle.check_tests.specs.Check.{Check, checkRefusal, PackedCheck, checkPackedRefusal}
-use Rattle.check_tests.specs.Check.{callRefusal, planesLengths, planesContents, packedLengths, packedContents}
+use Rattle.check_tests.specs.Check.{Check, checkRefusal, checkRefusalUnder, PackedCheck, checkPackedRefusal}
+use Rattle.check_tests.specs.Check.{callRefusal, callRefusalUnder, planesLengths, planesContents, packedLengths, packedContents}
 use Rattle.held_key.specs.Steps.{Whole}
 
 pub record Called (h : Held) (number ones twos workOnes workTwos : ℕ) : Type 0 where
@@ -28,7 +28,7 @@ pub record Called (h : Held) (number ones twos workOnes workTwos : ℕ) : Type 0
 
 pub called : (h : Held) (number ones twos workOnes workTwos : ℕ) → callRefusal h number ones twos workOnes workTwos ≡ 0
     → Called h number ones twos workOnes workTwos
-unfolding callRefusal
+unfolding callRefusalUnder
 called h number ones twos wo wt e =
     let a = passed-refuse (eqb (h .begun) 0) 20 _ (lit< tt) e in
     let b = passed-demand (sound h) 1 _ (lit< tt) (a .1) in
@@ -97,7 +97,7 @@ pub check-passed : (c : Check) → checkRefusal c ≡ 0 → let h = c .held in
     Called h (c .number) (length (c .ones)) (length (c .twos)) (length (c .workOnes)) (length (c .workTwos))
     × (planesLengths h (length (c .yOnes)) (length (c .yTwos)) (length (c .sOnes)) (length (c .sTwos)) ≡ 0)
     × (planesContents h (c .ones) (c .twos) (c .yOnes) (c .yTwos) (c .sOnes) (c .sTwos) ≡ 0)
-unfolding checkRefusal
+unfolding checkRefusalUnder
 check-passed c e =
     let h = c .held in
     let a = passed-first (callRefusal h (c .number) (length (c .ones)) (length (c .twos)) (length (c .workOnes)) (length (c .workTwos))) _ e in

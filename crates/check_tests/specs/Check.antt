@@ -14,7 +14,7 @@ use Rattle.check_tests.specs.declared.Checked.{Checked}
 use Rattle.check_tests.specs.declared.Verdict.{Verdict}
 use Rattle.check_tests.specs.declared.Verdict.the-variants.{Yes, No, Refused}
 use Rattle.verdict.specs.Verdict.{fullCounts}
-use Rattle.held_key.specs.Held.{sound, rowTrits, rowWords, keyWords, heldKey}
+use Rattle.held_key.specs.Held.{mostKeyNumber, soundUnder, rowTrits, rowWords, keyWords, heldKeyUnder}
 
 -- ---- what is lent
 
@@ -62,10 +62,10 @@ packedCheckOf h number ones twos y s wo wt = record { held = h; number = number;
 -- ---- refusals
 
 -- the state and the key number, then the lengths of the key's planes and of the working space
-unfoldable pub callRefusal : Held → ℕ → ℕ → ℕ → ℕ → ℕ → ℕ
-callRefusal h number ones twos workOnes workTwos =
+unfoldable pub callRefusalUnder : ℕ → Held → ℕ → ℕ → ℕ → ℕ → ℕ → ℕ
+callRefusalUnder most h number ones twos workOnes workTwos =
     refuse (eqb (h .begun) 0) 20
-    (demand (sound h) 1
+    (demand (soundUnder most h) 1
     (demand (eqb (h .rows) (h .k)) 20
     (demand (eqb number (h .number)) 22
     (demand (eqb ones (keyWords h)) 2
@@ -73,6 +73,9 @@ callRefusal h number ones twos workOnes workTwos =
     (demand (eqb workOnes (rowWords h)) 2
     (demand (eqb workTwos (rowWords h)) 2
     0)))))))
+
+abbrev pub callRefusal : Held → ℕ → ℕ → ℕ → ℕ → ℕ → ℕ
+callRefusal h number ones twos workOnes workTwos = callRefusalUnder mostKeyNumber h number ones twos workOnes workTwos
 
 -- y and s in planes: their lengths
 unfoldable pub planesLengths : Held → ℕ → ℕ → ℕ → ℕ → ℕ
@@ -105,12 +108,15 @@ packedContents h ones twos y s =
     (packedRefusal (h .k) s))
 
 -- the check of y and s in planes
-unfoldable pub checkRefusal : Check → ℕ
-checkRefusal c =
+unfoldable pub checkRefusalUnder : ℕ → Check → ℕ
+checkRefusalUnder most c =
     let h = c .held in
-    first (callRefusal h (c .number) (length (c .ones)) (length (c .twos)) (length (c .workOnes)) (length (c .workTwos)))
+    first (callRefusalUnder most h (c .number) (length (c .ones)) (length (c .twos)) (length (c .workOnes)) (length (c .workTwos)))
     (first (planesLengths h (length (c .yOnes)) (length (c .yTwos)) (length (c .sOnes)) (length (c .sTwos)))
     (planesContents h (c .ones) (c .twos) (c .yOnes) (c .yTwos) (c .sOnes) (c .sTwos)))
+
+abbrev pub checkRefusal : Check → ℕ
+checkRefusal c = checkRefusalUnder mostKeyNumber c
 
 -- the check of packed y and s
 unfoldable pub checkPackedRefusal : PackedCheck → ℕ
@@ -123,8 +129,11 @@ checkPackedRefusal c =
 -- ---- the answer
 
 -- the ones and twos of the full word of y and s under the held key
-unfoldable pub heldCounts : Held → List ℕ → List ℕ → (ℕ → Trit) → (ℕ → Trit) → Counts
-heldCounts h ones twos y s = fullCounts (rowTrits h) (h .k) (heldKey h ones twos) y s
+unfoldable pub heldCountsUnder : ℕ → Held → List ℕ → List ℕ → (ℕ → Trit) → (ℕ → Trit) → Counts
+heldCountsUnder most h ones twos y s = fullCounts (rowTrits h) (h .k) (heldKeyUnder most h ones twos) y s
+
+abbrev pub heldCounts : Held → List ℕ → List ℕ → (ℕ → Trit) → (ℕ → Trit) → Counts
+heldCounts h ones twos y s = heldCountsUnder mostKeyNumber h ones twos y s
 
 -- the numbers that a verdict is told by: the refusal or 0, 1 for yes and 0 for all else, the ones and the twos or 0
 abbrev pub told : Verdict → Checked
@@ -140,11 +149,17 @@ answered refusal counts w =
     (record { refusal = refusal; yes = 0; ones = 0; twos = 0 })
 
 -- what the check of y and s in planes counts and answers
-abbrev pub checkCounts : Check → Counts
-checkCounts c = heldCounts (c .held) (c .ones) (c .twos) (tritAt (c .yOnes) (c .yTwos)) (tritAt (c .sOnes) (c .sTwos))
+abbrev pub checkCountsUnder : ℕ → Check → Counts
+checkCountsUnder most c = heldCountsUnder most (c .held) (c .ones) (c .twos) (tritAt (c .yOnes) (c .yTwos)) (tritAt (c .sOnes) (c .sTwos))
 
-unfoldable pub checkAnswer : Check → Checked
-checkAnswer c = answered (checkRefusal c) (checkCounts c) (c .held .w)
+abbrev pub checkCounts : Check → Counts
+checkCounts c = checkCountsUnder mostKeyNumber c
+
+unfoldable pub checkAnswerUnder : ℕ → Check → Checked
+checkAnswerUnder most c = answered (checkRefusalUnder most c) (checkCountsUnder most c) (c .held .w)
+
+abbrev pub checkAnswer : Check → Checked
+checkAnswer c = checkAnswerUnder mostKeyNumber c
 
 -- what the check of packed y and s counts and answers
 abbrev pub checkPackedCounts : PackedCheck → Counts

@@ -16,11 +16,11 @@ use Rattle.trits.proofs.Reading.{length-ones, length-twos}
 use Rattle.packed.specs.Packed.{bytesFor, packedRow, packedRefusal}
 use Rattle.held_key.specs.declared.state.Held.{Held}
 use Rattle.verdict.specs.Verdict.{Key, fullCounts}
-use Rattle.held_key.specs.Held.{numbersFit, sound, heldKey}
-use Rattle.held_key.specs.Store.{beginRefusal, begunHeld, beginHeld, rowRefusal, nextHeld, storedHeld}
+use Rattle.held_key.specs.Held.{numbersFit, sound, soundUnder, heldKey}
+use Rattle.held_key.specs.Store.{beginRefusal, beginRefusalUnder, begunHeld, beginHeld, rowRefusal, rowRefusalUnder, nextHeld, storedHeld}
 use Rattle.held_key.specs.Store.{PackedStore, packedStoreOf, storePackedRefusal, storePackedOnes, storePackedTwos}
 use Rattle.held_key.specs.Load.{Holding, offer, offerAll}
-use Rattle.check_tests.specs.Check.{callRefusal, packedLengths, packedContents, heldCounts, answered}
+use Rattle.check_tests.specs.Check.{callRefusal, callRefusalUnder, packedLengths, packedContents, heldCountsUnder, answered}
 use Rattle.check_tests.specs.Check.{PackedCheck, packedCheckOf, checkPackedRefusal, checkPackedCounts, checkPackedAnswer}
 use Rattle.held_key.specs.Steps.{Whole}
 use Rattle.verdict.proofs.FullWord.{counts-cong}
@@ -37,7 +37,7 @@ module _ (number n k w : ℕ) (z : numbersFit number n k w ≡ true) (rows : ℕ
 
   -- the state that beginning gives
   pub begun : (h : Held) → (beginRefusal number n k w ≡ 0) × (beginHeld h number n k w ≡ heldAt 0)
-  unfolding beginRefusal beginHeld begunHeld
+  unfolding beginRefusalUnder beginHeld begunHeld
   begun h = (rw z, rw z)
 
   -- the key of the rows offered
@@ -45,7 +45,7 @@ module _ (number n k w : ℕ) (z : numbersFit number n k w ≡ true) (rows : ℕ
   key i = packedRow (rows i)
 
   sound-at : (i : ℕ) → i ≤ k → sound (heldAt i) ≡ true
-  unfolding sound
+  unfolding soundUnder
   sound-at i l = rw (z, le-leb i k l)
 
   -- what holds after i rows
@@ -57,7 +57,7 @@ module _ (number n k w : ℕ) (z : numbersFit number n k w ≡ true) (rows : ℕ
 
   module _ (i : ℕ) (ones twos : List ℕ) (l : i < k) (p : length ones ≡ k * wordsFor (n - k)) (q : length twos ≡ k * wordsFor (n - k)) where
     state-passes : rowRefusal (heldAt i) (length ones) (length twos) ≡ 0
-    unfolding rowRefusal
+    unfolding rowRefusalUnder
     state-passes = rw (
       sound-at i (omega arith),
       ne-eqb i k (λ e. absurd (omega arith)),
@@ -108,7 +108,7 @@ module _ (number n k w : ℕ) (z : numbersFit number n k w ≡ true) (rows : ℕ
     whole = record { is-sound = sound-at k (le-refl k); all-rows = refl; ones-size = g .ones-size; twos-size = g .twos-size }
 
     call-passes : callRefusal (heldAt k) number (length (s .ones)) (length (s .twos)) (length wo) (length wt) ≡ 0
-    unfolding callRefusal
+    unfolding callRefusalUnder
     call-passes =
         rw (
           sound-at k (le-refl k),
@@ -137,7 +137,7 @@ module _ (number n k w : ℕ) (z : numbersFit number n k w ≡ true) (rows : ℕ
     accepted = sym (first-goes (sym call-passes) refl (first-goes (sym lengths-pass) refl contents-pass))
 
     counts-are : checkPackedCounts asks ≡ fullCounts (n - k) k key (packedRow y) (packedRow t)
-    unfolding heldCounts
+    unfolding heldCountsUnder
     counts-are = counts-cong (n - k) k (heldKey (heldAt k) (s .ones) (s .twos)) (packedRow y) (packedRow t) key
         (λ i q l. ap (λ (r : ℕ → Trit). r q) (filled-row whole key (g .rows-are) i l))
 

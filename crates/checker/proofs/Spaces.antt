@@ -6,12 +6,12 @@ use lib.ListN.{length}
 use Rattle.trits.specs.Refusal.{first}
 use Rattle.held_key.specs.declared.state.Held.{Held}
 use Rattle.check_tests.specs.Check.{callRefusal, planesLengths, planesContents, packedLengths, packedContents}
-use Rattle.check_tests.specs.Check.{checkOf, checkRefusal, packedCheckOf, checkPackedRefusal}
+use Rattle.check_tests.specs.Check.{checkOf, checkRefusal, checkRefusalUnder, packedCheckOf, checkPackedRefusal}
 
 module _ (h : Held) (number : ℕ) (ones twos : List ℕ) where
   pub check-spaces : (yo yt so st a b c d : List ℕ) → length a ≡ length c → length b ≡ length d
       → checkRefusal (checkOf h number ones twos yo yt so st a b) ≡ checkRefusal (checkOf h number ones twos yo yt so st c d)
-  unfolding checkRefusal
+  unfolding checkRefusalUnder
   check-spaces yo yt so st a b c d e f =
       let rest = first (planesLengths h (length yo) (length yt) (length so) (length st)) (planesContents h ones twos yo yt so st) in
       ap₂ (λ (x y : ℕ). first (callRefusal h number (length ones) (length twos) x y) rest) e f

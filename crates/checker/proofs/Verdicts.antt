@@ -21,8 +21,8 @@ use Rattle.packed.proofs.RoundTrip.{packed-length, packed-back, packed-accepted
 use Rattle.held_key.specs.declared.state.Held.{Held}
 use Rattle.verdict.specs.Verdict.{fullCounts, Extending, Found}
 use Rattle.held_key.specs.Held.{sound, rowTrits, heldKey}
-use Rattle.check_tests.specs.Check.{callRefusal, packedLengths, packedContents, heldCounts, answered}
-use Rattle.check_tests.specs.Check.{Check, checkRefusal, checkAnswer, PackedCheck, checkPackedRefusal, checkPackedAnswer}
+use Rattle.check_tests.specs.Check.{callRefusal, packedLengths, packedContents, heldCounts, heldCountsUnder, answered}
+use Rattle.check_tests.specs.Check.{Check, checkRefusal, checkRefusalUnder, checkAnswer, checkAnswerUnder, PackedCheck, checkPackedRefusal, checkPackedAnswer}
 use Rattle.held_key.proofs.Sizes.{sizes}
 use Rattle.verdict.proofs.FullWord.{verifier, extends-once, counts-of, yes-sum}
 use Rattle.check_tests.proofs.Passed.{Fitted, fitted, contents, check-passed, check-packed-passed}
@@ -41,7 +41,7 @@ answered-yes c w = (forth (ℕ-discrete (sumOf c) w), λ e. ap (λ (t : Bool). c
 -- yes, where nothing is refused
 module _ (h : Held) (ones twos : List ℕ) (y s : ℕ → Trit) where
   found : (answered 0 (heldCounts h ones twos y s) (h .w) .yes ≡ 1) ↔ Found (rowTrits h) (h .k) (h .w) (heldKey h ones twos) y s
-  unfolding heldCounts
+  unfolding heldCountsUnder
   found =
       let R = heldKey h ones twos in
       let v = verifier (rowTrits h) (h .k) R y s (h .w) in
@@ -52,7 +52,7 @@ module _ (h : Held) (ones twos : List ℕ) (y s : ℕ → Trit) where
 -- the check in planes
 pub check-verdict : (c : Check) → checkRefusal c ≡ 0 → let h = c .held in
     (checkAnswer c .yes ≡ 1) ↔ Found (rowTrits h) (h .k) (h .w) (heldKey h (c .ones) (c .twos)) (tritAt (c .yOnes) (c .yTwos)) (tritAt (c .sOnes) (c .sTwos))
-unfolding checkAnswer
+unfolding checkAnswerUnder
 check-verdict c e = rw e (found (c .held) (c .ones) (c .twos) (tritAt (c .yOnes) (c .yTwos)) (tritAt (c .sOnes) (c .sTwos)))
 
 -- the packed check
@@ -64,7 +64,7 @@ check-packed-verdict c e = rw e (found (c .held) (c .ones) (c .twos) (packedRow 
 -- the ones and twos that a check answers are those of that word
 word-counts : (h : Held) (ones twos : List ℕ) (y s v : ℕ → Trit) → sound h ≡ true → Extending (rowTrits h) (h .k) (heldKey h ones twos) y s v
     → heldCounts h ones twos y s ≡ countsV v (h .n)
-unfolding heldCounts
+unfolding heldCountsUnder
 word-counts h ones twos y s v z x =
     let all : rowTrits h + h .k ≡ h .n = omega (arith, sizes h z) in
     counts-of (rowTrits h) (h .k) (heldKey h ones twos) y s v (x .has-syndrome) (x .extends) ∙ ap (countsV v) all
@@ -72,7 +72,7 @@ word-counts h ones twos y s v z x =
 pub check-counts : (c : Check) → checkRefusal c ≡ 0 → (v : ℕ → Trit) → let h = c .held in
     Extending (rowTrits h) (h .k) (heldKey h (c .ones) (c .twos)) (tritAt (c .yOnes) (c .yTwos)) (tritAt (c .sOnes) (c .sTwos)) v
     → (checkAnswer c .ones ≡ onesV v (h .n)) × (checkAnswer c .twos ≡ twosV v (h .n))
-unfolding checkAnswer answered
+unfolding checkAnswerUnder answered
 check-counts c e v x =
     let f = word-counts (c .held) (c .ones) (c .twos) (tritAt (c .yOnes) (c .yTwos)) (tritAt (c .sOnes) (c .sTwos)) v (check-passed c e .0 .is-sound) x in
     (rw e (ap (λ (k : Counts). k .ones) f), rw e (ap (λ (k : Counts). k .twos) f))
@@ -130,7 +130,7 @@ module _ (c : Check) (e : checkRefusal c ≡ 0) where
   right = contents h (c .ones) (c .twos) (c .yOnes) (c .yTwos) (c .sOnes) (c .sTwos) (check-passed c e .2)
 
   call-passes : callRefusal h (c .number) (length (c .ones)) (length (c .twos)) (length (c .workOnes)) (length (c .workTwos)) ≡ 0
-  unfolding checkRefusal
+  unfolding checkRefusalUnder
   call-passes = passed-first (callRefusal h (c .number) (length (c .ones)) (length (c .twos)) (length (c .workOnes)) (length (c .workTwos))) _ e .0
 
   lengths-pass : packedLengths h (length py) (length ps) ≡ 0
@@ -154,5 +154,5 @@ module _ (c : Check) (e : checkRefusal c ≡ 0) where
 
   -- and it answers the same
   pub packed-agrees : checkPackedAnswer (packedOf c) ≡ checkAnswer c
-  unfolding checkAnswer checkPackedAnswer
+  unfolding checkAnswerUnder checkPackedAnswer
   packed-agrees = ap₂ (λ (r : ℕ) (x : Counts). answered r x (h .w)) (packed-passes ∙ sym e) (ap₂ (heldCounts h (c .ones) (c .twos)) y-back s-back)

@@ -13,7 +13,7 @@ use Rattle.trits.proofs.Counting.{counts-le}
 use Rattle.held_key.specs.declared.state.Held.{Held}
 use Rattle.verdict.specs.Verdict.{timesKey, fullWord, fullCounts}
 use Rattle.held_key.specs.Held.{rowTrits, rowWords, heldKey}
-use Rattle.check_tests.specs.Check.{Check, PackedCheck, checkRefusal, checkPackedRefusal, heldCounts}
+use Rattle.check_tests.specs.Check.{Check, PackedCheck, checkRefusal, checkPackedRefusal, heldCounts, heldCountsUnder}
 use Rattle.held_key.specs.Steps.{Whole}
 use Rattle.held_key.proofs.Sizes.{sizes}
 use Rattle.held_key.proofs.Stretch.{row-past}
@@ -29,7 +29,7 @@ pub weighed : {h : Held} {ones twos o t p q : List ℕ} {a : ℕ} {c d : Counts}
     → Reads p q (length o) (zipV subT (tritAt o t) (timesKey (h .k) (heldKey h ones twos) s))
     → c ≡ countsV (tritAt p q) (64 * length p) → d ≡ countsV s (h .k)
     → addCounts c d ≡ heldCounts h ones twos y s
-unfolding heldCounts
+unfolding heldCountsUnder
 weighed {h} {ones} {twos} {o} {t} {p} {q} {a} {c} {d} y s w z yz r e g ec ed =
     let R = heldKey h ones twos in
     let l : length p ≡ rowWords h = g .size ∙ r .size ∙ e in
@@ -44,7 +44,7 @@ at-most {p} {q} r e = omega (arith, ap sumOf e, counts-le (tritAt p q) (64 * len
 
 -- and those of a full word at most n
 pub few-counts : {h : Held} {ones twos : List ℕ} {c : Counts} (y s : ℕ → Trit) → Whole h ones twos → c ≡ heldCounts h ones twos y s → sumOf c ≤ 16384
-unfolding heldCounts fullCounts
+unfolding heldCountsUnder fullCounts
 few-counts {h} {ones} {twos} {c} y s w e =
     omega (arith, ap sumOf e, counts-le (fullWord (rowTrits h) (h .k) (heldKey h ones twos) y s) (rowTrits h + h .k), sizes h (w .is-sound))
 

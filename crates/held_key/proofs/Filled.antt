@@ -20,7 +20,7 @@ use Rattle.trits.proofs.Matrix.{row-le, one-row-past, part-there}
 use Rattle.packed.specs.Packed.{packedRow}
 use Rattle.held_key.specs.declared.state.Held.{Held}
 use Rattle.verdict.specs.Verdict.{Key}
-use Rattle.held_key.specs.Held.{rowTrits, rowWords, keyWords, heldRow, heldKey}
+use Rattle.held_key.specs.Held.{rowTrits, rowWords, keyWords, heldRow, heldKey, heldKeyUnder}
 use Rattle.held_key.specs.Store.{Store, storeRefusal, nextHeld, storeOnes, storeTwos}
 use Rattle.held_key.specs.Store.{PackedStore, storePackedRefusal, newOnes, newTwos, storePackedOnes, storePackedTwos}
 use Rattle.held_key.specs.Steps.{Whole}
@@ -49,7 +49,7 @@ module _ {h : Held} {ones twos : List ℕ} (f : Room h (length ones) (length two
     (lt : length newTwos ≡ rowWords h)
     (K : Key) (r : tritAt newOnes newTwos ≡ K (h .rows)) (t : Tested (rowTrits h) newOnes newTwos) (g : Filled h ones twos K) where
   filled-put : Filled (nextHeld h) (putWords (h .rows * rowWords h) ones newOnes) (putWords (h .rows * rowWords h) twos newTwos) K
-  unfolding nextHeld heldKey
+  unfolding nextHeld heldKeyUnder
   filled-put = record { reads = λ i l. rd i (ℕ-discrete i (h .rows)) l; tested = λ i l. ts i (ℕ-discrete i (h .rows)) l }
     where
       rd : (i : ℕ) → Dec (i ≡ h .rows) → i < h .rows + 1

@@ -18,7 +18,7 @@ use Rattle.trits.proofs.Matrix.{row-le}
 use Rattle.trits.proofs.Reading.{length-ones, length-twos, holds-reads}
 use Rattle.packed.specs.Packed.{packedRow}
 use Rattle.held_key.specs.declared.state.Held.{Held}
-use Rattle.held_key.specs.Held.{numbersFit, sound, rowTrits, rowWords, keyWords, heldRow, heldKey}
+use Rattle.held_key.specs.Held.{numbersFit, sound, soundUnder, rowTrits, rowWords, keyWords, heldRow, heldKey, heldKeyUnder}
 use Rattle.held_key.specs.Store.{Store, storeRefusal, nextHeld, storeOnes, storeTwos}
 use Rattle.held_key.specs.Store.{PackedStore, packedStoreOf, storePackedRefusal, newOnes, newTwos, storePackedOnes, storePackedTwos}
 use Rattle.held_key.proofs.Sizes.{and-both}
@@ -56,7 +56,7 @@ module _ (w r : ℕ) (plane new : List ℕ) (h : r * w + w ≤ length plane) (e 
 
 -- one row more is counted, and the state is still sound
 pub sound-after : {h : Held} {ones twos : ℕ} → Room h ones twos → sound (nextHeld h) ≡ true
-unfolding sound nextHeld
+unfolding soundUnder nextHeld
 sound-after {h} f =
     let a = and-both (eqb (h .begun) 1) _ (f .is-sound) in
     let z = and-both (numbersFit (h .number) (h .n) (h .k) (h .w)) (leb (h .rows) (h .k)) (a .1) in
@@ -101,7 +101,7 @@ module _ (c : Store) (e : storeRefusal c ≡ 0) where
 
   -- the new row is the row offered
   pub stored-new : heldKey (nextHeld (c .held)) (storeOnes c) (storeTwos c) (c .held .rows) ≡ tritAt (c .rowOnes) (c .rowTwos)
-  unfolding heldKey
+  unfolding heldKeyUnder
   stored-new =
       let p = stored-passed c e in
       ap₂ tritAt
@@ -112,7 +112,7 @@ module _ (c : Store) (e : storeRefusal c ≡ 0) where
 
   -- the rows before it are as they were
   pub stored-old : (i : ℕ) → i < c .held .rows → heldKey (nextHeld (c .held)) (storeOnes c) (storeTwos c) i ≡ heldKey (c .held) (c .ones) (c .twos) i
-  unfolding heldKey
+  unfolding heldKeyUnder
   stored-old i l =
       let p = stored-passed c e in
       ap₂ tritAt
@@ -131,7 +131,7 @@ module _ (c : PackedStore) (e : storePackedRefusal c ≡ 0) where
 
   -- the new row is the row offered
   pub packed-new : heldKey (nextHeld (c .held)) (storePackedOnes c) (storePackedTwos c) (c .held .rows) ≡ packedRow (c .row)
-  unfolding heldKey
+  unfolding heldKeyUnder
   packed-new =
       let p = stored-packed-passed c e in
       ap₂ tritAt
@@ -145,7 +145,7 @@ module _ (c : PackedStore) (e : storePackedRefusal c ≡ 0) where
   -- the rows before it are as they were
   pub packed-old : (i : ℕ) → i < c .held .rows
       → heldKey (nextHeld (c .held)) (storePackedOnes c) (storePackedTwos c) i ≡ heldKey (c .held) (c .ones) (c .twos) i
-  unfolding heldKey
+  unfolding heldKeyUnder
   packed-old i l =
       let p = stored-packed-passed c e in
       ap₂ tritAt

@@ -13,7 +13,7 @@ use Rattle.trits.proofs.Matrix.{row-le}
 use Rattle.packed.specs.Packed.{bytesFor, packedRefusal}
 use Rattle.held_key.specs.declared.state.Held.{Held}
 use Rattle.held_key.specs.Held.{sound, rowTrits, rowWords, keyWords}
-use Rattle.held_key.specs.Store.{Store, PackedStore, rowRefusal, storeRefusal, storePackedRefusal}
+use Rattle.held_key.specs.Store.{Store, PackedStore, rowRefusal, rowRefusalUnder, storeRefusal, storeRefusalUnder, storePackedRefusal}
 use Rattle.held_key.proofs.Sizes.{Sizes, sizes}
 
 pub record Room (h : Held) (ones twos : ℕ) : Type 0 where
@@ -25,7 +25,7 @@ pub record Room (h : Held) (ones twos : ℕ) : Type 0 where
   pub within : h .rows * rowWords h + rowWords h ≤ keyWords h
 
 pub room : (h : Held) (ones twos : ℕ) → rowRefusal h ones twos ≡ 0 → Room h ones twos
-unfolding rowRefusal
+unfolding rowRefusalUnder
 room h ones twos e =
     let a = passed-refuse (eqb (h .begun) 0) 20 _ (lit< tt) e in
     let b = passed-demand (sound h) 1 _ (lit< tt) (a .1) in
@@ -48,7 +48,7 @@ room h ones twos e =
 pub stored-passed : (c : Store) → storeRefusal c ≡ 0 → let h = c .held in
     Room h (length (c .ones)) (length (c .twos)) × (length (c .rowOnes) ≡ rowWords h) × (length (c .rowTwos) ≡ rowWords h)
     × (planesRefusal (c .rowOnes) (c .rowTwos) 1 (rowTrits h) ≡ 0)
-unfolding storeRefusal
+unfolding storeRefusalUnder
 stored-passed c e =
     let h = c .held in
     let a = passed-first (rowRefusal h (length (c .ones)) (length (c .twos))) _ e in

@@ -7,7 +7,7 @@ use native.Mathlib.Omega.{arith}
 use lib.Dec.{eqb, leb}
 use borrow.Author.Tests.{leb-true, eqb-true}
 use Rattle.held_key.specs.declared.state.Held.{Held}
-use Rattle.held_key.specs.Held.{mostKeyNumber, numbersFit, sound, rowWords, keyWords}
+use Rattle.held_key.specs.Held.{mostKeyNumber, numbersFit, numbersFitUnder, sound, soundUnder, rowWords, keyWords}
 
 pub and-both : (a b : Bool) → (a && b) ≡ true → (a ≡ true) × (b ≡ true)
 and-both true b e = (refl, e)
@@ -23,7 +23,7 @@ pub record Sizes (h : Held) : Type 0 where
   pub room : keyWords h ≤ 16384 * 256
 
 pub sizes : (h : Held) → sound h ≡ true → Sizes h
-unfolding sound numbersFit
+unfolding soundUnder numbersFitUnder
 sizes h e =
     let a = and-both (eqb (h .begun) 1) _ e in
     let z = and-both (numbersFit (h .number) (h .n) (h .k) (h .w)) (leb (h .rows) (h .k)) (a .1) in

@@ -12,20 +12,20 @@ use Rattle.trits.specs.Rows.{rowPart, rowsPastEnd}
 use Rattle.trits.proofs.Matrix.{part-there, part-length, part-reads}
 use Rattle.trits.proofs.Tests.{any-none, past-zero}
 use Rattle.held_key.specs.declared.state.Held.{Held}
-use Rattle.held_key.specs.Held.{sound, rowTrits, rowWords, keyWords, heldRow, heldKey}
+use Rattle.held_key.specs.Held.{sound, rowTrits, rowWords, keyWords, heldRow, heldRowUnder, heldKey, heldKeyUnder}
 use Rattle.held_key.specs.Steps.{Whole}
 
 module _ (h : Held) (plane : List ℕ) (i : ℕ) where
   pub row-unsound : sound h ≡ false → [] ≡ heldRow h plane i
-  unfolding heldRow
+  unfolding heldRowUnder
   row-unsound e = rw e
 
   pub row-missing : sound h ≡ true → h .rows ≤ i → [] ≡ heldRow h plane i
-  unfolding heldRow
+  unfolding heldRowUnder
   row-missing e l = rw (e, le-ltb i (h .rows) l)
 
   pub row-stored : sound h ≡ true → i < h .rows → rowPart plane (h .k) (rowWords h) i ≡ heldRow h plane i
-  unfolding heldRow
+  unfolding heldRowUnder
   row-stored e l = rw (e, lt-ltb i (h .rows) l)
 
   pub row-there : sound h ≡ true → length plane ≡ keyWords h → i < h .rows → h .rows ≤ h .k
@@ -52,7 +52,7 @@ module _ {h : Held} {ones twos : List ℕ} (w : Whole h ones twos) (i : ℕ) (l 
 
   -- a place past its length is 0
   pub row-past : rowsPastEnd ones twos (h .k) (rowTrits h) ≡ false → (q : ℕ) → rowTrits h ≤ q → heldKey h ones twos i q ≡ t0
-  unfolding rowsPastEnd heldKey
+  unfolding rowsPastEnd heldKeyUnder
   row-past e q a =
       let p = any-none (h .k) (λ i. pastEnd (rowPart ones (h .k) (rowWords h) i) (rowPart twos (h .k) (rowWords h) i) (rowTrits h)) e i l in
       past-zero (heldRow h ones i) (heldRow h twos i) (rowTrits h) (twos-length ∙ sym ones-length)

@@ -9,13 +9,16 @@ use Rattle.trits.specs.Rows.{putWords}
 use Rattle.trits.specs.Refusal.{refuse, demand, first, atExit, planesRefusal}
 use Rattle.packed.specs.Packed.{bytesFor, packedRow, packedRefusal}
 use Rattle.held_key.specs.declared.state.Held.{Held}
-use Rattle.held_key.specs.Held.{numbersFit, sound, rowTrits, rowWords, keyWords}
+use Rattle.held_key.specs.Held.{mostKeyNumber, numbersFitUnder, soundUnder, rowTrits, rowWords, keyWords}
 
 -- ---- beginning: the new key replaces the held one, whatever that was
 
 -- only a size can be refused
-unfoldable pub beginRefusal : ℕ → ℕ → ℕ → ℕ → ℕ
-beginRefusal number n k w = demand (numbersFit number n k w) 1 0
+unfoldable pub beginRefusalUnder : ℕ → ℕ → ℕ → ℕ → ℕ → ℕ
+beginRefusalUnder most number n k w = demand (numbersFitUnder most number n k w) 1 0
+
+abbrev pub beginRefusal : ℕ → ℕ → ℕ → ℕ → ℕ
+beginRefusal number n k w = beginRefusalUnder mostKeyNumber number n k w
 
 -- a key of which no row is stored yet
 unfoldable pub begunHeld : ℕ → ℕ → ℕ → ℕ → Held
@@ -51,23 +54,29 @@ packedStoreOf h ones twos row = record { held = h; ones = ones; twos = twos; row
 -- ---- its refusals
 
 -- the state, then the lengths of the key's planes
-unfoldable pub rowRefusal : Held → ℕ → ℕ → ℕ
-rowRefusal h ones twos =
+unfoldable pub rowRefusalUnder : ℕ → Held → ℕ → ℕ → ℕ
+rowRefusalUnder most h ones twos =
     refuse (eqb (h .begun) 0) 20
-    (demand (sound h) 1
+    (demand (soundUnder most h) 1
     (refuse (eqb (h .rows) (h .k)) 21
     (demand (eqb ones (keyWords h)) 2
     (demand (eqb twos (keyWords h)) 2
     0))))
 
+abbrev pub rowRefusal : Held → ℕ → ℕ → ℕ
+rowRefusal h ones twos = rowRefusalUnder mostKeyNumber h ones twos
+
 -- then a row in planes: its lengths, its contents
-unfoldable pub storeRefusal : Store → ℕ
-storeRefusal c =
+unfoldable pub storeRefusalUnder : ℕ → Store → ℕ
+storeRefusalUnder most c =
     let h = c .held in
-    first (rowRefusal h (length (c .ones)) (length (c .twos)))
+    first (rowRefusalUnder most h (length (c .ones)) (length (c .twos)))
     (demand (eqb (length (c .rowOnes)) (rowWords h)) 2
     (demand (eqb (length (c .rowTwos)) (rowWords h)) 2
     (planesRefusal (c .rowOnes) (c .rowTwos) 1 (rowTrits h))))
+
+abbrev pub storeRefusal : Store → ℕ
+storeRefusal c = storeRefusalUnder mostKeyNumber c
 
 -- or a packed row: its length, its contents (5, 15)
 unfoldable pub storePackedRefusal : PackedStore → ℕ

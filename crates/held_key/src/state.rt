@@ -15,7 +15,7 @@ pub struct Held {
 }
 
 // The largest key number.
-pub const MOST_KEY_NUMBER: u64 = 255;
+pub const MOST_KEY_NUMBER: u64 = 4294967295;
 
 // Whether the numbers of a key are in their ranges.
 pub fn numbers_fit(number: u64, n: u64, k: u64, w: u64) -> bool

@@ -6,7 +6,7 @@ use Prim.Native.Nat.{ℕ, _+_, _-_, _*_, _≤_, _<_}
 use native.Mathlib.Nat.{le-refl}
 use native.Mathlib.Numerals.{add-one}
 use native.Mathlib.Omega.{arith}
-use borrow.Author.Tests.{le-leb, lt-leb, eq-eqb, ne-eqb}
+use borrow.Author.Tests.{lt-ltb, le-ltb, eq-eqb, ne-eqb}
 use lib.ListN.{length, getD, drop, drop-of-length-le}
 use lib.Seq.{drop-cons}
 use Rattle.text.specs.Numbers.{valueFrom, value, isNumber}
@@ -28,13 +28,13 @@ module _ (l : List ℕ) (i : ℕ) where
   unfolding valueFrom
   value-end v h = ap (valueFrom v) (drop-of-length-le l {i = i} h)
 
-pub value-small : (v : ℕ) → v ≤ 65535 → v ≡ atMostLarge v
+pub value-small : (v : ℕ) → v < large → v ≡ atMostLarge v
 unfolding atMostLarge
-value-small v h = rw (le-leb v 65535 h)
+value-small v h = rw (lt-ltb v large h)
 
-pub value-large : (v : ℕ) → 65535 < v → large ≡ atMostLarge v
+pub value-large : (v : ℕ) → large ≤ v → large ≡ atMostLarge v
 unfolding atMostLarge
-value-large v h = rw (lt-leb v 65535 h)
+value-large v h = rw (le-ltb v large h)
 
 -- ---- whether a field is a number
 
@@ -65,6 +65,6 @@ pub number-read : (l : List ℕ) → isNumber l ≡ true → atMostLarge (value 
 unfolding readNumber
 number-read l e = rw e
 
-pub number-not : (l : List ℕ) → isNumber l ≡ false → 65537 ≡ readNumber l
+pub number-not : (l : List ℕ) → isNumber l ≡ false → large + 1 ≡ readNumber l
 unfolding readNumber
 number-not l e = rw e

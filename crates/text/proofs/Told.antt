@@ -13,36 +13,36 @@ use Rattle.text.specs.Fields.{fields}
 use Rattle.text.specs.Numbers.{isNumber, value, inRange}
 use Rattle.text.specs.Digits.{isDigits}
 use Rattle.text.specs.Forms.{noForm, keyLine, rowLine, signLine, oneField, fourFields, keyOf, rowOf, signOf, isLetter, formOf, lineOf, mostFormula}
-use Rattle.text.specs.Steps.{before, part, atMostLarge, readNumber, Four, NotFour, bounded}
+use Rattle.text.specs.Steps.{before, part, large, atMostLarge, readNumber, Four, NotFour, bounded}
 use Rattle.text.proofs.Parting.{some-part, field-within, field-room, field-more, field-last}
 use Rattle.text.proofs.Numbers.{value-small, value-large, number-read, number-not}
 
 -- ---- numbers
 
 -- a value that is in reach is itself, and any other counts as large, which is no more than it
-bound : (v : ℕ) → (atMostLarge v ≤ v) × (atMostLarge v ≤ 65536) × (atMostLarge v ≤ 65535 → atMostLarge v ≡ v)
-bound v = by (decLt 65535 v)
+bound : (v : ℕ) → (atMostLarge v ≤ v) × (atMostLarge v ≤ large) × (atMostLarge v < large → atMostLarge v ≡ v)
+bound v = by (decLt v large)
   where
-    by : Dec (65535 < v) → (atMostLarge v ≤ v) × (atMostLarge v ≤ 65536) × (atMostLarge v ≤ 65535 → atMostLarge v ≡ v)
-    by (yes l) = let e = value-large v l in (omega (arith, e), omega (arith, e), λ h. absurd (omega (arith, e, h)))
-    by (no l) = let e = value-small v (omega arith) in (omega (arith, e), omega (arith, e), λ h. sym e)
+    by : Dec (v < large) → (atMostLarge v ≤ v) × (atMostLarge v ≤ large) × (atMostLarge v < large → atMostLarge v ≡ v)
+    by (yes l) = let e = value-small v l in (omega (arith, e), omega (arith, e), λ h. sym e)
+    by (no l) = let e = value-large v (omega arith) in (omega (arith, e), omega (arith, e), λ h. absurd (omega (arith, e, h)))
 
 module _ (f : List ℕ) {r : ℕ} (e : r ≡ readNumber f) where
-  pub number-in : r ≤ 65536 → (isNumber f ≡ true) × (r ≡ atMostLarge (value f))
+  pub number-in : r ≤ large → (isNumber f ≡ true) × (r ≡ atMostLarge (value f))
   number-in h = by (isNumber f) refl
     where
       by : (t : Bool) → isNumber f ≡ t → (isNumber f ≡ true) × (r ≡ atMostLarge (value f))
       by true q = (q, e ∙ sym (number-read f q))
       by false q = absurd (omega (arith, h, e ∙ sym (number-not f q)))
 
-  pub number-out : 65536 < r → isNumber f ≡ false
+  pub number-out : large < r → isNumber f ≡ false
   number-out h = by (isNumber f) refl
     where
       by : (t : Bool) → isNumber f ≡ t → isNumber f ≡ false
       by true q = absurd (omega (arith, h, e ∙ sym (number-read f q), bound (value f) .1))
       by false q = q
 
-  module _ (most : ℕ) (m : most ≤ 65535) where
+  module _ (most : ℕ) (m : most < large) where
     pub range-in : r ≤ most → (inRange most f ≡ true) × (r ≡ value f)
     unfolding inRange
     range-in h =

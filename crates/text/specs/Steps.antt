@@ -3,7 +3,7 @@ use mathlib.Core.Path.{_≡_}
 use mathlib.Core.Bool.{cond, true}
 use mathlib.Core.List.{List, [], _∷_, _++_}
 use Prim.Native.Nat.{ℕ, suc, _+_, _-_, _*_, _≤_, _<_}
-use lib.Dec.{eqb, leb}
+use lib.Dec.{eqb, ltb}
 use lib.ListN.{length, take, drop}
 use Rattle.trits.specs.Planes.{zeroWords}
 use Rattle.text.specs.Fields.{fields}
@@ -24,16 +24,16 @@ before mark (b ∷ text) = cond (eqb b mark) 0 (suc (before mark text))
 abbrev pub part : ℕ → ℕ → List ℕ → List ℕ
 part a e line = take (e - a) (drop a line)
 
--- a number that no range has: whatever is larger counts as this
+-- a number above every range, of which ten times fits into a word: whatever is larger counts as this
 abbrev pub large : ℕ
-large = 65536
+large = 1000000000000000000
 
 unfoldable pub atMostLarge : ℕ → ℕ
-atMostLarge v = cond (leb v 65535) v large
+atMostLarge v = cond (ltb v large) v large
 
 -- the value of a number field, and one more than `large` for a field that is no number
 unfoldable pub readNumber : List ℕ → ℕ
-readNumber field = cond (isNumber field) (atMostLarge (value field)) 65537
+readNumber field = cond (isNumber field) (atMostLarge (value field)) (large + 1)
 
 -- the fields after the letter are four, which end at b, c, d and at the line's end
 pub record Four (line : List ℕ) (b c d : ℕ) : Type 0 where

@@ -66,7 +66,10 @@ fn digit(b: u8) -> u64
     (b - 48) as u64
 }
 
-// The value of a number of any number of digits, where what is too large for any range counts as 65,536.
+// The number that whatever is too large for any range counts as: 10 to the power 18.
+pub const LARGE: u64 = 1000000000000000000;
+
+// The value of a number of any number of digits, at most `LARGE`.
 pub fn read_value(field: &[u8]) -> u64
     ensures { λ r. ⌜ r ≡ atMostLarge (value (now (field .entry))) ⌝ }
 {
@@ -74,22 +77,22 @@ pub fn read_value(field: &[u8]) -> u64
     let mut i = 0;
     while i < field.len() {
         v = 10 * v + digit(field[i]);
-        if v > 65535 {
-            return 65536;
+        if v >= LARGE {
+            return LARGE;
         }
         i += 1;
     }
     v
 }
 
-// The value of a number, and 65,537 where a field is no number.
+// The value of a number, at most `LARGE`, and one more where a field is no number.
 pub fn read_number(field: &[u8]) -> u64
     ensures { λ r. ⌜ r ≡ readNumber (now (field .entry)) ⌝ }
 {
     if is_number(field) {
         return read_value(field);
     }
-    65537
+    LARGE + 1
 }
 
 // Whether a field is one or more of 0, 1, 2.

@@ -1,10 +1,11 @@
 // The three forms of a line: P begins a key, K has its next row, S has a signature.
 ghost use mathlib.Core.Path.{_≡_};
-ghost use Prim.Native.Nat.{_≤_};
+ghost use Prim.Native.Nat.{_≤_, _<_};
 ghost use lib.ListN.{length, drop};
 ghost use Rattle.text.specs.Fields.{fields};
 ghost use Rattle.text.specs.Forms.{fourFields, oneField, keyOf, rowOf, signOf, formOf, lineOf};
-ghost use Rattle.text.specs.Steps.{Four, EndsOf, says, Placed, bounded};
+ghost use Rattle.text.specs.Steps.{large, Four, EndsOf, says, Placed, bounded};
+use super::fields::LARGE;
 use super::fields::find_tab;
 use super::fields::is_digits;
 use super::fields::read_number;
@@ -63,7 +64,7 @@ fn four_fields(line: &[u8]) -> Ends
 // The four fields of a P line.
 fn read_sizes(line: &[u8], b: usize, c: usize, d: usize, most_key: u64) -> Form
     requires { ⌜ Four (now line) b c d ⌝ }
-    requires { ⌜ «most_key» ≤ 65535 ⌝ }
+    requires { ⌜ «most_key» < large ⌝ }
     ensures { λ r. ⌜ says (now (line .entry)) r ≡ bounded (fourFields (keyOf «most_key») (fields (drop 2 (now (line .entry))))) ⌝ }
     ensures { λ r. ⌜ Placed (now (line .entry)) r ⌝ }
 {
@@ -73,17 +74,17 @@ fn read_sizes(line: &[u8], b: usize, c: usize, d: usize, most_key: u64) -> Form
     }
     let b1 = b + 1;
     let n = read_number(&line[b1..c]);
-    if n > 65536 {
+    if n > LARGE {
         return Form::Neither;
     }
     let c1 = c + 1;
     let k = read_number(&line[c1..d]);
-    if k > 65536 {
+    if k > LARGE {
         return Form::Neither;
     }
     let d1 = d + 1;
     let w = read_number(&line[d1..]);
-    if w > 65536 {
+    if w > LARGE {
         return Form::Neither;
     }
     Form::Key(number, n, k, w)
@@ -92,7 +93,7 @@ fn read_sizes(line: &[u8], b: usize, c: usize, d: usize, most_key: u64) -> Form
 // The four fields of an S line.
 fn read_signed(line: &[u8], b: usize, c: usize, d: usize, most_key: u64) -> Form
     requires { ⌜ Four (now line) b c d ⌝ }
-    requires { ⌜ «most_key» ≤ 65535 ⌝ }
+    requires { ⌜ «most_key» < large ⌝ }
     ensures { λ r. ⌜ says (now (line .entry)) r ≡ bounded (fourFields (signOf «most_key») (fields (drop 2 (now (line .entry))))) ⌝ }
     ensures { λ r. ⌜ Placed (now (line .entry)) r ⌝ }
 {
@@ -118,7 +119,7 @@ fn read_signed(line: &[u8], b: usize, c: usize, d: usize, most_key: u64) -> Form
 
 // A line whose letter is P.
 fn read_key(line: &[u8], most_key: u64) -> Form
-    requires { ⌜ (2 ≤ length (now line)) × («most_key» ≤ 65535) ⌝ }
+    requires { ⌜ (2 ≤ length (now line)) × («most_key» < large) ⌝ }
     ensures { λ r. ⌜ says (now (line .entry)) r ≡ bounded (fourFields (keyOf «most_key») (fields (drop 2 (now (line .entry))))) ⌝ }
     ensures { λ r. ⌜ Placed (now (line .entry)) r ⌝ }
 {
@@ -131,7 +132,7 @@ fn read_key(line: &[u8], most_key: u64) -> Form
 
 // A line whose letter is S.
 fn read_sign(line: &[u8], most_key: u64) -> Form
-    requires { ⌜ (2 ≤ length (now line)) × («most_key» ≤ 65535) ⌝ }
+    requires { ⌜ (2 ≤ length (now line)) × («most_key» < large) ⌝ }
     ensures { λ r. ⌜ says (now (line .entry)) r ≡ bounded (fourFields (signOf «most_key») (fields (drop 2 (now (line .entry))))) ⌝ }
     ensures { λ r. ⌜ Placed (now (line .entry)) r ⌝ }
 {
@@ -160,7 +161,7 @@ fn read_row(line: &[u8]) -> Form
 
 // The form that the letter names.
 fn read_form(line: &[u8], most_key: u64) -> Form
-    requires { ⌜ «most_key» ≤ 65535 ⌝ }
+    requires { ⌜ «most_key» < large ⌝ }
     ensures { λ r. ⌜ says (now (line .entry)) r ≡ bounded (formOf «most_key» (fields (now (line .entry)))) ⌝ }
     ensures { λ r. ⌜ Placed (now (line .entry)) r ⌝ }
 {
@@ -185,7 +186,7 @@ fn read_form(line: &[u8], most_key: u64) -> Form
 
 // What a line says, where key numbers go from 0 to `most_key`.
 pub fn read_line(line: &[u8], most_key: u64) -> Form
-    requires { ⌜ «most_key» ≤ 65535 ⌝ }
+    requires { ⌜ «most_key» < large ⌝ }
     ensures { λ r. ⌜ says (now (line .entry)) r ≡ bounded (lineOf «most_key» (now (line .entry))) ⌝ }
     ensures { λ r. ⌜ Placed (now (line .entry)) r ⌝ }
 {

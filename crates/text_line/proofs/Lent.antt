@@ -13,7 +13,7 @@ use Rattle.held_key.specs.declared.state.Held.{Held}
 use Rattle.held_key.specs.Held.{rowTrits, rowWords, keyWords}
 use Rattle.held_key.specs.Store.{storeOf, storeRefusal, storeHeld, storeOnes, storeTwos}
 use Rattle.check_tests.specs.Check.{checkOf, checkAnswer}
-use Rattle.text_line.specs.Answer.{asked, keyPart, afterKey, offeredOnes, offeredTwos, digitsRefusal, rowKept, signAnswer, holding}
+use Rattle.text_line.specs.Answer.{asked, keyPart, afterKey, offeredOnes, offeredTwos, digitsRefusal, digitsRefusalUnder, rowKept, rowKeptUnder, signAnswer, signAnswerUnder, holding}
 
 -- ---- words that a state asks for
 
@@ -90,12 +90,12 @@ module _ (h : Held) (plane : List ℕ) {w : ℕ} (e : w ≡ asked h (keyWords h)
 module _ (h : Held) (ones twos : List ℕ) {p q : List ℕ} (ep : p ≡ keyPart h ones) (eq : q ≡ keyPart h twos) where
   module _ (digits : List ℕ) {x y : List ℕ} (ex : x ≡ offeredOnes (rowTrits h) digits) (ey : y ≡ offeredTwos (rowTrits h) digits) where
     pub row-refusal : storeRefusal (storeOf h p q x y) ≡ digitsRefusal (holding h ones twos) digits
-    unfolding digitsRefusal
+    unfolding digitsRefusalUnder
     row-refusal = λ i. storeRefusal (storeOf h (ep i) (eq i) (ex i) (ey i))
 
     pub row-kept : {g : Held} {o t u v : List ℕ} → g ≡ storeHeld (storeOf h p q x y) → o ≡ storeOnes (storeOf h p q x y) → t ≡ storeTwos (storeOf h p q x y)
         → u ≡ afterKey h ones → v ≡ afterKey h twos → holding g (o ++ u) (t ++ v) ≡ rowKept (holding h ones twos) digits
-    unfolding rowKept
+    unfolding rowKeptUnder
     row-kept {g} {o} {t} {u} {v} eg eo et eu ev =
         (λ i. holding (eg i) (eo i ++ u) (et i ++ v))
         ∙ (λ i. let c = storeOf h (ep i) (eq i) (ex i) (ey i) in holding (storeHeld c) (storeOnes c ++ eu i) (storeTwos c ++ ev i))
@@ -104,5 +104,5 @@ module _ (h : Held) (ones twos : List ℕ) {p q : List ℕ} (ep : p ≡ keyPart 
       → c ≡ offeredOnes (h .k) s → d ≡ offeredTwos (h .k) s
       → e ≡ zeroWords (asked h (rowWords h)) → f ≡ zeroWords (asked h (rowWords h))
       → checkAnswer (checkOf h number p q a b c d e f) ≡ signAnswer (holding h ones twos) number y s
-  unfolding signAnswer
+  unfolding signAnswerUnder
   sign-answer number y s ea eb ec ed ee ef = λ i. checkAnswer (checkOf h number (ep i) (eq i) (ea i) (eb i) (ec i) (ed i) (ee i) (ef i))

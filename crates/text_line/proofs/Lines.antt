@@ -15,11 +15,11 @@ use Rattle.text.specs.Answers.{lineRefused, verdictAnswer, signRefused}
 use Rattle.text.proofs.Numbers.{value-small, value-large}
 use Rattle.held_key.specs.declared.state.Held.{Held}
 use Rattle.check_tests.specs.declared.Checked.{Checked}
-use Rattle.held_key.specs.Held.{mostKeyNumber, numbersFit}
-use Rattle.held_key.specs.Store.{beginRefusal, beginHeld}
+use Rattle.held_key.specs.Held.{mostKeyNumber, numbersFit, numbersFitUnder}
+use Rattle.held_key.specs.Store.{beginRefusal, beginRefusalUnder, beginHeld}
 use Rattle.held_key.proofs.Sizes.{and-both}
 use Rattle.held_key.specs.Load.{Holding}
-use Rattle.text_line.specs.Answer.{keyRefusal, keyHeld, refusalPrints, signPrints, linePrints, lineKept}
+use Rattle.text_line.specs.Answer.{keyRefusal, keyRefusalUnder, keyHeld, keyHeldUnder, refusalPrints, signPrints, linePrints, linePrintsUnder, lineKept, lineKeptUnder}
 
 -- nothing printed leaves the buffer
 pub none-put : (l : List ℕ) → l ≡ putWords 0 l []
@@ -49,50 +49,50 @@ module _ (number formula : ℕ) (c : Checked) where
 
 module _ (h : Held) (number n k w : ℕ) where
   pub key-long : 256 < n → (1 ≡ keyRefusal number n k w) × (h ≡ keyHeld h number n k w)
-  unfolding keyHeld keyRefusal
+  unfolding keyHeldUnder keyRefusalUnder
   key-long l = (rw (lt-ltb 256 n l), rw (lt-ltb 256 n l))
 
   pub key-short : n ≤ 256 → (beginRefusal number n k w ≡ keyRefusal number n k w) × (beginHeld h number n k w ≡ keyHeld h number n k w)
-  unfolding keyHeld keyRefusal beginHeld
+  unfolding keyHeldUnder keyRefusalUnder beginHeld
   key-short l = (rw (le-ltb 256 n l), rw (le-ltb 256 n l))
 
 -- ---- sizes too large for any range
 
 -- a number that counts as large is on the same side of any bound
-below-same : (v x : ℕ) → x ≤ 65535 → leb (atMostLarge v) x ≡ leb v x
-below-same v x h = by (decLt 65535 v)
+below-same : (v x : ℕ) → x < large → leb (atMostLarge v) x ≡ leb v x
+below-same v x h = by (decLt v large)
   where
-    by : Dec (65535 < v) → leb (atMostLarge v) x ≡ leb v x
-    by (yes l) = ap (λ (u : ℕ). leb u x) (sym (value-large v l)) ∙ lt-leb large x (omega arith) ∙ sym (lt-leb v x (omega arith))
-    by (no l) = ap (λ (u : ℕ). leb u x) (sym (value-small v (omega arith)))
+    by : Dec (v < large) → leb (atMostLarge v) x ≡ leb v x
+    by (yes l) = ap (λ (u : ℕ). leb u x) (sym (value-small v l))
+    by (no l) = ap (λ (u : ℕ). leb u x) (sym (value-large v (omega arith))) ∙ lt-leb large x (omega arith) ∙ sym (lt-leb v x (omega arith))
 
-above-same : (v x : ℕ) → x ≤ 65535 → leb x (atMostLarge v) ≡ leb x v
-above-same v x h = by (decLt 65535 v)
+above-same : (v x : ℕ) → x < large → leb x (atMostLarge v) ≡ leb x v
+above-same v x h = by (decLt v large)
   where
-    by : Dec (65535 < v) → leb x (atMostLarge v) ≡ leb x v
-    by (yes l) = ap (leb x) (sym (value-large v l)) ∙ le-leb x large (omega arith) ∙ sym (le-leb x v (omega arith))
-    by (no l) = ap (leb x) (sym (value-small v (omega arith)))
+    by : Dec (v < large) → leb x (atMostLarge v) ≡ leb x v
+    by (yes l) = ap (leb x) (sym (value-small v l))
+    by (no l) = ap (leb x) (sym (value-large v (omega arith))) ∙ le-leb x large (omega arith) ∙ sym (le-leb x v (omega arith))
 
 module _ (number n k w : ℕ) where
   fit-same : n ≤ 256 → numbersFit number n (atMostLarge k) (atMostLarge w) ≡ numbersFit number n k w
-  unfolding numbersFit
+  unfolding numbersFitUnder
   fit-same l =
       λ i. leb number mostKeyNumber && (leb 4 n && (leb n 16384 &&
       (eqb (n % 2) 0 && (above-same k 2 (omega arith) i && (below-same k (n - 2) (omega arith) i &&
       (above-same w 1 (omega arith) i && below-same w n (omega arith) i))))))
 
   pub refusal-same : keyRefusal number (atMostLarge n) (atMostLarge k) (atMostLarge w) ≡ keyRefusal number n k w
-  unfolding keyRefusal beginRefusal
-  refusal-same = by (decLt 256 n) (decLt 65535 n)
+  unfolding keyRefusalUnder beginRefusalUnder
+  refusal-same = by (decLt 256 n) (decLt n large)
     where
-      by : Dec (256 < n) → Dec (65535 < n) → keyRefusal number (atMostLarge n) (atMostLarge k) (atMostLarge w) ≡ keyRefusal number n k w
-      by (yes l) (yes z) = rw (← value-large n z, lt-ltb 256 n l)
-      by (yes l) (no z) = rw (← value-small n (omega arith), lt-ltb 256 n l)
+      by : Dec (256 < n) → Dec (n < large) → keyRefusal number (atMostLarge n) (atMostLarge k) (atMostLarge w) ≡ keyRefusal number n k w
+      by (yes l) (no z) = rw (← value-large n (omega arith), lt-ltb 256 n l)
+      by (yes l) (yes z) = rw (← value-small n z, lt-ltb 256 n l)
       by (no l) z = rw (← value-small n (omega arith), le-ltb 256 n (omega arith), fit-same (omega arith))
 
   -- what is not refused is in reach
-  small : keyRefusal number n k w ≡ 0 → (n ≤ 65535) × (k ≤ 65535) × (w ≤ 65535)
-  unfolding keyRefusal beginRefusal numbersFit
+  small : keyRefusal number n k w ≡ 0 → (n < large) × (k < large) × (w < large)
+  unfolding keyRefusalUnder beginRefusalUnder numbersFitUnder
   small z =
       let p = passed-refuse (ltb 256 n) 1 (beginRefusal number n k w) (lit< tt) z in
       let f = passed-demand (numbersFit number n k w) 1 0 (lit< tt) (p .1) .0 in
@@ -108,7 +108,7 @@ module _ (number n k w : ℕ) where
 
 -- a refused key leaves the held one
 key-refused : (h : Held) (number n k w : ℕ) → (keyRefusal number n k w ≡ 0 → ⊥) → keyHeld h number n k w ≡ h
-unfolding keyHeld
+unfolding keyHeldUnder
 key-refused h number n k w f = rw (ne-eqb (keyRefusal number n k w) 0 f)
 
 module _ (h : Held) (number n k w : ℕ) where
@@ -123,14 +123,14 @@ module _ (h : Held) (number n k w : ℕ) where
 -- ---- a line as it is read, with sizes that count as large
 
 pub prints-same : (kept : Holding) (l : Line) → linePrints kept (bounded l) ≡ linePrints kept l
-unfolding linePrints bounded
+unfolding linePrintsUnder bounded
 prints-same kept noForm = refl
 prints-same kept (keyLine number n k w) = ap refusalPrints (refusal-same number n k w)
 prints-same kept (rowLine digits) = refl
 prints-same kept (signLine number formula y s) = refl
 
 pub kept-same : (kept : Holding) (l : Line) → lineKept kept (bounded l) ≡ lineKept kept l
-unfolding lineKept bounded
+unfolding lineKeptUnder bounded
 kept-same kept noForm = refl
 kept-same kept (keyLine number n k w) = λ i. record { held = held-same (kept .held) number n k w i; ones = kept .ones; twos = kept .twos }
 kept-same kept (rowLine digits) = refl

@@ -13,8 +13,8 @@ use Rattle.held_key.specs.declared.state.Held.{Held}
 use Rattle.check_tests.specs.declared.Checked.{Checked}
 use Rattle.held_key.specs.Held.{mostKeyNumber, rowTrits, rowWords, keyWords}
 use Rattle.held_key.specs.Load.{Holding}
-use Rattle.held_key.specs.Store.{beginRefusal, begunHeld, Store, storeOf, storeRefusal, storeHeld, storeOnes, storeTwos}
-use Rattle.check_tests.specs.Check.{Check, checkOf, checkAnswer}
+use Rattle.held_key.specs.Store.{beginRefusalUnder, begunHeld, Store, storeOf, storeRefusalUnder, storedHeld, storedPlane}
+use Rattle.check_tests.specs.Check.{Check, checkOf, checkAnswerUnder}
 
 -- what is kept from line to line: the state, and the words of the held key
 abbrev pub holding : Held → List ℕ → List ℕ → Holding
@@ -44,11 +44,11 @@ offeredTwos m digits = cond (eqb (length digits) m) (twosOf (digitRow digits) (w
 
 -- ---- P: a new key replaces the held one, or is refused 1 and leaves it
 
-unfoldable pub keyRefusal : ℕ → ℕ → ℕ → ℕ → ℕ
-keyRefusal number n k w = refuse (ltb mostPlaces n) 1 (beginRefusal number n k w)
+unfoldable pub keyRefusalUnder : ℕ → ℕ → ℕ → ℕ → ℕ → ℕ
+keyRefusalUnder most number n k w = refuse (ltb mostPlaces n) 1 (beginRefusalUnder most number n k w)
 
-unfoldable pub keyHeld : Held → ℕ → ℕ → ℕ → ℕ → Held
-keyHeld h number n k w = atExit (keyRefusal number n k w) (begunHeld number n k w) h
+unfoldable pub keyHeldUnder : ℕ → Held → ℕ → ℕ → ℕ → ℕ → Held
+keyHeldUnder most h number n k w = atExit (keyRefusalUnder most number n k w) (begunHeld number n k w) h
 
 -- ---- K: the next row, as the checker stores it
 
@@ -58,14 +58,18 @@ rowStore kept digits =
     let h = kept .held in
     storeOf h (keyPart h (kept .ones)) (keyPart h (kept .twos)) (offeredOnes (rowTrits h) digits) (offeredTwos (rowTrits h) digits)
 
-unfoldable pub digitsRefusal : Holding → List ℕ → ℕ
-digitsRefusal kept digits = storeRefusal (rowStore kept digits)
+unfoldable pub digitsRefusalUnder : ℕ → Holding → List ℕ → ℕ
+digitsRefusalUnder most kept digits = storeRefusalUnder most (rowStore kept digits)
 
 -- the state and the part of each plane that the key takes as the checker leaves them, and the words after that part
-unfoldable pub rowKept : Holding → List ℕ → Holding
-rowKept kept digits =
+unfoldable pub rowKeptUnder : ℕ → Holding → List ℕ → Holding
+rowKeptUnder most kept digits =
     let c = rowStore kept digits in
-    record { held = storeHeld c; ones = storeOnes c ++ afterKey (kept .held) (kept .ones); twos = storeTwos c ++ afterKey (kept .held) (kept .twos) }
+    let refusal = storeRefusalUnder most c in record {
+      held = storedHeld refusal (c .held);
+      ones = storedPlane refusal (c .held) (c .ones) (c .rowOnes) ++ afterKey (kept .held) (kept .ones);
+      twos = storedPlane refusal (c .held) (c .twos) (c .rowTwos) ++ afterKey (kept .held) (kept .twos);
+    }
 
 -- ---- S: the check, as the checker answers it
 
@@ -76,8 +80,8 @@ signCheck kept number y s =
     checkOf h number (keyPart h (kept .ones)) (keyPart h (kept .twos)) (offeredOnes (rowTrits h) y) (offeredTwos (rowTrits h) y)
     (offeredOnes (h .k) s) (offeredTwos (h .k) s) (zeroWords (asked h (rowWords h))) (zeroWords (asked h (rowWords h)))
 
-unfoldable pub signAnswer : Holding → ℕ → List ℕ → List ℕ → Checked
-signAnswer kept number y s = checkAnswer (signCheck kept number y s)
+unfoldable pub signAnswerUnder : ℕ → Holding → ℕ → List ℕ → List ℕ → Checked
+signAnswerUnder most kept number y s = checkAnswerUnder most (signCheck kept number y s)
 
 -- the answer to an S line: the verdict, or the refusal
 unfoldable pub signPrints : ℕ → ℕ → Checked → List ℕ
@@ -90,20 +94,41 @@ refusalPrints refusal = cond (eqb refusal 0) [] (lineRefused refusal)
 
 -- ---- any line
 
-unfoldable pub linePrints : Holding → Line → List ℕ
-linePrints kept noForm = lineRefused 11
-linePrints kept (keyLine number n k w) = refusalPrints (keyRefusal number n k w)
-linePrints kept (rowLine digits) = refusalPrints (digitsRefusal kept digits)
-linePrints kept (signLine number formula y s) = signPrints number formula (signAnswer kept number y s)
+unfoldable pub linePrintsUnder : ℕ → Holding → Line → List ℕ
+linePrintsUnder most kept noForm = lineRefused 11
+linePrintsUnder most kept (keyLine number n k w) = refusalPrints (keyRefusalUnder most number n k w)
+linePrintsUnder most kept (rowLine digits) = refusalPrints (digitsRefusalUnder most kept digits)
+linePrintsUnder most kept (signLine number formula y s) = signPrints number formula (signAnswerUnder most kept number y s)
 
-unfoldable pub lineKept : Holding → Line → Holding
-lineKept kept noForm = kept
-lineKept kept (keyLine number n k w) = record { held = keyHeld (kept .held) number n k w; ones = kept .ones; twos = kept .twos }
-lineKept kept (rowLine digits) = rowKept kept digits
-lineKept kept (signLine number formula y s) = kept
+unfoldable pub lineKeptUnder : ℕ → Holding → Line → Holding
+lineKeptUnder most kept noForm = kept
+lineKeptUnder most kept (keyLine number n k w) = record { held = keyHeldUnder most (kept .held) number n k w; ones = kept .ones; twos = kept .twos }
+lineKeptUnder most kept (rowLine digits) = rowKeptUnder most kept digits
+lineKeptUnder most kept (signLine number formula y s) = kept
 
--- ---- a line as bytes
+-- ---- the same under the bound that key numbers have
 
--- what a line says, with the checker's bound of a key number
+abbrev pub keyRefusal : ℕ → ℕ → ℕ → ℕ → ℕ
+keyRefusal number n k w = keyRefusalUnder mostKeyNumber number n k w
+
+abbrev pub keyHeld : Held → ℕ → ℕ → ℕ → ℕ → Held
+keyHeld h number n k w = keyHeldUnder mostKeyNumber h number n k w
+
+abbrev pub digitsRefusal : Holding → List ℕ → ℕ
+digitsRefusal kept digits = digitsRefusalUnder mostKeyNumber kept digits
+
+abbrev pub rowKept : Holding → List ℕ → Holding
+rowKept kept digits = rowKeptUnder mostKeyNumber kept digits
+
+abbrev pub signAnswer : Holding → ℕ → List ℕ → List ℕ → Checked
+signAnswer kept number y s = signAnswerUnder mostKeyNumber kept number y s
+
+abbrev pub linePrints : Holding → Line → List ℕ
+linePrints kept line = linePrintsUnder mostKeyNumber kept line
+
+abbrev pub lineKept : Holding → Line → Holding
+lineKept kept line = lineKeptUnder mostKeyNumber kept line
+
+-- what a line of bytes says
 abbrev pub readLine : List ℕ → Line
 readLine line = lineOf mostKeyNumber line

@@ -18,7 +18,7 @@ use Rattle.text.specs.Forms.{Line, noForm, lineOf}
 use Rattle.text.specs.Answers.{header}
 use Rattle.held_key.specs.Load.{Holding}
 use Rattle.text_line.specs.Answer.{linePrints, lineKept, readLine}
-use Rattle.text_lines.specs.Print.{withoutEmptyEnd, linesOf, answers, noKey, prints}
+use Rattle.text_lines.specs.Print.{withoutEmptyEnd, linesOf, answers, answersUnder, noKey, prints, printsUnder}
 use Rattle.text_lines.specs.Machine.{Machine, gathered, ended, stepped, stepPrints, endPrints, fed, started}
 use Rattle.text_lines.proofs.Bytes.{gathered-long, gathered-short, step-end, step-none, step-more, step-full, end-none, end-some}
 
@@ -114,7 +114,7 @@ module _ {m : Machine} {p : List ℕ} (g : Gathers m p) where
 
   -- the end of the text
   gathers-last : endPrints m ≡ answers (m .kept) (withoutEmptyEnd (p ∷ []))
-  unfolding withoutEmptyEnd answers
+  unfolding withoutEmptyEnd answersUnder
   gathers-last = by (ℕ-discrete (length p) 0)
     where
       by : Dec (length p ≡ 0) → endPrints m ≡ answers (m .kept) (cond (eqb (length p) 0) [] (p ∷ []))
@@ -135,7 +135,7 @@ module _ {m : Machine} {p : List ℕ} (g : Gathers m p) where
 -- a line, and then the others
 next-line : (kept : Holding) (p t : List ℕ)
     → answers kept (withoutEmptyEnd (p ∷ split 10 t)) ≡ linePrints kept (readLine p) ++ answers (lineKept kept (readLine p)) (withoutEmptyEnd (split 10 t))
-unfolding withoutEmptyEnd answers
+unfolding withoutEmptyEnd answersUnder
 next-line kept p t =
     let s = some-part 10 t in
     ap (λ (x : List (List ℕ)). answers kept (withoutEmptyEnd (p ∷ x))) (s .2)
@@ -172,5 +172,5 @@ fed-lines kept line text s = fed-from text (record { len = 0; line = line; kept 
 
 -- and from the start on, with the header, exactly what the definition of the whole text gives
 pub printed-whole : (text : List ℕ) → header ++ fed started text ≡ prints text
-unfolding started prints
+unfolding started printsUnder
 printed-whole text = ap (λ (x : List ℕ). header ++ x) (fed-lines noKey (zeroWords 1025) text (length-zeros 1025))

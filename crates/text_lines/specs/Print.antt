@@ -6,9 +6,11 @@ use lib.Dec.{eqb}
 use lib.ListN.{length}
 use Rattle.trits.specs.Planes.{zeroWords}
 use Rattle.text.specs.Fields.{split}
+use Rattle.text.specs.Forms.{lineOf}
 use Rattle.text.specs.Answers.{header}
+use Rattle.held_key.specs.Held.{mostKeyNumber}
 use Rattle.held_key.specs.Load.{Holding}
-use Rattle.text_line.specs.Answer.{linePrints, lineKept, readLine}
+use Rattle.text_line.specs.Answer.{linePrintsUnder, lineKeptUnder}
 
 -- parts without the last, if that is empty
 unfoldable pub withoutEmptyEnd : List (List ℕ) → List (List ℕ)
@@ -20,10 +22,13 @@ withoutEmptyEnd (line ∷ next ∷ rest) = line ∷ withoutEmptyEnd (next ∷ re
 unfoldable pub linesOf : List ℕ → List (List ℕ)
 linesOf text = withoutEmptyEnd (split 10 text)
 
--- what lines print, one after another
-unfoldable pub answers : Holding → List (List ℕ) → List ℕ
-answers kept [] = []
-answers kept (line ∷ rest) = linePrints kept (readLine line) ++ answers (lineKept kept (readLine line)) rest
+-- what lines print, one after another, where key numbers go from 0 to most
+unfoldable pub answersUnder : ℕ → Holding → List (List ℕ) → List ℕ
+answersUnder most kept [] = []
+answersUnder most kept (line ∷ rest) = linePrintsUnder most kept (lineOf most line) ++ answersUnder most (lineKeptUnder most kept (lineOf most line)) rest
+
+abbrev pub answers : Holding → List (List ℕ) → List ℕ
+answers kept lines = answersUnder mostKeyNumber kept lines
 
 -- the words of one plane that the largest key takes: 191 rows of 65 trits at n = 256
 abbrev pub mostWords : ℕ
@@ -34,5 +39,8 @@ unfoldable pub noKey : Holding
 noKey = record { held = record { begun = 0; number = 0; n = 0; k = 0; w = 0; rows = 0 }; ones = zeroWords mostWords; twos = zeroWords mostWords }
 
 -- what the program prints for a text: the header, and the answers
-unfoldable pub prints : List ℕ → List ℕ
-prints text = header ++ answers noKey (linesOf text)
+unfoldable pub printsUnder : ℕ → List ℕ → List ℕ
+printsUnder most text = header ++ answersUnder most noKey (linesOf text)
+
+abbrev pub prints : List ℕ → List ℕ
+prints text = printsUnder mostKeyNumber text

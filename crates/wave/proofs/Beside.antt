@@ -18,10 +18,10 @@ use Rattle.matrix.specs.Orders.{isOrder}
 use Rattle.trits.specs.InDigits.{vector, digitRows}
 use Rattle.matrix.proofs.Places.{elem-at}
 use Rattle.verdict.specs.Verdict.{timesKey, fullWord, fullCounts, syndrome}
-use Rattle.held_key.specs.Held.{numbersFit, sound, heldRow, heldKey}
-use Rattle.held_key.specs.Store.{beginRefusal, begunHeld, beginHeld, rowRefusal, storePackedRefusal, nextHeld, storedHeld, storedPlane}
+use Rattle.held_key.specs.Held.{numbersFitUnder, soundUnder, heldRowUnder, heldKeyUnder}
+use Rattle.held_key.specs.Store.{beginRefusalUnder, begunHeld, beginHeld, rowRefusalUnder, storePackedRefusal, nextHeld, storedHeld, storedPlane}
 use Rattle.held_key.specs.Load.{offer, offerAll}
-use Rattle.check_tests.specs.Check.{callRefusal, packedLengths, packedContents, checkPackedRefusal, heldCounts, answered, checkPackedAnswer}
+use Rattle.check_tests.specs.Check.{callRefusalUnder, packedLengths, packedContents, checkPackedRefusal, heldCountsUnder, answered, checkPackedAnswer}
 use Rattle.scheme.specs.Sizes.{sizesFit}
 use Rattle.scheme.specs.Secret.{noZero, secretMatrix, hasZero}
 use Rattle.scheme.specs.Build.{arrange, arranged, rowOfR, buildRefusal}
@@ -182,8 +182,8 @@ hands-2111 = record { passed = refl; word = λ q h. by q (places-below q h) }
 pub beside : Beside
 unfolding dotV anyTo sumTo upTo bit fromBits bitAt tritAt tabulate onesOf twosOf zeroWords bothSet pastEnd rowsOf rowPart matrixAt putWords rowsPastEnd first
     planesRefusal byteOf digitOf packedRow packedBytes badByte packedPastEnd packedRefusal packRefusal packExit agree find solve inSpan keep pivots rank without
-    fill range isOrder digitRows timesKey fullWord fullCounts numbersFit sound heldRow heldKey beginRefusal begunHeld beginHeld rowRefusal storePackedRefusal
-    nextHeld storedHeld storedPlane offer offerAll callRefusal packedLengths packedContents checkPackedRefusal heldCounts answered checkPackedAnswer sizesFit
+    fill range isOrder digitRows timesKey fullWord fullCounts numbersFitUnder soundUnder heldRowUnder heldKeyUnder beginRefusalUnder begunHeld beginHeld rowRefusalUnder storePackedRefusal
+    nextHeld storedHeld storedPlane offer offerAll callRefusalUnder packedLengths packedContents checkPackedRefusal heldCountsUnder answered checkPackedAnswer sizesFit
     noZero secretMatrix arrange arranged rowOfR buildRefusal choicesFit pivotsV suppliedV drawV pivotsU suppliedU drawU drawn drawRefusal secretDiffers hasZero
     secretRefusal spaceExit keyDiffers buildLengthsDiffer buildAnswer orderExit keyOnesOf keyTwosOf keyExit buildWorkExit choicesDiffer drawLengthsDiffer
     choicesRefusal drawAnswer wordOf wordExit sExit drawWorkExit builtKey

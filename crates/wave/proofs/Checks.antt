@@ -8,7 +8,7 @@ use Rattle.trits.specs.Planes.{tritAt}
 use Rattle.trits.specs.declared.Counts.{Counts}
 use Rattle.packed.specs.Packed.{packedRow}
 use Rattle.matrix.specs.Linear.{Vector}
-use Rattle.check_tests.specs.Check.{Check, PackedCheck, checkRefusal, checkPackedRefusal, answered, checkAnswer, checkPackedAnswer}
+use Rattle.check_tests.specs.Check.{Check, PackedCheck, checkRefusal, checkPackedRefusal, answered, checkAnswer, checkAnswerUnder, checkPackedAnswer}
 use Rattle.check_tests.proofs.Passed.{check-passed, check-packed-passed}
 use Rattle.checker.proofs.Verdicts.{check-verdict, check-packed-verdict, found-once}
 use Rattle.wave.specs.Verifier.{HeldExtending, HeldFound}
@@ -26,7 +26,7 @@ answered-number r counts w e = by (ℕ-discrete r 0)
 
 module _ (c : Check) (r : checkAnswer c .refusal ≡ 0) where
   pub not-refused : checkRefusal c ≡ 0
-  unfolding checkAnswer
+  unfolding checkAnswerUnder
   not-refused = answered-number (checkRefusal c) _ _ r
 
   pub check-says-yes : (checkAnswer c .yes ≡ 1) ↔ HeldFound (c .held) (c .ones) (c .twos) (tritAt (c .yOnes) (c .yTwos)) (tritAt (c .sOnes) (c .sTwos))

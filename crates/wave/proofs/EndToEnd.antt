@@ -26,13 +26,13 @@ use Rattle.matrix.specs.Linear.{Vector}
 use Rattle.matrix.proofs.Places.{or-false-left, or-false-right}
 use Rattle.verdict.specs.Verdict.{Key, fullCounts}
 use Rattle.verdict.proofs.FullWord.{counts-cong, counts-of}
-use Rattle.held_key.specs.Held.{numbersFit}
+use Rattle.held_key.specs.Held.{mostKeyNumber, numbersFit, numbersFitUnder}
 use Rattle.held_key.specs.declared.state.Held.{Held}
 use Rattle.check_tests.specs.declared.Checked.{Checked}
 use Rattle.held_key.specs.Held.{rowTrits}
 use Rattle.held_key.specs.Load.{Holding, offerAll}
 use Rattle.check_tests.specs.Check.{callRefusal, planesLengths, planesContents, answered}
-use Rattle.check_tests.specs.Check.{checkRefusal, checkAnswer, packedCheckOf, checkPackedRefusal, checkPackedAnswer}
+use Rattle.check_tests.specs.Check.{checkRefusal, checkRefusalUnder, checkAnswer, packedCheckOf, checkPackedRefusal, checkPackedAnswer}
 use Rattle.check_tests.proofs.Passed.{check-packed-passed, packed-contents}
 use Rattle.checker.proofs.EndToEnd.{begun, offered, loaded}
 use Rattle.checker.proofs.Verdicts.{packed-agrees}
@@ -72,8 +72,8 @@ ended ones twos m e lo lt =
 -- ---- sizes
 
 -- those of a draw are those of a key
-fits-held : (z : Sizes) (number : ℕ) → sizesFit z ≡ true → number ≤ 255 → numbersFit number (z .n) (dim z) (z .w) ≡ true
-unfolding sizesFit numbersFit
+fits-held : (z : Sizes) (number : ℕ) → sizesFit z ≡ true → number ≤ mostKeyNumber → numbersFit number (z .n) (dim z) (z .w) ≡ true
+unfolding sizesFit numbersFitUnder
 fits-held z number h l =
     let a = and-eq-true-iff (leb 4 (z .n)) _ .0 h in
     let b = and-eq-true-iff (leb (z .n) 16384) _ .0 (a .1) in
@@ -89,7 +89,7 @@ fits-held z number h l =
     let kv = leb-true 1 (z .kv) (f .0) in
     let low = leb-true (z .ku) (half z - 1) (e .0) in
     let lowv = leb-true (z .kv) (half z - 1) (g .0) in
-    rw (le-leb number 255 l, a .0, b .0, c .0, le-leb 2 (dim z) (omega arith), le-leb (dim z) (z .n - 2) (omega arith), k .0, k .1)
+    rw (le-leb number mostKeyNumber l, a .0, b .0, c .0, le-leb 2 (dim z) (omega arith), le-leb (dim z) (z .n - 2) (omega arith), k .0, k .1)
 
 -- y has its lengths
 y-lengths : (z : Sizes) (l : DrawCall) → drawLengthsDiffer z l ≡ false
@@ -278,7 +278,7 @@ module _ (z : Sizes) (i : BuildCall) (b : Built z i) (g w : ℕ) (l : DrawCall) 
       (sym (ap (planesRefusal (sExit Z l .ones) (sExit Z l .twos) 1) k ∙ s-passes))))
 
   planes-passed-all : checkRefusal (carriedPlanes z i g w l m) ≡ 0
-  unfolding checkRefusal
+  unfolding checkRefusalUnder
   planes-passed-all = sym (first-goes (sym call-passes) refl (first-goes (sym lengths-pass) refl (sym contents-pass)))
 
   planes-answer : checkAnswer (carriedPlanes z i g w l m) ≡ yes (onesV e (places z)) (twosV e (places z))

@@ -18,8 +18,8 @@ use Rattle.trits.specs.InDigits.{digitRows}
 use Rattle.matrix.proofs.Field.{set-not}
 use Rattle.matrix.proofs.Places.{elem-at}
 use Rattle.verdict.specs.Verdict.{timesKey, fullWord, fullCounts, saysYes}
-use Rattle.held_key.specs.Held.{numbersFit, sound, heldRow, heldKey}
-use Rattle.check_tests.specs.Check.{callRefusal, packedLengths, packedContents, checkPackedRefusal, heldCounts, answered, checkPackedAnswer}
+use Rattle.held_key.specs.Held.{numbersFitUnder, soundUnder, heldRowUnder, heldKeyUnder}
+use Rattle.check_tests.specs.Check.{callRefusalUnder, packedLengths, packedContents, checkPackedRefusal, heldCountsUnder, answered, checkPackedAnswer}
 use Rattle.scheme.specs.Sizes.{sizesFit}
 use Rattle.scheme.specs.Secret.{secretMatrix, hasZero}
 use Rattle.scheme.specs.Build.{arrange, arranged, rowOfR, buildRefusal}
@@ -78,8 +78,8 @@ never g one l u d s1 s2 =
 pub starred : Starred
 unfolding dotV anyTo sumTo upTo bit fromBits bitAt tritAt tabulate onesOf twosOf zeroWords bothSet pastEnd rowsOf rowPart matrixAt rowsPastEnd first
     planesRefusal byteOf digitOf packedRow packedBytes badByte packedPastEnd packedRefusal packRefusal packExit unpackRefusal unpackOnes unpackTwos agree
-    find solve inSpan keep pivots rank without fill range isOrder digitRows timesKey fullWord fullCounts saysYes numbersFit sound heldRow heldKey
-    callRefusal packedLengths packedContents checkPackedRefusal heldCounts answered checkPackedAnswer sizesFit secretMatrix arrange arranged rowOfR
+    find solve inSpan keep pivots rank without fill range isOrder digitRows timesKey fullWord fullCounts saysYes numbersFitUnder soundUnder heldRowUnder heldKeyUnder
+    callRefusalUnder packedLengths packedContents checkPackedRefusal heldCountsUnder answered checkPackedAnswer sizesFit secretMatrix arrange arranged rowOfR
     buildRefusal pivotsV suppliedV drawV pivotsU suppliedU drawU drawn drawRefusal secretDiffers hasZero secretRefusal spaceExit keyDiffers
     buildLengthsDiffer buildAnswer orderExit keyOnesOf keyTwosOf keyExit buildWorkExit choicesDiffer drawLengthsDiffer choicesRefusal drawAnswer wordOf
     wordExit sExit drawWorkExit

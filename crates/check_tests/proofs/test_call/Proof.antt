@@ -8,7 +8,7 @@ use lib.Dec.{eqb}
 use borrow.Author.Tests.{eq-eqb, ne-eqb}
 use Rattle.held_key.specs.Held.{sound, rowWords, keyWords}
 use Rattle.trits.specs.Refusal.{demand}
-use Rattle.check_tests.specs.Check.{callRefusal}
+use Rattle.check_tests.specs.Check.{callRefusal, callRefusalUnder}
 use Rattle.check_tests.proofs.test_call.Statement.{statement}
 use Rattle.check_tests.proofs.test_call.Tie as tie
 
@@ -31,7 +31,7 @@ lengths-left : (c : tie.Else4) → let a = start-from-else4 c .args in
     callRefusal (a .held) (a .number) (a .ones) (a .twos) (a .work-ones) (a .work-twos) ≡
     demand (eqb (a .ones) (keyWords (a .held))) 2 (demand (eqb (a .twos) (keyWords (a .held))) 2
     (demand (eqb (a .work-ones) (rowWords (a .held))) 2 (demand (eqb (a .work-twos) (rowWords (a .held))) 2 0)))
-unfolding callRefusal
+unfolding callRefusalUnder
 lengths-left c =
     let else3 = c .before .before in
     let then2 = else3 .before .before in
@@ -65,7 +65,7 @@ work-ones-fit : (c : tie.Else7) → let a = start-from-else4 (else4-from-else6 (
 work-ones-fit c = eq-eqb _ _ (c .if7 .left ∙ c .before .row-words .ensures)
 
 returns : tie.Need-returns
-unfolding callRefusal
+unfolding callRefusalUnder
 returns c =
     rw (eq-eqb _ _ (c .if1 .taken))
 
@@ -73,12 +73,12 @@ is-sound-requires : tie.Need-is-sound-requires
 is-sound-requires c κs = search needs
 
 returns-2 : tie.Need-returns-2
-unfolding callRefusal
+unfolding callRefusalUnder
 returns-2 c =
     rw (begun (c .before .before .before .before), state-sound (c .before .before), ne-eqb _ _ (c .if3 .taken))
 
 returns-3 : tie.Need-returns-3
-unfolding callRefusal
+unfolding callRefusalUnder
 returns-3 c =
     let then2 = c .before .before .before .before in
     let a = then2 .before .before .before .before .args in
@@ -139,7 +139,7 @@ returns-8 c =
     )
 
 returns-9 : tie.Need-returns-9
-unfolding callRefusal
+unfolding callRefusalUnder
 returns-9 c =
     rw (begun (c .before .before), sym (c .before .is-sound .ensures) ∙ c .if2 .left)
 

@@ -6,7 +6,7 @@ use lib.ListN.{length}
 use denote.Ref.{now}
 use Rattle.trits.specs.Refusal.{codeOf}
 use Rattle.trits.proofs.Refusals.{first-stops, first-goes}
-use Rattle.check_tests.specs.Check.{checkRefusal}
+use Rattle.check_tests.specs.Check.{checkRefusalUnder}
 use Rattle.check_tests.proofs.Passed.{Called, called, whole}
 use Rattle.check_tests.proofs.test_check.Statement.{statement}
 use Rattle.check_tests.proofs.test_check.Tie as tie
@@ -31,7 +31,7 @@ code-requires : tie.Need-code-requires
 code-requires c κs = search needs
 
 returns : tie.Need-returns
-unfolding checkRefusal
+unfolding checkRefusalUnder
 returns c =
     first-stops _ (c .before .before .test-call .ensures) (λ z. c .if1 .taken (c .before .code .ensures ∙ z))
 
@@ -42,7 +42,7 @@ code-requires-2 : tie.Need-code-requires-2
 code-requires-2 c κs = search needs
 
 returns-2 : tie.Need-returns-2
-unfolding checkRefusal
+unfolding checkRefusalUnder
 returns-2 c =
     let else1 = c .before .before .before in
     first-goes (else1 .before .before .test-call .ensures) (call-passed else1)
@@ -55,7 +55,7 @@ test-contents-requires c κs = (
 )
 
 returns-3 : tie.Need-returns-3
-unfolding checkRefusal
+unfolding checkRefusalUnder
 returns-3 c =
     let else1 = c .before .before .before .before in
     first-goes (else1 .before .before .test-call .ensures) (call-passed else1)

@@ -5,7 +5,7 @@ use native.Mathlib.Omega.{arith}
 use borrow.Author.Needs.{needs}
 use denote.Ref.{now}
 use Rattle.trits.proofs.Refusals.{positive, left-kept}
-use Rattle.check_tests.specs.Check.{checkAnswer}
+use Rattle.check_tests.specs.Check.{checkAnswerUnder}
 use Rattle.check_tests.proofs.Answers.{answer-kept, answer-new, leaves-check, left-zero}
 use Rattle.checker.specs.Steps.{ForWeigh}
 use Rattle.checker.proofs.Weighed.{few-counts, ready}
@@ -39,7 +39,7 @@ same-length-2 : tie.Need-same-length-2
 same-length-2 c = search needs
 
 returns : tie.Need-returns
-unfolding checkAnswer
+unfolding checkAnswerUnder
 returns c =
     let l = positive (λ z. c .before .if1 .taken (c .before .before .code .ensures ∙ z)) in
     let e = c .before .before .before .test-check .ensures in (
@@ -80,7 +80,7 @@ same-length-4 : tie.Need-same-length-4
 same-length-4 c = search needs
 
 returns-2 : tie.Need-returns-2
-unfolding checkAnswer
+unfolding checkAnswerUnder
 returns-2 c =
     let second = c .before .before .before in
     let e = else1-from-judge2 c .before .before .test-check .ensures in

@@ -2,7 +2,7 @@
 -- Assumes nothing.
 use mathlib.Core.Path.{sym, _∙_}
 use borrow.Author.Needs.{needs}
-use Rattle.held_key.specs.Store.{beginRefusal, begunHeld, beginHeld}
+use Rattle.held_key.specs.Store.{beginRefusalUnder, begunHeld, beginHeld}
 use Rattle.held_key.proofs.begin.Statement.{statement}
 use Rattle.held_key.proofs.begin.Tie as tie
 
@@ -10,13 +10,13 @@ numbers-fit-requires : tie.Need-numbers-fit-requires
 numbers-fit-requires c κs = search needs
 
 returns : tie.Need-returns
-unfolding beginRefusal beginHeld begunHeld
+unfolding beginRefusalUnder beginHeld begunHeld
 returns c =
     let e = sym (c .before .numbers-fit .ensures) ∙ c .if1 .taken in
     (rw e, rw e)
 
 returns-2 : tie.Need-returns-2
-unfolding beginRefusal beginHeld begunHeld
+unfolding beginRefusalUnder beginHeld begunHeld
 returns-2 c =
     let e = sym (c .before .numbers-fit .ensures) ∙ c .if1 .left in
     (rw e, rw e)

@@ -4,7 +4,7 @@ use mathlib.Core.Path.{refl, ap, _∙_}
 use borrow.Author.Needs.{needs}
 use lib.ListN.{length}
 use denote.Ref.{now}
-use Rattle.text_line.specs.Answer.{linePrints, lineKept}
+use Rattle.text_line.specs.Answer.{linePrints, linePrintsUnder, lineKeptUnder}
 use Rattle.text_lines.specs.Machine.{machine}
 use Rattle.trits.specs.Rows.{putWords}
 use Rattle.text.specs.Forms.{Line}
@@ -20,7 +20,7 @@ put-line-refused-requires : tie.Need-put-line-refused-requires
 put-line-refused-requires c κs = search needs
 
 returns : tie.Need-returns
-unfolding lineKept linePrints
+unfolding lineKeptUnder linePrintsUnder
 returns c =
     let s = c .before .before .before .before in
     let a = s .args in

@@ -8,7 +8,7 @@ use denote.Ref.{now}
 use Rattle.trits.specs.Trit.{subT, addT, zipV}
 use Rattle.trits.specs.Planes.{tritAt, Row, Reads}
 use Rattle.trits.proofs.Reading.{reads-to}
-use Rattle.held_key.specs.Held.{heldKey}
+use Rattle.held_key.specs.Held.{heldKey, heldKeyUnder}
 use Rattle.held_key.proofs.Stretch.{ones-length, row-row}
 use Rattle.checker.proofs.Product.{take-known, take-two, take-none}
 use Rattle.checker.proofs.weighing.take_row.Statement.{statement}
@@ -22,7 +22,7 @@ start-from-held-row2 c = c .before .before .before .before .before .before .befo
 lent : (c : tie.After-held-row2) → let a = start-from-held-row2 c .args in
     let row = heldKey (a .held) (now (a .ones)) (now (a .twos)) (a .i) in
     Reads (now (c .before .held-row .result)) (now (c .held-row2 .result)) (length (now (a .work-ones))) row
-unfolding heldKey
+unfolding heldKeyUnder
 lent c =
     let s = start-from-held-row2 c in
     let p = s .pre in

@@ -12,7 +12,7 @@ use borrow.Author.Tests.{eq-eqb, ne-eqb}
 use Rattle.trits.specs.Refusal.{codeOf, first, planesRefusal}
 use Rattle.trits.proofs.Refusals.{first-stops, first-goes}
 use Rattle.held_key.specs.Held.{rowWords}
-use Rattle.held_key.specs.Store.{rowRefusal, storeRefusal}
+use Rattle.held_key.specs.Store.{rowRefusal, storeRefusalUnder}
 use Rattle.held_key.proofs.Room.{Room, room}
 use Rattle.held_key.proofs.key.test_row.Statement.{statement}
 use Rattle.held_key.proofs.key.test_row.Tie as tie
@@ -45,7 +45,7 @@ code-requires : tie.Need-code-requires
 code-requires c κs = search needs
 
 returns : tie.Need-returns
-unfolding storeRefusal
+unfolding storeRefusalUnder
 returns c =
     first-stops _ (c .before .before .test-state .ensures) (λ z. c .if1 .taken (c .before .code .ensures ∙ z))
 
@@ -53,14 +53,14 @@ row-words-requires : tie.Need-row-words-requires
 row-words-requires c κs = room-left c .is-sound
 
 returns-2 : tie.Need-returns-2
-unfolding storeRefusal
+unfolding storeRefusalUnder
 returns-2 c =
     let else1 = c .before .before in
     let a = start-from-else1 else1 .args in
     state-goes else1 (rw (ne-eqb (length (now (a .row-ones))) (rowWords (a .held)) (λ e. c .if2 .taken (e ∙ sym (c .before .row-words .ensures)))))
 
 returns-3 : tie.Need-returns-3
-unfolding storeRefusal
+unfolding storeRefusalUnder
 returns-3 c =
     let else1 = c .before .before .before in
     let a = start-from-else1 else1 .args in
@@ -85,7 +85,7 @@ test-planes-requires c κs =
     )
 
 returns-4 : tie.Need-returns-4
-unfolding storeRefusal
+unfolding storeRefusalUnder
 returns-4 c =
     let after-row-words = c .before .before .before .before in
     let a = start-from-else1 (after-row-words .before) .args in

@@ -7,7 +7,7 @@ use lib.Dec.{eqb}
 use borrow.Author.Tests.{eq-eqb, ne-eqb}
 use Rattle.trits.specs.Refusal.{demand}
 use Rattle.held_key.specs.Held.{sound, keyWords}
-use Rattle.held_key.specs.Store.{rowRefusal}
+use Rattle.held_key.specs.Store.{rowRefusal, rowRefusalUnder}
 use Rattle.held_key.proofs.key.test_state.Statement.{statement}
 use Rattle.held_key.proofs.key.test_state.Tie as tie
 
@@ -21,7 +21,7 @@ state-sound c = sym (c .before .is-sound .ensures) ∙ c .if2 .taken
 -- what is left of the chain once a row is missing: the lengths of the planes
 lengths-left : (c : tie.Else3) → let a = c .before .before .before .before .before .before .args in
     rowRefusal (a .held) (a .ones) (a .twos) ≡ demand (eqb (a .ones) (keyWords (a .held))) 2 (demand (eqb (a .twos) (keyWords (a .held))) 2 0)
-unfolding rowRefusal
+unfolding rowRefusalUnder
 lengths-left c = rw (begun (c .before .before .before .before), state-sound (c .before .before), ne-eqb _ _ (c .if3 .left))
 
 -- the ones plane has its length
@@ -31,7 +31,7 @@ ones-fit : (c : tie.Else4) → let else3 = c .before .before in
 ones-fit c = eq-eqb _ _ (c .if4 .left ∙ c .before .key-words .ensures)
 
 returns : tie.Need-returns
-unfolding rowRefusal
+unfolding rowRefusalUnder
 returns c =
     rw (eq-eqb _ _ (c .if1 .taken))
 
@@ -39,7 +39,7 @@ is-sound-requires : tie.Need-is-sound-requires
 is-sound-requires c κs = search needs
 
 returns-2 : tie.Need-returns-2
-unfolding rowRefusal
+unfolding rowRefusalUnder
 returns-2 c =
     rw (begun (c .before .before .before .before), state-sound (c .before .before), eq-eqb _ _ (c .if3 .taken))
 
@@ -69,7 +69,7 @@ returns-5 c =
     rw (lengths-left else3, ones-fit (c .before), eq-eqb (a .twos) (keyWords (a .held)) (c .if5 .left ∙ c .before .before .key-words .ensures))
 
 returns-6 : tie.Need-returns-6
-unfolding rowRefusal
+unfolding rowRefusalUnder
 returns-6 c =
     rw (begun (c .before .before), sym (c .before .is-sound .ensures) ∙ c .if2 .left)
 

@@ -3,12 +3,12 @@
 use mathlib.Core.Path.{sym, _∙_}
 use borrow.Author.Needs.{needs}
 use borrow.Author.Tests.{eq-eqb, ne-eqb}
-use Rattle.held_key.specs.Held.{sound}
+use Rattle.held_key.specs.Held.{soundUnder}
 use Rattle.held_key.proofs.state.is_sound.Statement.{statement}
 use Rattle.held_key.proofs.state.is_sound.Tie as tie
 
 returns : tie.Need-returns
-unfolding sound
+unfolding soundUnder
 returns c =
     rw (ne-eqb _ _ (c .if1 .taken))
 
@@ -16,12 +16,12 @@ numbers-fit-requires : tie.Need-numbers-fit-requires
 numbers-fit-requires c κs = search needs
 
 returns-2 : tie.Need-returns-2
-unfolding sound
+unfolding soundUnder
 returns-2 c =
     rw (eq-eqb _ _ (c .before .before .before .if1 .left), sym (c .before .before .numbers-fit .ensures) ∙ c .before .if2 .taken)
 
 returns-3 : tie.Need-returns-3
-unfolding sound
+unfolding soundUnder
 returns-3 c =
     rw (eq-eqb _ _ (c .before .before .if1 .left), sym (c .before .numbers-fit .ensures) ∙ c .if2 .left)
 

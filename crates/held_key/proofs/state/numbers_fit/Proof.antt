@@ -7,14 +7,14 @@ use native.Mathlib.Omega.{arith}
 use borrow.Author.Needs.{needs}
 use lib.Dec.{leb}
 use borrow.Author.Tests.{le-leb, lt-leb, eq-eqb, ne-eqb}
-use Rattle.held_key.specs.Held.{mostKeyNumber, numbersFit}
+use Rattle.held_key.specs.Held.{mostKeyNumber, numbersFit, numbersFitUnder}
 use Rattle.held_key.proofs.state.numbers_fit.Statement.{statement}
 use Rattle.held_key.proofs.state.numbers_fit.Tie as tie
 
 -- what is left of the chain once n is in its range: k and w
 k-left : (c : tie.Else4) → let a = c .before .before .before .before .args in
     numbersFit (a .number) (a .n) (a .k) (a .w) ≡ (leb 2 (a .k) && (leb (a .k) (a .n - 2) && (leb 1 (a .w) && leb (a .w) (a .n))))
-unfolding numbersFit
+unfolding numbersFitUnder
 k-left c =
     rw (
       le-leb (c .before .before .before .before .args .number) mostKeyNumber (omega arith),
@@ -30,22 +30,22 @@ w-left c =
     rw (k-left (c .before .before), le-leb _ _ (c .before .if5 .left), le-leb _ _ (c .if6 .left))
 
 returns : tie.Need-returns
-unfolding numbersFit
+unfolding numbersFitUnder
 returns c =
     rw (lt-leb (c .before .args .number) mostKeyNumber (omega arith))
 
 returns-2 : tie.Need-returns-2
-unfolding numbersFit
+unfolding numbersFitUnder
 returns-2 c =
     rw (le-leb (c .before .before .args .number) mostKeyNumber (omega arith), lt-leb _ _ (c .if2 .taken))
 
 returns-3 : tie.Need-returns-3
-unfolding numbersFit
+unfolding numbersFitUnder
 returns-3 c =
     rw (le-leb (c .before .before .before .args .number) mostKeyNumber (omega arith), le-leb _ _ (c .before .if2 .left), lt-leb _ _ (c .if3 .taken))
 
 returns-4 : tie.Need-returns-4
-unfolding numbersFit
+unfolding numbersFitUnder
 returns-4 c =
     rw (
       le-leb (c .before .before .before .before .args .number) mostKeyNumber (omega arith),

@@ -18,9 +18,12 @@ returns c =
     c .read-value .ensures
     ∙ number-read (now (c .before .before .before .before .args .field)) (sym (c .before .before .is-number .ensures) ∙ c .before .if1 .taken)
 
+add-result : tie.Need-add-result
+add-result c = search needs
+
 returns-2 : tie.Need-returns-2
 returns-2 c =
     number-not (now (c .before .before .before .args .field)) (sym (c .before .is-number .ensures) ∙ c .if1 .left)
 
 pub read-number-spec : {M : Type 1} → statement M
-read-number-spec = tie.close (tie.spec is-number-requires read-value-requires returns returns-2)
+read-number-spec = tie.close (tie.spec is-number-requires read-value-requires returns add-result returns-2)

@@ -1,12 +1,12 @@
 -- Each turn takes in one digit (`value-next`); a value that has become too large stays so (`value-le`).
 -- Assumes nothing.
-use Prim.Native.Nat.{ℕ, _+_, _-_, _*_, _≤_}
+use Prim.Native.Nat.{ℕ, _+_, _-_, _*_, _≤_, _<_}
 use mathlib.Core.Path.{_≡_, refl, sym, ap, _∙_}
 use native.Mathlib.Omega.{arith}
 use borrow.Author.Needs.{needs}
 use lib.ListN.{length, getD, drop}
 use denote.Ref.{now}
-use Rattle.text.specs.Steps.{atMostLarge}
+use Rattle.text.specs.Steps.{large, atMostLarge}
 use Rattle.text.specs.Numbers.{valueFrom, value}
 use Rattle.text.proofs.Numbers.{value-le, value-next, value-end, value-small, value-large}
 use Rattle.text.proofs.fields.read_value.Statement.{statement}
@@ -14,7 +14,7 @@ use Rattle.text.proofs.fields.read_value.Tie as tie
 
 abbrev Inv-loop : tie.InvT-loop
 Inv-loop field v₀ i₀ v i =
-    (i ≤ length field) × (v ≤ 65535) × (valueFrom v (drop i field) ≡ valueFrom 0 field)
+    (i ≤ length field) × (v < large) × (valueFrom v (drop i field) ≡ valueFrom 0 field)
 
 abbrev μ-loop : tie.MeasureT-loop
 μ-loop field v₀ i₀ v i = length field - i

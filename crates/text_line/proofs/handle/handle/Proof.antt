@@ -7,7 +7,7 @@ use native.Mathlib.Omega.{arith}
 use borrow.Author.Needs.{needs}
 use lib.ListN.{length}
 use denote.Ref.{now}
-use Rattle.text_line.specs.Answer.{refusalPrints, linePrints, lineKept, holding, readLine}
+use Rattle.text_line.specs.Answer.{refusalPrints, linePrints, linePrintsUnder, lineKept, lineKeptUnder, holding, readLine}
 use Rattle.text_line.proofs.Lent.{part-short}
 use Rattle.text_line.proofs.Lines.{line-kept, line-prints}
 use Rattle.trits.specs.Rows.{putWords}
@@ -154,7 +154,7 @@ same-length : tie.Need-same-length
 same-length c = search needs
 
 returns : tie.Need-returns
-unfolding lineKept linePrints refusalPrints
+unfolding lineKeptUnder linePrintsUnder refusalPrints
 returns c =
     let after-enum-told = c .before .before .before .before in
     let after-read-line = after-enum-told .before .before in
@@ -165,7 +165,7 @@ same-length-2 : tie.Need-same-length-2
 same-length-2 c = search needs
 
 returns-2 : tie.Need-returns-2
-unfolding lineKept linePrints
+unfolding lineKeptUnder linePrintsUnder
 returns-2 c =
     let after-form = c .before .before .before .before .before in
     let after-read-line = after-form .before .before in
@@ -184,7 +184,7 @@ same-length-5 : tie.Need-same-length-5
 same-length-5 c = search needs
 
 returns-3 : tie.Need-returns-3
-unfolding lineKept linePrints
+unfolding lineKeptUnder linePrintsUnder
 returns-3 c =
     let after-handle-row = c .before .before .before .before .before .before in
     let after-enum-told2 = enum-told2-from-handle-row after-handle-row in
@@ -203,7 +203,7 @@ same-length-8 : tie.Need-same-length-8
 same-length-8 c = search needs
 
 returns-4 : tie.Need-returns-4
-unfolding lineKept linePrints
+unfolding lineKeptUnder linePrintsUnder
 returns-4 c =
     let after-handle-sign = c .before .before in
     let after-form2 = known-told2-from-handle-sign-arg5 (after-handle-sign .before) .before in

@@ -2,3 +2,4 @@
 pub mod Passed
 pub mod Answers
 pub mod AsBefore
+pub mod Bounds

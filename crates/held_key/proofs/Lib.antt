@@ -1,6 +1,7 @@
--- The laws of the held key: computed cases, sizes, rows as stretches, tests that passed, rows stored; then what a host may rely on.
+-- The laws of the held key: computed cases, sizes, two bounds of key numbers, rows as stretches, tests that passed, rows stored; then what a host may rely on.
 pub mod Cases
 pub mod Sizes
+pub mod Bounds
 pub mod Stretch
 pub mod Room
 pub mod Storing

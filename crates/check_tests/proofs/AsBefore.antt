@@ -9,7 +9,8 @@ use Rattle.trits.specs.declared.Counts.{Counts}
 use Rattle.trits.proofs.Counting.{counts-weight}
 use Rattle.verdict.specs.Verdict.{fullCounts}
 use Rattle.held_key.specs.Held.{rowTrits}
-use Rattle.check_tests.specs.Check.{Check, PackedCheck, checkRefusal, checkPackedRefusal, heldCountsUnder, answered, checkAnswer, checkAnswerUnder, checkPackedAnswer}
+use Rattle.check_tests.specs.Check.{Check, PackedCheck, checkRefusal, checkPackedRefusal, heldCountsUnder, answered, checkAnswer, checkAnswerUnder}
+use Rattle.check_tests.specs.Check.{checkPackedAnswer}
 use Rattle.check_tests.specs.AsBefore.{weightAlone, checkWord, checkPackedWord, checkBy, checkPackedBy, SameVerdict}
 
 -- an answer looks at the sum of its two numbers alone

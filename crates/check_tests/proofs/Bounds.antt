@@ -1,9 +1,7 @@
 -- A check under a state whose key number is below two bounds answers alike under both (request C-15). Assumes nothing.
 use mathlib.Core.Path.{_≡_, ap}
 use Prim.Native.Nat.{ℕ, _≤_}
-use lib.ListN.{length}
 use Rattle.trits.specs.Planes.{tritAt}
-use Rattle.trits.specs.declared.Counts.{Counts}
 use Rattle.verdict.specs.Verdict.{Key, fullCounts}
 use Rattle.held_key.specs.Held.{rowTrits}
 use Rattle.held_key.proofs.Bounds.{sound-either, key-either}

@@ -12,11 +12,12 @@ use Rattle.packed.specs.Packed.{digitOf, packedRow, badByte, packedPastEnd, pac
 use Rattle.held_key.specs.declared.state.Held.{Held}
 use Rattle.verdict.specs.Verdict.{timesKey, fullWord, fullCounts}
 use Rattle.held_key.specs.Held.{numbersFitUnder, soundUnder, heldRowUnder, heldKeyUnder}
-use Rattle.held_key.specs.Store.{beginRefusal, beginRefusalUnder, begunHeld, beginHeld, packedStoreOf, rowRefusalUnder, storePackedRefusal, nextHeld, storedHeld, storedPlane}
+use Rattle.held_key.specs.Store.{beginRefusalUnder, begunHeld, beginHeld, packedStoreOf, rowRefusalUnder, storePackedRefusal, nextHeld}
+use Rattle.held_key.specs.Store.{storedHeld, storedPlane}
 use Rattle.held_key.specs.Load.{offer, offerAll}
 use Rattle.check_tests.specs.Check.{callRefusalUnder, planesLengths, planesContents, packedLengths, packedContents, heldCountsUnder, answered}
-use Rattle.check_tests.specs.Check.{checkOf, checkRefusalUnder, checkAnswer, checkAnswerUnder, packedCheckOf, checkPackedRefusal, checkPackedAnswer, checkPackedWorkOnes}
-use Rattle.check_tests.specs.Check.{checkPackedWorkTwos}
+use Rattle.check_tests.specs.Check.{checkOf, checkRefusalUnder, checkAnswer, checkAnswerUnder, packedCheckOf, checkPackedRefusal, checkPackedAnswer}
+use Rattle.check_tests.specs.Check.{checkPackedWorkOnes, checkPackedWorkTwos}
 
 -- P 7 4 2 4, over a state of any numbers
 abbrev held : ℕ → Held
@@ -32,8 +33,8 @@ rows i = cond (eqb i 0) (6 ∷ []) (8 ∷ [])
 
 loaded : offerAll rows 2 (record { held = held 0; ones = 99 ∷ 99 ∷ []; twos = 98 ∷ 98 ∷ [] })
     ≡ record { held = held 2; ones = 0 ∷ 0 ∷ []; twos = 2 ∷ 3 ∷ [] }
-unfolding offerAll offer storedHeld storedPlane storePackedRefusal first rowRefusalUnder soundUnder numbersFitUnder packedRefusal badByte packedPastEnd anyTo nextHeld
-    putWords onesOf twosOf tabulate fromBits packedRow digitOf
+unfolding offerAll offer storedHeld storedPlane storePackedRefusal first rowRefusalUnder soundUnder numbersFitUnder packedRefusal badByte packedPastEnd
+    anyTo nextHeld putWords onesOf twosOf tabulate fromBits packedRow digitOf
 loaded = refl
 
 -- a third row is 21
@@ -44,15 +45,17 @@ third = refl
 -- S 7 12 12 11: three 1s and one 2, yes
 line-1 : checkPackedAnswer (packedCheckOf (held 2) 7 (0 ∷ 0 ∷ []) (2 ∷ 3 ∷ []) (7 ∷ []) (4 ∷ []) (5 ∷ []) (5 ∷ []))
     ≡ record { refusal = 0; yes = 1; ones = 3; twos = 1 }
-unfolding checkPackedAnswer answered checkPackedRefusal first callRefusalUnder soundUnder numbersFitUnder packedLengths packedContents planesRefusal bothSet anyTo bitAt bit
-    rowsPastEnd rowPart heldRowUnder pastEnd tritAt packedRefusal badByte packedPastEnd heldCountsUnder fullCounts sumTo fullWord timesKey dotV heldKeyUnder packedRow digitOf
+unfolding checkPackedAnswer answered checkPackedRefusal first callRefusalUnder soundUnder numbersFitUnder packedLengths packedContents planesRefusal bothSet
+    anyTo bitAt bit rowsPastEnd rowPart heldRowUnder pastEnd tritAt packedRefusal badByte packedPastEnd heldCountsUnder fullCounts sumTo fullWord timesKey
+    dotV heldKeyUnder packedRow digitOf
 line-1 = refl
 
 -- S 7 13 12 12: one 1 and two 2s, no
 line-2 : checkPackedAnswer (packedCheckOf (held 2) 7 (0 ∷ 0 ∷ []) (2 ∷ 3 ∷ []) (7 ∷ []) (7 ∷ []) (5 ∷ []) (5 ∷ []))
     ≡ record { refusal = 0; yes = 0; ones = 1; twos = 2 }
-unfolding checkPackedAnswer answered checkPackedRefusal first callRefusalUnder soundUnder numbersFitUnder packedLengths packedContents planesRefusal bothSet anyTo bitAt bit
-    rowsPastEnd rowPart heldRowUnder pastEnd tritAt packedRefusal badByte packedPastEnd heldCountsUnder fullCounts sumTo fullWord timesKey dotV heldKeyUnder packedRow digitOf
+unfolding checkPackedAnswer answered checkPackedRefusal first callRefusalUnder soundUnder numbersFitUnder packedLengths packedContents planesRefusal bothSet
+    anyTo bitAt bit rowsPastEnd rowPart heldRowUnder pastEnd tritAt packedRefusal badByte packedPastEnd heldCountsUnder fullCounts sumTo fullWord timesKey
+    dotV heldKeyUnder packedRow digitOf
 line-2 = refl
 
 -- S 8 14 12 11: 22
@@ -64,12 +67,12 @@ line-3 = refl
 -- the first of them in planes
 line-1-planes : checkAnswer (checkOf (held 2) 7 (0 ∷ 0 ∷ []) (2 ∷ 3 ∷ []) (1 ∷ []) (2 ∷ []) (3 ∷ []) (0 ∷ []) (5 ∷ []) (5 ∷ []))
     ≡ record { refusal = 0; yes = 1; ones = 3; twos = 1 }
-unfolding checkAnswerUnder answered checkRefusalUnder first callRefusalUnder soundUnder numbersFitUnder planesLengths planesContents planesRefusal bothSet anyTo bitAt bit rowsPastEnd
-    rowPart heldRowUnder pastEnd tritAt heldCountsUnder fullCounts sumTo fullWord timesKey dotV heldKeyUnder
+unfolding checkAnswerUnder answered checkRefusalUnder first callRefusalUnder soundUnder numbersFitUnder planesLengths planesContents planesRefusal bothSet
+    anyTo bitAt bit rowsPastEnd rowPart heldRowUnder pastEnd tritAt heldCountsUnder fullCounts sumTo fullWord timesKey dotV heldKeyUnder
 line-1-planes = refl
 
 -- no key begun before all else; a state out of its ranges before missing rows; these before another key number; that before a length
-none : checkPackedRefusal (packedCheckOf (record { begun = 0; number = 256; n = 5; k = 9; w = 0; rows = 99 }) 8 [] [] [] [] [] []) ≡ 20
+none : checkPackedRefusal (packedCheckOf (record { begun = 0; number = 4294967296; n = 5; k = 9; w = 0; rows = 99 }) 8 [] [] [] [] [] []) ≡ 20
 unfolding checkPackedRefusal first callRefusalUnder
 none = refl
 
@@ -85,6 +88,15 @@ other : checkPackedRefusal (packedCheckOf (held 2) 8 [] [] [] [] [] []) ≡ 22
 unfolding checkPackedRefusal first callRefusalUnder soundUnder numbersFitUnder
 other = refl
 
+-- a key number above the range is out of range in a state, and another number where it is asked for: that of 7 and 2 to the power 32
+above : checkPackedRefusal (packedCheckOf (record { begun = 1; number = 4294967296; n = 4; k = 2; w = 4; rows = 1 }) 8 [] [] [] [] [] []) ≡ 1
+unfolding checkPackedRefusal first callRefusalUnder soundUnder numbersFitUnder
+above = refl
+
+asked-above : checkPackedRefusal (packedCheckOf (held 2) 4294967303 [] [] [] [] [] []) ≡ 22
+unfolding checkPackedRefusal first callRefusalUnder soundUnder numbersFitUnder
+asked-above = refl
+
 -- a length before the contents; 3 in the last row before 4 in the first; 4 before 5
 short : checkPackedRefusal (packedCheckOf (held 2) 7 (4 ∷ 4 ∷ []) (4 ∷ 4 ∷ []) (243 ∷ []) (243 ∷ []) (5 ∷ []) []) ≡ 2
 unfolding checkPackedRefusal first callRefusalUnder soundUnder numbersFitUnder
@@ -95,34 +107,36 @@ unfolding checkPackedRefusal first callRefusalUnder soundUnder numbersFitUnder p
 both = refl
 
 past : checkPackedRefusal (packedCheckOf (held 2) 7 (4 ∷ 0 ∷ []) (2 ∷ 3 ∷ []) (243 ∷ []) (4 ∷ []) (5 ∷ []) (5 ∷ [])) ≡ 4
-unfolding checkPackedRefusal first callRefusalUnder soundUnder numbersFitUnder packedLengths packedContents planesRefusal bothSet anyTo bitAt bit rowsPastEnd rowPart pastEnd
+unfolding checkPackedRefusal first callRefusalUnder soundUnder numbersFitUnder packedLengths packedContents planesRefusal bothSet anyTo bitAt bit
+    rowsPastEnd rowPart pastEnd
 past = refl
 
 large : checkPackedRefusal (packedCheckOf (held 2) 7 (0 ∷ 0 ∷ []) (2 ∷ 3 ∷ []) (243 ∷ []) (4 ∷ []) (5 ∷ []) (5 ∷ [])) ≡ 5
-unfolding checkPackedRefusal first callRefusalUnder soundUnder numbersFitUnder packedLengths packedContents planesRefusal bothSet anyTo bitAt bit rowsPastEnd rowPart pastEnd
-    packedRefusal badByte packedPastEnd
+unfolding checkPackedRefusal first callRefusalUnder soundUnder numbersFitUnder packedLengths packedContents planesRefusal bothSet anyTo bitAt bit
+    rowsPastEnd rowPart pastEnd packedRefusal badByte packedPastEnd
 large = refl
 
 -- a trit past the length: 15 in y comes before 5 in s, 5 in y before 15 in s, and s is tested as y is
 past-y : checkPackedRefusal (packedCheckOf (held 2) 7 (0 ∷ 0 ∷ []) (2 ∷ 3 ∷ []) (9 ∷ []) (243 ∷ []) (5 ∷ []) (5 ∷ [])) ≡ 15
-unfolding checkPackedRefusal first callRefusalUnder soundUnder numbersFitUnder packedLengths packedContents planesRefusal bothSet anyTo bitAt bit rowsPastEnd rowPart pastEnd
-    packedRefusal badByte packedPastEnd packedRow digitOf
+unfolding checkPackedRefusal first callRefusalUnder soundUnder numbersFitUnder packedLengths packedContents planesRefusal bothSet anyTo bitAt bit
+    rowsPastEnd rowPart pastEnd packedRefusal badByte packedPastEnd packedRow digitOf
 past-y = refl
 
 large-y : checkPackedRefusal (packedCheckOf (held 2) 7 (0 ∷ 0 ∷ []) (2 ∷ 3 ∷ []) (243 ∷ []) (9 ∷ []) (5 ∷ []) (5 ∷ [])) ≡ 5
-unfolding checkPackedRefusal first callRefusalUnder soundUnder numbersFitUnder packedLengths packedContents planesRefusal bothSet anyTo bitAt bit rowsPastEnd rowPart pastEnd
-    packedRefusal badByte packedPastEnd packedRow digitOf
+unfolding checkPackedRefusal first callRefusalUnder soundUnder numbersFitUnder packedLengths packedContents planesRefusal bothSet anyTo bitAt bit
+    rowsPastEnd rowPart pastEnd packedRefusal badByte packedPastEnd packedRow digitOf
 large-y = refl
 
 past-s : checkPackedRefusal (packedCheckOf (held 2) 7 (0 ∷ 0 ∷ []) (2 ∷ 3 ∷ []) (7 ∷ []) (13 ∷ []) (5 ∷ []) (5 ∷ [])) ≡ 15
-unfolding checkPackedRefusal first callRefusalUnder soundUnder numbersFitUnder packedLengths packedContents planesRefusal bothSet anyTo bitAt bit rowsPastEnd rowPart pastEnd
-    packedRefusal badByte packedPastEnd packedRow digitOf
+unfolding checkPackedRefusal first callRefusalUnder soundUnder numbersFitUnder packedLengths packedContents planesRefusal bothSet anyTo bitAt bit
+    rowsPastEnd rowPart pastEnd packedRefusal badByte packedPastEnd packedRow digitOf
 past-s = refl
 
 -- a row with one is 15, and nothing is stored
 past-row : offer (record { held = held 1; ones = 0 ∷ 99 ∷ []; twos = 2 ∷ 98 ∷ [] }) (17 ∷ [])
     ≡ record { held = held 1; ones = 0 ∷ 99 ∷ []; twos = 2 ∷ 98 ∷ [] }
-unfolding offer storedHeld storedPlane storePackedRefusal first rowRefusalUnder soundUnder numbersFitUnder packedRefusal badByte packedPastEnd packedRow digitOf anyTo
+unfolding offer storedHeld storedPlane storePackedRefusal first rowRefusalUnder soundUnder numbersFitUnder packedRefusal badByte packedPastEnd packedRow
+    digitOf anyTo
 past-row = refl
 
 past-told : storePackedRefusal (packedStoreOf (held 1) (0 ∷ 99 ∷ []) (2 ∷ 98 ∷ []) (17 ∷ [])) ≡ 15
@@ -131,8 +145,8 @@ past-told = refl
 
 -- the working space: zero after a verdict, as it was after a refusal
 cleared : checkPackedWorkOnes (packedCheckOf (held 2) 7 (0 ∷ 0 ∷ []) (2 ∷ 3 ∷ []) (7 ∷ []) (4 ∷ []) (5 ∷ []) (6 ∷ [])) ≡ 0 ∷ []
-unfolding spaceExit checkPackedRefusal first callRefusalUnder soundUnder numbersFitUnder packedLengths packedContents planesRefusal bothSet anyTo bitAt bit rowsPastEnd rowPart
-    pastEnd packedRefusal badByte packedPastEnd packedRow digitOf zeroWords tabulate
+unfolding spaceExit checkPackedRefusal first callRefusalUnder soundUnder numbersFitUnder packedLengths packedContents planesRefusal bothSet anyTo bitAt bit
+    rowsPastEnd rowPart pastEnd packedRefusal badByte packedPastEnd packedRow digitOf zeroWords tabulate
 cleared = refl
 
 kept : checkPackedWorkTwos (packedCheckOf (held 2) 8 (0 ∷ 0 ∷ []) (2 ∷ 3 ∷ []) (7 ∷ []) (4 ∷ []) (5 ∷ []) (6 ∷ [])) ≡ 6 ∷ []
@@ -140,6 +154,6 @@ unfolding spaceExit checkPackedRefusal first callRefusalUnder soundUnder numbers
 kept = refl
 
 past-kept : checkPackedWorkTwos (packedCheckOf (held 2) 7 (0 ∷ 0 ∷ []) (2 ∷ 3 ∷ []) (7 ∷ []) (13 ∷ []) (5 ∷ []) (6 ∷ [])) ≡ 6 ∷ []
-unfolding spaceExit checkPackedRefusal first callRefusalUnder soundUnder numbersFitUnder packedLengths packedContents planesRefusal bothSet anyTo bitAt bit rowsPastEnd rowPart
-    pastEnd packedRefusal badByte packedPastEnd packedRow digitOf
+unfolding spaceExit checkPackedRefusal first callRefusalUnder soundUnder numbersFitUnder packedLengths packedContents planesRefusal bothSet anyTo bitAt bit
+    rowsPastEnd rowPart pastEnd packedRefusal badByte packedPastEnd packedRow digitOf
 past-kept = refl

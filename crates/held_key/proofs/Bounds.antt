@@ -1,10 +1,10 @@
 -- A key number that is below two bounds is taken alike under both: at a beginning, in a state, by a row (request C-15). Assumes nothing.
-use mathlib.Core.Path.{_≡_, sym, ap, _∙_}
-use mathlib.Core.Bool.{Bool, _&&_, cond}
+use mathlib.Core.Path.{_≡_}
+use mathlib.Core.Bool.{_&&_, cond}
 use mathlib.Core.List.{List, []}
 use Prim.Native.Nat.{ℕ, _≤_}
 use borrow.Author.Tests.{le-leb}
-use lib.Dec.{eqb, leb, ltb}
+use lib.Dec.{ltb}
 use lib.ListN.{length}
 use Rattle.trits.specs.Planes.{tritAt}
 use Rattle.trits.specs.Rows.{rowPart}

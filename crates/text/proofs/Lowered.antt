@@ -11,7 +11,8 @@ use lib.ListN.{length}
 use Rattle.text.specs.Fields.{fields}
 use Rattle.text.specs.Numbers.{isNumber, value, inRange}
 use Rattle.text.specs.Digits.{isDigits}
-use Rattle.text.specs.Forms.{Line, noForm, keyLine, rowLine, signLine, oneField, fourFields, mostFormula, keyOf, rowOf, signOf, isLetter, formOf, mostBytes, lineOf}
+use Rattle.text.specs.Forms.{Line, noForm, keyLine, rowLine, signLine, oneField, fourFields, mostFormula, keyOf, rowOf, signOf, isLetter, formOf}
+use Rattle.text.specs.Forms.{mostBytes, lineOf}
 use Rattle.text.specs.AsBefore.{keyNumberOf, Lowered}
 
 module _ (old new : ℕ) (h : old ≤ new) where

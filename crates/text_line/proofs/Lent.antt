@@ -13,7 +13,8 @@ use Rattle.held_key.specs.declared.state.Held.{Held}
 use Rattle.held_key.specs.Held.{rowTrits, rowWords, keyWords}
 use Rattle.held_key.specs.Store.{storeOf, storeRefusal, storeHeld, storeOnes, storeTwos}
 use Rattle.check_tests.specs.Check.{checkOf, checkAnswer}
-use Rattle.text_line.specs.Answer.{asked, keyPart, afterKey, offeredOnes, offeredTwos, digitsRefusal, digitsRefusalUnder, rowKept, rowKeptUnder, signAnswer, signAnswerUnder, holding}
+use Rattle.text_line.specs.Answer.{asked, keyPart, afterKey, offeredOnes, offeredTwos, digitsRefusal, digitsRefusalUnder, rowKept, rowKeptUnder}
+use Rattle.text_line.specs.Answer.{signAnswer, signAnswerUnder, holding}
 
 -- ---- words that a state asks for
 

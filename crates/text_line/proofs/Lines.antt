@@ -19,7 +19,8 @@ use Rattle.held_key.specs.Held.{mostKeyNumber, numbersFit, numbersFitUnder}
 use Rattle.held_key.specs.Store.{beginRefusal, beginRefusalUnder, beginHeld}
 use Rattle.held_key.proofs.Sizes.{and-both}
 use Rattle.held_key.specs.Load.{Holding}
-use Rattle.text_line.specs.Answer.{keyRefusal, keyRefusalUnder, keyHeld, keyHeldUnder, refusalPrints, signPrints, linePrints, linePrintsUnder, lineKept, lineKeptUnder}
+use Rattle.text_line.specs.Answer.{keyRefusal, keyRefusalUnder, keyHeld, keyHeldUnder, refusalPrints, signPrints, linePrints, linePrintsUnder}
+use Rattle.text_line.specs.Answer.{lineKept, lineKeptUnder}
 
 -- nothing printed leaves the buffer
 pub none-put : (l : List ℕ) → l ≡ putWords 0 l []

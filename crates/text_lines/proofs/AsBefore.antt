@@ -5,7 +5,7 @@ use Prim.Native.Nat.{ℕ, _≤_}
 use native.Mathlib.Omega.{arith}
 use Rattle.text.specs.Forms.{Line, lineOf}
 use Rattle.text.specs.Answers.{header}
-use Rattle.text.specs.AsBefore.{keyNumberOf, NoKeyAbove}
+use Rattle.text.specs.AsBefore.{NoKeyAbove}
 use Rattle.text.proofs.Lowered.{line-lowered}
 use Rattle.held_key.specs.Load.{Holding}
 use Rattle.text_line.specs.Answer.{linePrintsUnder, lineKeptUnder}

@@ -180,13 +180,14 @@ hands-2111 = record { passed = refl; word = λ q h. by q (places-below q h) }
 -- ---- all of them
 
 pub beside : Beside
-unfolding dotV anyTo sumTo upTo bit fromBits bitAt tritAt tabulate onesOf twosOf zeroWords bothSet pastEnd rowsOf rowPart matrixAt putWords rowsPastEnd first
-    planesRefusal byteOf digitOf packedRow packedBytes badByte packedPastEnd packedRefusal packRefusal packExit agree find solve inSpan keep pivots rank without
-    fill range isOrder digitRows timesKey fullWord fullCounts numbersFitUnder soundUnder heldRowUnder heldKeyUnder beginRefusalUnder begunHeld beginHeld rowRefusalUnder storePackedRefusal
-    nextHeld storedHeld storedPlane offer offerAll callRefusalUnder packedLengths packedContents checkPackedRefusal heldCountsUnder answered checkPackedAnswer sizesFit
-    noZero secretMatrix arrange arranged rowOfR buildRefusal choicesFit pivotsV suppliedV drawV pivotsU suppliedU drawU drawn drawRefusal secretDiffers hasZero
-    secretRefusal spaceExit keyDiffers buildLengthsDiffer buildAnswer orderExit keyOnesOf keyTwosOf keyExit buildWorkExit choicesDiffer drawLengthsDiffer
-    choicesRefusal drawAnswer wordOf wordExit sExit drawWorkExit builtKey
+unfolding dotV anyTo sumTo upTo bit fromBits bitAt tritAt tabulate onesOf twosOf zeroWords bothSet pastEnd rowsOf rowPart matrixAt putWords rowsPastEnd
+    first planesRefusal byteOf digitOf packedRow packedBytes badByte packedPastEnd packedRefusal packRefusal packExit agree find solve inSpan keep pivots
+    rank without fill range isOrder digitRows timesKey fullWord fullCounts numbersFitUnder soundUnder heldRowUnder heldKeyUnder beginRefusalUnder begunHeld
+    beginHeld rowRefusalUnder storePackedRefusal nextHeld storedHeld storedPlane offer offerAll callRefusalUnder packedLengths packedContents
+    checkPackedRefusal heldCountsUnder answered checkPackedAnswer sizesFit noZero secretMatrix arrange arranged rowOfR buildRefusal choicesFit pivotsV
+    suppliedV drawV pivotsU suppliedU drawU drawn drawRefusal secretDiffers hasZero secretRefusal spaceExit keyDiffers buildLengthsDiffer buildAnswer
+    orderExit keyOnesOf keyTwosOf keyExit buildWorkExit choicesDiffer drawLengthsDiffer choicesRefusal drawAnswer wordOf wordExit sExit drawWorkExit
+    builtKey
 beside = record {
   word-1200 = refl;
   released-1200 = refl;

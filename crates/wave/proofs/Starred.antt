@@ -78,9 +78,9 @@ never g one l u d s1 s2 =
 pub starred : Starred
 unfolding dotV anyTo sumTo upTo bit fromBits bitAt tritAt tabulate onesOf twosOf zeroWords bothSet pastEnd rowsOf rowPart matrixAt rowsPastEnd first
     planesRefusal byteOf digitOf packedRow packedBytes badByte packedPastEnd packedRefusal packRefusal packExit unpackRefusal unpackOnes unpackTwos agree
-    find solve inSpan keep pivots rank without fill range isOrder digitRows timesKey fullWord fullCounts saysYes numbersFitUnder soundUnder heldRowUnder heldKeyUnder
-    callRefusalUnder packedLengths packedContents checkPackedRefusal heldCountsUnder answered checkPackedAnswer sizesFit secretMatrix arrange arranged rowOfR
-    buildRefusal pivotsV suppliedV drawV pivotsU suppliedU drawU drawn drawRefusal secretDiffers hasZero secretRefusal spaceExit keyDiffers
+    find solve inSpan keep pivots rank without fill range isOrder digitRows timesKey fullWord fullCounts saysYes numbersFitUnder soundUnder heldRowUnder
+    heldKeyUnder callRefusalUnder packedLengths packedContents checkPackedRefusal heldCountsUnder answered checkPackedAnswer sizesFit secretMatrix arrange
+    arranged rowOfR buildRefusal pivotsV suppliedV drawV pivotsU suppliedU drawU drawn drawRefusal secretDiffers hasZero secretRefusal spaceExit keyDiffers
     buildLengthsDiffer buildAnswer orderExit keyOnesOf keyTwosOf keyExit buildWorkExit choicesDiffer drawLengthsDiffer choicesRefusal drawAnswer wordOf
     wordExit sExit drawWorkExit
 starred = record {

@@ -21,7 +21,7 @@ static uint64_t bytes_refusal(size_t m, const uint8_t *bytes, size_t n) {
 
 static uint64_t call_refusal(wave_held h, uint64_t number, size_t ones, size_t twos, size_t work_ones, size_t work_twos) {
     if (h.begun == 0) return 20;
-    if (h.begun != 1 || h.number > 255 || h.n < 4 || h.n > 16384 || h.n % 2 || h.k < 2 || h.k > h.n - 2 || h.w < 1 || h.w > h.n || h.rows > h.k) return 1;
+    if (h.begun != 1 || h.number > 4294967295 || h.n < 4 || h.n > 16384 || h.n % 2 || h.k < 2 || h.k > h.n - 2 || h.w < 1 || h.w > h.n || h.rows > h.k) return 1;
     if (h.rows != h.k) return 20;
     if (number != h.number) return 22;
     size_t w = WAVE_WORDS(h.n - h.k);

@@ -53,9 +53,9 @@ typedef struct { uint64_t refusal; wave_held held; } wave_stored;
 typedef struct { uint64_t refusal, yes, ones, twos; } wave_checked;
 
 /*
- * Begins a key, which replaces the held one whatever the old state is. number is 0 to 255, n is even from 4 to 16,384,
- * k is 2 to n-2, w is 1 to n; otherwise 1, and the old key stays. No row is stored yet, and no word of a buffer is
- * touched: what the planes of the key hold means nothing until rows are stored.
+ * Begins a key, which replaces the held one whatever the old state is. number is 0 to 4,294,967,295, n is even from 4 to
+ * 16,384, k is 2 to n-2, w is 1 to n; otherwise 1, and the old key stays. No row is stored yet, and no word of a buffer
+ * is touched: what the planes of the key hold means nothing until rows are stored.
  */
 wave_stored wave_begin(wave_held held, uint64_t number, uint64_t n, uint64_t k, uint64_t w);
 
@@ -71,9 +71,9 @@ wave_stored wave_store_row(wave_held held, uint64_t *ones, size_t ones_words, ui
 /*
  * Checks the signature s on the syndrome y under the held key: the full word is (y - s times the key, s), the answer
  * its ones and its twos, and yes exactly when their sum is w. y has WAVE_BYTES(n-k) bytes, s has WAVE_BYTES(k) bytes,
- * and ones and twos are the planes of the whole key, as for wave_store_row. work_ones and work_twos are working space of
- * WAVE_WORDS(n-k) words each; they may hold anything, are untouched after a refusal, and are all zero after every
- * verdict.
+ * and ones and twos are the planes of the whole key, as for wave_store_row. number is the key number asked for; one that
+ * is not the held key's is 22, however large. work_ones and work_twos are working space of WAVE_WORDS(n-k) words each;
+ * they may hold anything, are untouched after a refusal, and are all zero after every verdict.
  * Order of refusals: 20 (no key begun), 1 (a state out of its ranges), 20 (rows missing), 22, 2, then the contents of
  * the key (3, then 4, each over all of it), of y (5, then 15) and of s (5, then 15).
  */

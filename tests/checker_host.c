@@ -131,9 +131,11 @@ static void verdict(const module *m, uint64_t ones, uint64_t twos, uint64_t yes)
 static void beginnings(void)
 {
     static const struct { uint64_t number, n, k, w, refusal; } cases[] = {
-        { 0, 4, 2, 1, 0 }, { 255, 4, 2, 4, 0 }, { 7, 16384, 2, 16384, 0 }, { 7, 16384, 16382, 1, 0 }, { 7, 8576, 4288, 7668, 0 },
+        { 0, 4, 2, 1, 0 }, { 255, 4, 2, 4, 0 }, { 256, 4, 2, 4, 0 }, { 65535, 4, 2, 4, 0 }, { 65536, 4, 2, 4, 0 }, { UINT32_MAX, 4, 2, 4, 0 },
+        { 7, 16384, 2, 16384, 0 }, { 7, 16384, 16382, 1, 0 }, { 7, 8576, 4288, 7668, 0 },
         { 7, 2, 2, 1, 1 }, { 7, 2, 1, 1, 1 }, { 7, 0, 2, 1, 1 }, { 7, 5, 2, 1, 1 }, { 7, 16386, 2, 1, 1 }, { 7, 16383, 2, 1, 1 },
-        { 256, 4, 2, 1, 1 }, { 7, 4, 1, 1, 1 }, { 7, 4, 0, 1, 1 }, { 7, 4, 3, 1, 1 }, { 7, 6, 5, 1, 1 }, { 7, 4, 2, 0, 1 }, { 7, 4, 2, 5, 1 },
+        { UINT32_MAX + UINT64_C(1), 4, 2, 1, 1 }, { UINT32_MAX + UINT64_C(8), 4, 2, 1, 1 }, { UINT64_C(1) << 63, 4, 2, 1, 1 },
+        { 7, 4, 1, 1, 1 }, { 7, 4, 0, 1, 1 }, { 7, 4, 3, 1, 1 }, { 7, 6, 5, 1, 1 }, { 7, 4, 2, 0, 1 }, { 7, 4, 2, 5, 1 },
         { UINT64_MAX, 4, 2, 1, 1 }, { 7, UINT64_MAX, 2, 1, 1 }, { 7, 4, UINT64_MAX, 1, 1 }, { 7, 4, 2, UINT64_MAX, 1 },
     };
     static const wave_held old[] = {
@@ -181,6 +183,27 @@ static void example(void)
     take_back_all();
 }
 
+/* the example under each of these key numbers: stored, checked, and refused under the others */
+static void numbers(void)
+{
+    static const uint64_t taken[] = { 0, 7, 255, 256, 65535, 65536, UINT32_MAX - UINT32_C(1), UINT32_MAX };
+    enum { count = sizeof taken / sizeof taken[0] };
+    for (size_t i = 0; i < count; i++) {
+        module m;
+        open_module(&m, taken[i], 4, 2, 4);
+        store_digits(&m, "02");
+        store_digits(&m, "22");
+        pack_digits("12", bytes(&m.y));
+        pack_digits("11", bytes(&m.s));
+        for (size_t j = 0; j < count; j++)
+            if (j != i) refused_check(&m, m.held, taken[j], right(&m), 22);
+        refused_check(&m, m.held, taken[i] + (UINT64_C(1) << 32), right(&m), 22);
+        refused_check(&m, m.held, UINT64_MAX, right(&m), 22);
+        verdict(&m, 3, 1, 1);
+        take_back_all();
+    }
+}
+
 /* the refusals of a row */
 static void rows_refused(void)
 {
@@ -195,7 +218,8 @@ static void rows_refused(void)
     held = m.held; held.begun = 0; refused_row(&m, held, c, 20);
     held = m.held; held.begun = 0; held.n = 5; held.rows = 71; refused_row(&m, held, c, 20);
     held = m.held; held.begun = 2; refused_row(&m, held, c, 1);
-    held = m.held; held.number = 256; refused_row(&m, held, c, 1);
+    held = m.held; held.number = UINT32_MAX + UINT64_C(1); refused_row(&m, held, c, 1);
+    held = m.held; held.number = UINT32_MAX + UINT64_C(8); refused_row(&m, held, c, 1);
     held = m.held; held.n = 201; refused_row(&m, held, c, 1);
     held = m.held; held.n = UINT64_MAX - 1; refused_row(&m, held, c, 1);
     held = m.held; held.k = 1; refused_row(&m, held, c, 1);
@@ -245,7 +269,8 @@ static void checks_refused(void)
     held = m.held; held.begun = 0; held.w = 0; refused_check(&m, held, 8, c, 20);
     held = m.held; held.begun = 2; refused_check(&m, held, 7, c, 1);
     held = m.held; held.begun = UINT64_MAX; refused_check(&m, held, 7, c, 1);
-    held = m.held; held.number = 256; refused_check(&m, held, 256, c, 1);
+    held = m.held; held.number = UINT32_MAX + UINT64_C(1); refused_check(&m, held, held.number, c, 1);
+    held = m.held; held.number = UINT32_MAX; refused_check(&m, held, 7, c, 22);
     held = m.held; held.n = 2; refused_check(&m, held, 7, c, 1);
     held = m.held; held.n = 201; refused_check(&m, held, 7, c, 1);
     held = m.held; held.n = 16386; refused_check(&m, held, 7, c, 1);
@@ -258,6 +283,9 @@ static void checks_refused(void)
     held = m.held; held.rows = 0; refused_check(&m, held, 7, c, 20);
     refused_check(&m, m.held, 8, c, 22);
     refused_check(&m, m.held, 256, c, 22);
+    refused_check(&m, m.held, 7 + 256, c, 22);
+    refused_check(&m, m.held, UINT32_MAX, c, 22);
+    refused_check(&m, m.held, UINT32_MAX + UINT64_C(8), c, 22);
     refused_check(&m, m.held, UINT64_MAX, c, 22);
 
     c = right(&m); c.ones++; refused_check(&m, m.held, 7, c, 2); refused_check(&m, m.held, 8, c, 22);
@@ -480,6 +508,7 @@ int main(void)
 {
     beginnings();
     example();
+    numbers();
     rows_refused();
     checks_refused();
     past_the_length();

@@ -32,9 +32,12 @@ pub struct Checked {
     pub twos: u64,
 }
 
+/// The largest key number.
+pub const MOST_KEY_NUMBER: u64 = 4_294_967_295;
+
 /// What the checker knows of the sizes, and the key number: each in its range.
 pub fn in_range(number: u64, n: u64, k: u64, w: u64) -> bool {
-    number <= 255 && (4..=16384).contains(&n) && n % 2 == 0 && (2..=n - 2).contains(&k) && (1..=n).contains(&w)
+    number <= MOST_KEY_NUMBER && (4..=16384).contains(&n) && n % 2 == 0 && (2..=n - 2).contains(&k) && (1..=n).contains(&w)
 }
 
 pub fn begin(held: Held, number: u64, n: u64, k: u64, w: u64) -> Stored {

@@ -1,7 +1,7 @@
 //! The line program: text in, text out.
 
 use crate::algebra::ones_and_twos;
-use crate::held::{full_word, in_range};
+use crate::held::{full_word, in_range, MOST_KEY_NUMBER};
 
 struct Key {
     number: u64,
@@ -45,9 +45,9 @@ fn form(line: &[u8]) -> Option<Line> {
     }
     let fields: Vec<&[u8]> = line.split(|b| *b == b'\t').collect();
     match fields[..] {
-        [b"P", key, n, k, w] => Some(Line::P(number_to(255, key)?, number(n)?, number(k)?, number(w)?)),
+        [b"P", key, n, k, w] => Some(Line::P(number_to(MOST_KEY_NUMBER, key)?, number(n)?, number(k)?, number(w)?)),
         [b"K", row] => Some(Line::K(digits(row)?)),
-        [b"S", key, formula, y, s] => Some(Line::S(number_to(255, key)?, number_to(65535, formula)?, digits(y)?, digits(s)?)),
+        [b"S", key, formula, y, s] => Some(Line::S(number_to(MOST_KEY_NUMBER, key)?, number_to(65535, formula)?, digits(y)?, digits(s)?)),
         _ => None,
     }
 }

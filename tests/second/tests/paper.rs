@@ -198,8 +198,9 @@ fn sizes_at_the_edges() {
     for (n, good) in [(4, true), (16384, true), (2, false), (16386, false)] {
         assert_eq!(Sizes { n, ku: 1, kv: 1, g: 0, w: 1 }.in_range(), good, "n = {n}");
     }
-    assert_eq!(begin(Held::default(), 255, 4, 2, 4).refusal, 0);
-    assert_eq!(begin(Held::default(), 256, 4, 2, 4).refusal, 1);
+    for (number, refusal) in [(0, 0), (255, 0), (256, 0), (65535, 0), (65536, 0), (4294967295, 0), (4294967296, 1), (u64::MAX, 1)] {
+        assert_eq!(begin(Held::default(), number, 4, 2, 4).refusal, refusal, "key number {number}");
+    }
     assert_eq!(words(64), 1);
     assert_eq!(words(65), 2);
 }
@@ -228,7 +229,6 @@ fn lines_refused() {
     };
     assert_eq!(said(""), "");
     assert_eq!(said("\n"), "- - - r11");
-    assert_eq!(said("P 256 4 2 4"), "- - - r11");
     assert_eq!(said("P 255 258 2 4"), "- - - r1");
     assert_eq!(said("P 255 256 2 99999999999999999999999999"), "- - - r1");
     assert_eq!(said("P 07 4 2 4"), "- - - r11");
@@ -236,6 +236,15 @@ fn lines_refused() {
     assert_eq!(said("S 7 1 1 1"), "7 1 - r20");
     assert_eq!(said("S 7 65536 1 1"), "- - - r11");
     assert_eq!(said("P 7 4 2 4\nK 022\nK 02\nK 22\nK 22\nS 7 5 1 11"), "- - - r2|- - - r21|7 5 - r2");
+    for key in ["255", "256", "65535", "65536", "4294967295"] {
+        assert_eq!(said(&format!("P {key} 4 2 4\nK 02\nK 22\nS {key} 12 12 11")), format!("{key} 12 3+1 yes"));
+        assert_eq!(said(&format!("P 7 4 2 4\nK 02\nK 22\nS {key} 12 12 11")), format!("{key} 12 - r22"));
+        assert_eq!(said(&format!("S {key} 12 12 11")), format!("{key} 12 - r20"));
+    }
+    for key in ["4294967296", "4294967303", "18446744073709551616", "18446744073709551623", "04294967295", &"9".repeat(1000)] {
+        assert_eq!(said(&format!("P 7 4 2 4\nP {key} 4 2 4\nK 02\nK 22\nS {key} 12 12 11\nS 7 13 12 11")), "- - - r11|- - - r11|7 13 3+1 yes");
+    }
+    assert_eq!(said("P 7 4294967300 2 4\nP 7 4 4294967298 4\nP 7 4 2 4294967300"), "- - - r1|- - - r1|- - - r1");
     assert_eq!(said(&format!("K {}", "0".repeat(1022))), "- - - r20");
     assert_eq!(said(&format!("K {}", "0".repeat(1023))), "- - - r11");
 }

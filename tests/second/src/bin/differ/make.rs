@@ -4,6 +4,7 @@ use crate::case::{Buffer, Call, Case, Edge, Role};
 use crate::rng::Rng;
 use second::algebra::weight;
 use second::draw::{drawn_word, Choices};
+use second::held::MOST_KEY_NUMBER;
 use second::key::{build_key, places, Secret, Sizes};
 use second::packing::bytes;
 use second::planes::{read, read_row, words};
@@ -71,7 +72,7 @@ pub fn stream(rng: &mut Rng, m: usize) -> Case {
 fn state_edges(n: u64, k: u64, number: u64, w: u64) -> Vec<Edge> {
     let mut out = edges(0, 20, &[0]);
     out.extend(edges(0, 1, &[2, 3, 256, 1 << 32, u64::MAX]));
-    out.extend([edges(1, 1, &[256]), far(1, number, 1)].concat());
+    out.extend([edges(1, 1, &[MOST_KEY_NUMBER + 1]), far(1, number, 1)].concat());
     out.extend([edges(2, 1, &[0, 1, 2, 3, n + 1, 16385, 16386]), far(2, n, 1)].concat());
     out.extend([edges(3, 1, &[0, 1, n - 1, n, 16384]), far(3, k, 1)].concat());
     out.extend([edges(4, 1, &[0, n + 1, 16385]), far(4, w, 1)].concat());
@@ -81,7 +82,7 @@ fn state_edges(n: u64, k: u64, number: u64, w: u64) -> Vec<Edge> {
 
 pub fn store(rng: &mut Rng, n: usize, k: usize, stored: usize) -> Case {
     let m = n - k;
-    let (number, w) = (rng.below(256) as u64, rng.between(1, n) as u64);
+    let (number, w) = (rng.key_number(), rng.between(1, n) as u64);
     let (ones, twos) = (rng.words(k * words(m)), rng.words(k * words(m)));
     let row = rng.packed(m);
     let mut case = Case::new(Call::Store, vec![1, number, n as u64, k as u64, w, stored as u64], vec![Words(ones), Words(twos), Bytes(row)]);
@@ -93,7 +94,7 @@ pub fn store(rng: &mut Rng, n: usize, k: usize, stored: usize) -> Case {
 
 pub fn check(rng: &mut Rng, n: usize, k: usize) -> Case {
     let m = n - k;
-    let (number, w) = (rng.below(256) as u64, rng.between(1, n) as u64);
+    let (number, w) = (rng.key_number(), rng.between(1, n) as u64);
     let (ones, twos) = rng.planes(k, m);
     let (y, s) = (rng.packed(m), rng.packed(k));
     let (w1, w2) = (rng.words(words(m)), rng.words(words(m)));
@@ -105,7 +106,8 @@ pub fn check(rng: &mut Rng, n: usize, k: usize) -> Case {
     case.roles = vec![Role::Planes { at: 0, rows: k, m }, Role::Packed { at: 2, m }, Role::Packed { at: 3, m: k }];
     case.edges = state_edges(n as u64, k as u64, number, w);
     case.edges.extend(edges(5, 20, &[0, k as u64 - 1]));
-    case.edges.extend(edges(6, 22, &[number ^ 1, number ^ 128, 256, number + 256, number + (1 << 32), u64::MAX]));
+    // another number: one bit changed, 256 or 2^32 more, out of its range
+    case.edges.extend(edges(6, 22, &[number ^ 1, number ^ 128, number ^ 1 << 16, number ^ 1 << 31, number + 256, number + (1 << 32), u64::MAX]));
     case
 }
 

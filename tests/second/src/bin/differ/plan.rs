@@ -61,7 +61,7 @@ pub fn beginning(c: &mut Comparer) {
     for n in [0, 1, 2, 3, 4, 5, 6, 7, 64, 8492, 8576, 16382, 16383, 16384, 16385, 16386, 65536, 1 << 32 | 4, u64::MAX - 1, u64::MAX] {
         for k in [0, 1, 2, 3, n.wrapping_sub(3), n.wrapping_sub(2), n.wrapping_sub(1), n, 1 << 32 | 2, u64::MAX] {
             for w in [0, 1, n.wrapping_sub(1), n, n.wrapping_add(1), 1 << 32 | 1, u64::MAX] {
-                for number in [0, 1, 255, 256, 257, 1 << 32, u64::MAX] {
+                for number in [0, 1, 255, 256, 65535, 65536, (1 << 32) - 2, (1 << 32) - 1, 1 << 32, 1 << 32 | 7, u64::MAX] {
                     let mut numbers = c.rng.pick(&old).to_vec();
                     numbers.extend([number, n, k, w]);
                     c.compare(&Case::new(Call::Begin, numbers, vec![]), &[]);
@@ -243,7 +243,7 @@ pub fn round_trip(c: &mut Comparer, shape: &Shape) -> bool {
     };
 
     // the rows are stored under some key number
-    let number = c.rng.below(256) as u64;
+    let number = c.rng.key_number();
     let begun = c.compare(&Case::new(Call::Begin, [[0u64; 6].to_vec(), vec![number, n as u64, k as u64, w as u64]].concat(), vec![]), &[]);
     let mut state = begun.answer[1..].to_vec();
     let (mut ones, mut twos) = (Buffer::Words(c.rng.words(k * words(m))), Buffer::Words(c.rng.words(k * words(m))));

@@ -1,5 +1,6 @@
 //! Numbers from a seed.
 
+use second::held::MOST_KEY_NUMBER;
 use second::packing::bytes;
 use second::planes::words;
 
@@ -38,6 +39,15 @@ impl Rng {
 
     pub fn words(&mut self, count: usize) -> Vec<u64> {
         (0..count).map(|_| self.word()).collect()
+    }
+
+    /// A key number: small, at an edge, or anywhere in its range.
+    pub fn key_number(&mut self) -> u64 {
+        match self.below(4) {
+            0 => self.below(256) as u64,
+            1 => self.pick(&[0, 255, 256, 65535, 65536, MOST_KEY_NUMBER - 1, MOST_KEY_NUMBER]),
+            _ => self.word() % (MOST_KEY_NUMBER + 1),
+        }
     }
 
     pub fn order(&mut self, places: usize) -> Vec<u16> {

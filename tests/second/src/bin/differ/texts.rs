@@ -7,6 +7,27 @@ use std::process::{Command, Stdio};
 
 const EXAMPLE: &str = "P\t7\t4\t2\t4\nK\t02\nK\t22\nS\t7\t12\t12\t11\nS\t7\t13\t12\t12\nS\t8\t14\t12\t11\n";
 
+/// Key numbers at the edges of their range, far above it, and with a 0 in front.
+const KEYS: [&str; 17] = [
+    "0",
+    "7",
+    "255",
+    "256",
+    "0255",
+    "65535",
+    "65536",
+    "70000",
+    "80000",
+    "4294967294",
+    "4294967295",
+    "04294967295",
+    "4294967296",
+    "4294967303",
+    "18446744073709551616",
+    "18446744073709551623",
+    "1000000000000000000",
+];
+
 fn digits(rng: &mut Rng, count: usize) -> Vec<u8> {
     let kind = rng.below(6);
     (0..count)
@@ -32,7 +53,7 @@ fn number(rng: &mut Rng, near: u64) -> Vec<u8> {
         4 => format!("+{near}").into_bytes(),
         5 => format!("{near}{}", rng.pick(&["x", "/", ":", "\0"])).into_bytes(),
         6 => rng.pick(&["0", "00", "-1", "1e1", " 4", "4 "]).as_bytes().to_vec(),
-        7 => rng.pick(&["255", "256", "257", "65535", "65536", "65537", "16384", "16386"]).as_bytes().to_vec(),
+        7 => rng.pick(&["255", "256", "257", "65535", "65536", "65537", "16384", "16386", "4294967294", "4294967295"]).as_bytes().to_vec(),
         8 => rng.pick(&["4294967296", "4294967300", "18446744073709551615", "18446744073709551616", "18446744073709551620"]).as_bytes().to_vec(),
         9 => format!("1{}{near}", "0".repeat(rng.between(1, 60))).into_bytes(),
         _ => near.to_string().into_bytes(),
@@ -59,7 +80,7 @@ fn block(rng: &mut Rng, damaged: bool) -> Vec<Vec<u8>> {
     };
     let k = rng.between(2, n - 2);
     let w = rng.between(1, n);
-    let key = rng.below(256) as u64;
+    let key = rng.key_number();
     let mut out = vec![];
     let number = |rng: &mut Rng, value: usize| if damaged { number(rng, value as u64) } else { value.to_string().into_bytes() };
     let count = |rng: &mut Rng, value: usize| if damaged { about(rng, value) } else { value };
@@ -71,7 +92,7 @@ fn block(rng: &mut Rng, damaged: bool) -> Vec<Vec<u8>> {
         out.push(fields(&[b"K", &digits(rng, long)]));
     }
     for _ in 0..rng.between(1, 6) {
-        let asked = if rng.one_in(6) { rng.below(256) } else { key as usize };
+        let asked = if rng.one_in(6) { rng.key_number() as usize } else { key as usize };
         let formula = rng.below(65536);
         let (a, b) = (number(rng, asked), number(rng, formula));
         let (y, s) = (count(rng, n - k), count(rng, k));
@@ -137,19 +158,21 @@ fn listed() -> Vec<Vec<u8>> {
     }
     let states = ["", "P\t7\t4\t2\t4\n", "P\t7\t4\t2\t4\nK\t02\n", "P\t7\t4\t2\t4\nK\t02\nK\t22\n"];
     let mut lines: Vec<String> = vec![];
-    for n in ["0", "2", "3", "4", "5", "254", "255", "256", "257", "258", "16384", "99999999999999999999999"] {
-        for k in ["0", "1", "2", "3", "253", "254", "255", "18446744073709551618"] {
-            for w in ["0", "1", "4", "5", "256", "257", "18446744073709551617"] {
+    for n in ["0", "2", "3", "4", "5", "254", "255", "256", "257", "258", "16384", "65540", "4294967300", "99999999999999999999999"] {
+        for k in ["0", "1", "2", "3", "253", "254", "255", "4294967298", "18446744073709551618"] {
+            for w in ["0", "1", "4", "5", "256", "257", "4294967297", "18446744073709551617"] {
                 lines.push(format!("P\t7\t{n}\t{k}\t{w}"));
             }
         }
     }
-    for key in ["0", "7", "255", "256", "0255", "65536", "4294967303", "18446744073709551623", "", "a", "-0"] {
+    for key in KEYS.iter().chain(&["", "a", "-0"]) {
         lines.push(format!("P\t{key}\t4\t2\t4"));
-        for formula in ["0", "65535", "65536", "00", "", "4294967296"] {
+        for formula in ["0", "65535", "65536", "00", "", "4294967295", "4294967296"] {
             lines.push(format!("S\t{key}\t{formula}\t12\t11"));
         }
     }
+    let digits = "9".repeat(1000);
+    lines.extend([format!("P\t{digits}\t4\t2\t4"), format!("S\t{digits}\t12\t12\t11")]);
     for y in ["", "1", "12", "122", "13", "1 ", "012"] {
         lines.push(format!("K\t{y}"));
         lines.push(format!("K\t{y}\t"));
@@ -176,6 +199,11 @@ fn listed() -> Vec<Vec<u8>> {
         lines.push("x".repeat(long));
         lines.push("\t".repeat(long));
         lines.push(format!("S\t7\t1\t{}\t11", "1".repeat(long - 10)));
+    }
+    // each number held, if it can be, and every number asked for
+    for key in KEYS {
+        let asked: String = KEYS.iter().map(|other| format!("S\t{other}\t12\t12\t11\n")).collect();
+        out.push(format!("P\t{key}\t4\t2\t4\nK\t02\nK\t22\n{asked}").into());
     }
     for state in states {
         for form in lines.chunks(100) {

@@ -99,6 +99,25 @@ pub fn cases(c: &mut Comparer) {
         expect(c, row, &answer, &[(0, Words(vec![0, 8])), (1, Words(vec![plane, 8]))]);
     }
 
+    // key numbers: at a beginning, and held and asked for at a check
+    for (number, refusal) in [(255, 0), (256, 0), (65535, 0), (65536, 0), (4294967295, 0), (4294967296, 1), (4294967303, 1), (u64::MAX, 1)] {
+        let state = if refusal == 0 { vec![0, 1, number, 4, 2, 4, 0] } else { vec![1, 0, 0, 0, 0, 0, 0] };
+        expect(c, Case::new(Call::Begin, vec![0, 0, 0, 0, 0, 0, number, 4, 2, 4], vec![]), &state, &[]);
+    }
+    for (held, asked, answer) in [
+        (256, 256, [0, 1, 3, 1]),
+        (4294967295, 4294967295, [0, 1, 3, 1]),
+        (4294967295, 255, [22, 0, 0, 0]),
+        (7, 4294967303, [22, 0, 0, 0]),
+        (4294967296, 4294967296, [1, 0, 0, 0]),
+    ] {
+        let mut numbered = check(asked, 4, "12", "11");
+        numbered.numbers[1] = held;
+        let work = if answer[0] == 0 { [one(0), one(0)] } else { [one(5), one(6)] };
+        let [w1, w2] = work;
+        expect(c, numbered, &answer, &[(4, w1), (5, w2)]);
+    }
+
     for (n, refusal) in [(4, 0), (16384, 0), (2, 1), (16386, 1)] {
         let state = if refusal == 0 { vec![refusal, 1, 0, n, 2, 1, 0] } else { vec![refusal, 0, 0, 0, 0, 0, 0] };
         expect(c, Case::new(Call::Begin, vec![0, 0, 0, 0, 0, 0, 0, n, 2, 1], vec![]), &state, &[]);

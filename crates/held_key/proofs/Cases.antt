@@ -1,7 +1,8 @@
 -- A beginning at the edges of the ranges, and a state's key number, computed from the definitions ("At the edges"; request C-15). Assumes nothing.
 use mathlib.Core.Path.{_≡_, refl}
-use mathlib.Core.Bool.{Bool, true, false}
+use mathlib.Core.Bool.{true, false}
 use Prim.Native.Nat.{ℕ}
+use Rattle.held_key.specs.declared.state.Held.{Held}
 use Rattle.held_key.specs.Held.{numbersFitUnder, sound, soundUnder}
 use Rattle.held_key.specs.Store.{beginRefusal, beginRefusalUnder}
 
@@ -38,9 +39,15 @@ unfolding beginRefusalUnder numbersFitUnder
 numbers-refused = (refl, refl, refl)
 
 -- a state with this key number, n = 4, k = 2, w = 1, and one row
-abbrev numbered : ℕ → Bool
-numbered number = sound (record { begun = 1; number = number; n = 4; k = 2; w = 1; rows = 1 })
+abbrev numbered : ℕ → Held
+numbered number = record { begun = 1; number = number; n = 4; k = 2; w = 1; rows = 1 }
 
-state-numbers : (numbered 255 ≡ true) × (numbered 256 ≡ true) × (numbered 4294967295 ≡ true) × (numbered 4294967296 ≡ false)
+state-numbers : (sound (numbered 255) ≡ true) × (sound (numbered 256) ≡ true) × (sound (numbered 4294967295) ≡ true)
+    × (sound (numbered 4294967296) ≡ false)
 unfolding soundUnder numbersFitUnder
 state-numbers = (refl, refl, refl, refl)
+
+-- before request C-15 they ended at 255
+state-before : (soundUnder 255 (numbered 255) ≡ true) × (soundUnder 255 (numbered 256) ≡ false)
+unfolding soundUnder numbersFitUnder
+state-before = (refl, refl)

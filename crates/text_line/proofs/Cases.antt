@@ -59,6 +59,12 @@ numbers-refused : NotTaken (4 ∷ 2 ∷ 9 ∷ 4 ∷ 9 ∷ 6 ∷ 7 ∷ 2 ∷ 9 �
 unfolding lineOf formOf isLetter split onto fourFields keyOf signOf inRange isNumber allBetween value valueFrom isDigits tabulate
 numbers-refused = ((refl, refl), (refl, refl), (refl, refl), (refl, refl), (refl, refl), (refl, refl), (refl, refl))
 
+-- before request C-15 key numbers ended at 255
+numbers-before : (lineOf 255 (P (bytes (2 ∷ 5 ∷ 5 ∷ []))) ≡ keyLine 255 4 2 4) × (lineOf 255 (P (bytes (2 ∷ 5 ∷ 6 ∷ []))) ≡ noForm)
+    × (lineOf 255 (S (bytes (2 ∷ 5 ∷ 6 ∷ []))) ≡ noForm)
+unfolding lineOf formOf isLetter split onto fourFields keyOf signOf inRange isNumber allBetween value valueFrom isDigits
+numbers-before = (refl, refl, refl)
+
 -- the two rows 02 and 22 under key number 4,294,967,295, and no key
 abbrev largest : Holding
 largest = holding (record { begun = 1; number = 4294967295; n = 4; k = 2; w = 4; rows = 2 }) (0 ∷ 0 ∷ []) (2 ∷ 3 ∷ [])

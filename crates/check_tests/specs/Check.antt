@@ -1,4 +1,5 @@
 -- The check: its refusals in the paper's order, the answer, and the working space at exit ("The verdict", both sections "Turned back"). Assumes nothing.
+-- What depends on the largest key number is defined with any other in its place, by a name that ends in `Under`.
 use mathlib.Core.Bool.{cond}
 use mathlib.Core.List.{List}
 use Prim.Native.Nat.{ℕ}

@@ -1,5 +1,6 @@
 -- The module's state, and the rows of the key that it holds in the caller's words ("The two halves",
 -- "Trits in words and bytes", "Held key and lines of text"). Assumes nothing.
+-- What depends on the largest key number is defined with any other in its place, by a name that ends in `Under`.
 use mathlib.Core.Bool.{Bool, _&&_, cond}
 use mathlib.Core.List.{List, []}
 use Prim.Native.Nat.{ℕ, _-_, _*_, _%_}
@@ -9,7 +10,7 @@ use Rattle.trits.specs.Rows.{rowPart}
 use Rattle.held_key.specs.declared.state.Held.{Held}
 use Rattle.verdict.specs.Verdict.{Key}
 
--- the largest key number (request C-15). What depends on it is defined under any bound (`most`), and cited under this one.
+-- the largest key number (request C-15)
 abbrev pub mostKeyNumber : ℕ
 mostKeyNumber = 4294967295
 

@@ -1,5 +1,6 @@
 -- Beginning a key and storing a row: the refusals in the paper's order, the state and the lent planes at
 -- exit ("Held key and lines of text", both sections "Turned back"). Assumes nothing.
+-- What depends on the largest key number is defined with any other in its place, by a name that ends in `Under`.
 use mathlib.Core.List.{List}
 use Prim.Native.Nat.{ℕ, _+_, _*_}
 use lib.Dec.{eqb}

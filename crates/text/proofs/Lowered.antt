@@ -24,7 +24,7 @@ module _ (old new : ℕ) (h : old ≤ new) where
   unfolding keyNumberOf
   nothing = unmoved noForm (omega arith)
 
-  -- a number in its range under both bounds, or under neither, unless it lies between them
+  -- a number up to the lower bound is in both ranges or in neither, and any other is not in the lower
   range-same : (f : List ℕ) → value f ≤ old → inRange old f ≡ inRange new f
   unfolding inRange
   range-same f l = ap (λ (t : Bool). isNumber f && t) (le-leb (value f) old l ∙ sym (le-leb (value f) new (omega arith)))
@@ -42,24 +42,20 @@ module _ (old new : ℕ) (h : old ≤ new) where
     abbrev said : Bool → Line
     said t = cond (t && a && b && c) l noForm
 
-    above : old < value f → Lowered old noForm (said (inRange new f))
-    unfolding keyNumberOf
-    above z = by (inRange new f && a && b && c)
-      where
-        by : (t : Bool) → Lowered old noForm (cond t l noForm)
-        by true = record { same = λ q. absurd (omega (arith, z, q, e)); none = λ q. refl }
-        by false = nothing
+    above : old < value f → (t : Bool) → Lowered old noForm (cond t l noForm)
+    above z true = record { same = λ q. absurd (omega (arith, z, q, e)); none = λ q. refl }
+    above z false = nothing
+
+    below : value f ≤ old → (t : Bool) → Lowered old (cond t l noForm) (cond t l noForm)
+    below z true = unmoved l (omega (arith, z, e))
+    below z false = nothing
 
     picked : Lowered old (said (inRange old f)) (said (inRange new f))
     picked = by (decLt old (value f))
       where
         by : Dec (old < value f) → Lowered old (said (inRange old f)) (said (inRange new f))
-        by (yes z) = rw (range-above f z) (above z)
-        by (no z) = record { same = λ q. ap said (range-same f (omega arith)); none = λ q. none-above q (inRange new f && a && b && c) refl }
-          where
-            none-above : old < keyNumberOf (said (inRange new f)) → (t : Bool) → (inRange new f && a && b && c) ≡ t → said (inRange old f) ≡ noForm
-            none-above q true r = absurd (omega (arith, z, e, q, ap (λ (t : Bool). keyNumberOf (cond t l noForm)) r))
-            none-above q false r = ap said (range-same f (omega arith)) ∙ ap (λ (t : Bool). cond t l noForm) r
+        by (yes z) = rw (range-above f z) (above z (inRange new f && a && b && c))
+        by (no z) = rw (range-same f (omega arith)) (below (omega arith) (inRange new f && a && b && c))
 
   key-lowered : (number n k w : List ℕ) → Lowered old (keyOf old number n k w) (keyOf new number n k w)
   unfolding keyOf keyNumberOf
@@ -70,7 +66,7 @@ module _ (old new : ℕ) (h : old ≤ new) where
   sign-lowered number formula y s =
       picked number (inRange mostFormula formula) (isDigits y) (isDigits s) (signLine (value number) (value formula) y s) refl
 
-  -- four fields, one of which may be a key number
+  -- the fields after the letter
   module _ (f g : List ℕ → List ℕ → List ℕ → List ℕ → Line) (z : (a b c d : List ℕ) → Lowered old (f a b c d) (g a b c d)) where
     four-lowered : (rest : List (List ℕ)) → Lowered old (fourFields f rest) (fourFields g rest)
     unfolding fourFields

@@ -1,4 +1,5 @@
 -- What one line prints, and what it makes of the held key ("Held key and lines of text", "Turned back by the state"). Assumes nothing.
+-- What depends on the largest key number is defined with any other in its place, by a name that ends in `Under`.
 use mathlib.Core.Bool.{_&&_, cond}
 use mathlib.Core.List.{List, [], _++_}
 use Prim.Native.Nat.{ℕ}
@@ -106,7 +107,7 @@ lineKeptUnder most kept (keyLine number n k w) = record { held = keyHeldUnder mo
 lineKeptUnder most kept (rowLine digits) = rowKeptUnder most kept digits
 lineKeptUnder most kept (signLine number formula y s) = kept
 
--- ---- the same under the bound that key numbers have
+-- ---- the same under the largest key number that there is
 
 abbrev pub keyRefusal : ℕ → ℕ → ℕ → ℕ → ℕ
 keyRefusal number n k w = keyRefusalUnder mostKeyNumber number n k w

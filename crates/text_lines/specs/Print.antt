@@ -1,4 +1,5 @@
 -- What a whole text prints ("Held key and lines of text"). Assumes nothing.
+-- What depends on the largest key number is defined with any other in its place, by a name that ends in `Under`.
 use mathlib.Core.Bool.{cond}
 use mathlib.Core.List.{List, [], _∷_, _++_}
 use Prim.Native.Nat.{ℕ}

@@ -1,5 +1,5 @@
 -- A number that is printed reads back as itself: no two key numbers print alike, however many digits they have. Assumes nothing.
-use mathlib.Core.Path.{_≡_, refl, sym, ap, subst, _∙_}
+use mathlib.Core.Path.{_≡_, refl, sym, subst, _∙_}
 use mathlib.Core.Bool.{true, _&&_, and-eq-true-iff}
 use mathlib.Core.List.{List, [], _∷_, _++_}
 use Prim.Native.Nat.{ℕ, zero, suc, _+_, _-_, _*_, _/_, _%_, _≤_, _<_}
@@ -35,33 +35,35 @@ first-same (x ∷ l) b h = refl
 
 record Printed (n : ℕ) (l : List ℕ) : Type 0 where
   digits : allBetween 48 57 l ≡ true
-  means : value l ≡ n
   some : 1 ≤ length l
-  alone : n < 10 → length l ≡ 1
-  more : 10 ≤ n → 2 ≤ length l
   front : 1 ≤ n → getD l 0 0 ≡ 48 → ⊥
+  field : isNumber l ≡ true
+  means : value l ≡ n
 
 one-digit : (n : ℕ) → n < 10 → Printed n ((48 + n) ∷ [])
 unfolding allBetween value valueFrom
-one-digit n h = record {
-  digits = digits-last [] (48 + n) refl (omega arith) (omega arith);
-  means = omega arith;
-  some = omega arith;
-  alone = λ z. refl;
-  more = λ z. absurd (omega (arith, z));
-  front = λ z e. omega (arith, z, e);
-}
+one-digit n h =
+    let d = digits-last [] (48 + n) refl (omega arith) (omega arith) in record {
+      digits = d;
+      some = omega arith;
+      front = λ z e. omega (arith, z, e);
+      field = sym (number-one ((48 + n) ∷ []) refl) ∙ d;
+      means = omega arith;
+    }
 
 more-digits : (n : ℕ) (l : List ℕ) → 10 ≤ n → Printed (n / 10) l → Printed n (l ++ ((48 + n % 10) ∷ []))
 unfolding value
 more-digits n l h p =
-    let e = p .means in record {
-      digits = digits-last l (48 + n % 10) (p .digits) (omega arith) (omega arith);
-      means = value-last l 0 (48 + n % 10) ∙ omega (arith, e);
-      some = omega (arith, length-append l ((48 + n % 10) ∷ []));
-      alone = λ z. absurd (omega (arith, z));
-      more = λ z. omega (arith, p .some, length-append l ((48 + n % 10) ∷ []));
-      front = λ z q. p .front (omega arith) (sym (first-same l (48 + n % 10) (p .some)) ∙ q);
+    let last = 48 + n % 10 in
+    let d = digits-last l last (p .digits) (omega arith) (omega arith) in
+    let size = length-append l (last ∷ []) in
+    let f : getD (l ++ (last ∷ [])) 0 0 ≡ 48 → ⊥ = λ q. p .front (omega arith) (sym (first-same l last (p .some)) ∙ q) in
+    record {
+      digits = d;
+      some = omega (arith, size);
+      front = λ z. f;
+      field = sym (number-more (l ++ (last ∷ [])) (λ q. omega (arith, size, q)) (λ q. omega (arith, size, p .some, q)) f) ∙ d;
+      means = value-last l 0 last ∙ omega (arith, p .means);
     }
 
 printed-up-to : (most n : ℕ) → n < most → Printed n (decimal n)
@@ -74,12 +76,8 @@ printed-up-to (suc most) n h = by (decLt n 10) (λ z. printed-up-to most (n / 10
 
 -- ---- read back
 
+pub decimal-number : (n : ℕ) → isNumber (decimal n) ≡ true
+decimal-number n = printed-up-to (suc n) n (omega arith) .field
+
 pub decimal-value : (n : ℕ) → value (decimal n) ≡ n
 decimal-value n = printed-up-to (suc n) n (omega arith) .means
-
-pub decimal-number : (n : ℕ) → isNumber (decimal n) ≡ true
-decimal-number n = by (printed-up-to (suc n) n (omega arith)) (decLt n 10)
-  where
-    by : Printed n (decimal n) → Dec (n < 10) → isNumber (decimal n) ≡ true
-    by p (yes z) = sym (number-one (decimal n) (p .alone z)) ∙ p .digits
-    by p (no z) = sym (number-more (decimal n) (λ q. omega (arith, p .some, q)) (λ q. omega (arith, q, p .more (omega arith))) (p .front (omega arith))) ∙ p .digits

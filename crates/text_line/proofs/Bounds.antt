@@ -17,13 +17,13 @@ use Rattle.text_line.specs.Answer.{refusalPrints, signPrints, linePrints
 
 module _ (a b : ℕ) (kept : Holding) (ka : kept .held .number ≤ a) (kb : kept .held .number ≤ b) where
   module _ (number n k w : ℕ) (la : number ≤ a) (lb : number ≤ b) where
-    key-either : keyRefusalUnder a number n k w ≡ keyRefusalUnder b number n k w
+    key-line-either : keyRefusalUnder a number n k w ≡ keyRefusalUnder b number n k w
     unfolding keyRefusalUnder
-    key-either = rw (begin-either a b number la lb n k w)
+    key-line-either = rw (begin-either a b number la lb n k w)
 
     held-either : keyHeldUnder a (kept .held) number n k w ≡ keyHeldUnder b (kept .held) number n k w
     unfolding keyHeldUnder
-    held-either = rw key-either
+    held-either = rw key-line-either
 
   digits-either : (digits : List ℕ) → digitsRefusalUnder a kept digits ≡ digitsRefusalUnder b kept digits
   unfolding digitsRefusalUnder
@@ -41,7 +41,7 @@ module _ (a b : ℕ) (kept : Holding) (ka : kept .held .number ≤ a) (kb : kept
   pub prints-either : (l : Line) → keyNumberOf l ≤ a → keyNumberOf l ≤ b → linePrintsUnder a kept l ≡ linePrintsUnder b kept l
   unfolding linePrintsUnder keyNumberOf
   prints-either noForm la lb = refl
-  prints-either (keyLine number n k w) la lb = ap refusalPrints (key-either number n k w la lb)
+  prints-either (keyLine number n k w) la lb = ap refusalPrints (key-line-either number n k w la lb)
   prints-either (rowLine digits) la lb = ap refusalPrints (digits-either digits)
   prints-either (signLine number formula y s) la lb = ap (signPrints number formula) (sign-either number y s)
 

@@ -14,7 +14,7 @@ use Rattle.text_line.proofs.Bounds.{prints-either, kept-either, number-kept}
 use Rattle.text_lines.specs.Print.{linesOf, answersUnder, noKey, printsUnder, prints}
 
 module _ (old new : ℕ) (h : old ≤ new) where
-  -- lines, whatever is held, if its number is not above the lower bound either
+  -- lines, whatever is held, if its number is not above the lower bound either: a line prints alike, leaves alike, the rest follows, and it is read alike
   answers-lowered : (kept : Holding) → kept .held .number ≤ old → (lines : List (List ℕ)) → NoKeyBetween old new lines
       → answersUnder new kept lines ≡ answersUnder old kept lines
   unfolding answersUnder

@@ -107,7 +107,7 @@ pub fn check(rng: &mut Rng, n: usize, k: usize) -> Case {
     case.edges = state_edges(n as u64, k as u64, number, w);
     case.edges.extend(edges(5, 20, &[0, k as u64 - 1]));
     // another number: one bit changed, 256 or 2^32 more, out of its range
-    case.edges.extend(edges(6, 22, &[number ^ 1, number ^ 128, number ^ 1 << 16, number ^ 1 << 31, number + 256, number + (1 << 32), u64::MAX]));
+    case.edges.extend(edges(6, 22, &[number ^ 1, number ^ 128, number ^ (1 << 16), number ^ (1 << 31), number + 256, number + (1 << 32), u64::MAX]));
     case
 }
 

@@ -113,8 +113,7 @@ pub fn cases(c: &mut Comparer) {
     ] {
         let mut numbered = check(asked, 4, "12", "11");
         numbered.numbers[1] = held;
-        let work = if answer[0] == 0 { [one(0), one(0)] } else { [one(5), one(6)] };
-        let [w1, w2] = work;
+        let [w1, w2] = if answer[0] == 0 { [one(0), one(0)] } else { [one(5), one(6)] };
         expect(c, numbered, &answer, &[(4, w1), (5, w2)]);
     }
 

@@ -1,4 +1,4 @@
--- The laws behind the functions' proofs: words lent to the checker, one line.
+-- The laws behind the functions' proofs: words lent to the checker, one line; with them computed cases, and a line under two bounds.
 pub mod Cases
 pub mod Lent
 pub mod Lines

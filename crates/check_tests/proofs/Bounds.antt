@@ -1,4 +1,4 @@
--- A check under a state whose key number is below two bounds answers alike under both (request C-15). Assumes nothing.
+-- A check in a state whose key number is above neither of two bounds answers alike under both (request C-15). Assumes nothing.
 use mathlib.Core.Path.{_≡_, ap}
 use Prim.Native.Nat.{ℕ, _≤_}
 use Rattle.trits.specs.Planes.{tritAt}

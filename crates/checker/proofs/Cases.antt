@@ -88,7 +88,7 @@ other : checkPackedRefusal (packedCheckOf (held 2) 8 [] [] [] [] [] []) ≡ 22
 unfolding checkPackedRefusal first callRefusalUnder soundUnder numbersFitUnder
 other = refl
 
--- a key number above the range is out of range in a state, and another number where it is asked for: that of 7 and 2 to the power 32
+-- a key number above its range is 1 in a state, and 22 where it is asked for: 7 and 2 to the power 32, under key 7
 above : checkPackedRefusal (packedCheckOf (record { begun = 1; number = 4294967296; n = 4; k = 2; w = 4; rows = 1 }) 8 [] [] [] [] [] []) ≡ 1
 unfolding checkPackedRefusal first callRefusalUnder soundUnder numbersFitUnder
 above = refl

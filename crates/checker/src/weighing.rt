@@ -148,7 +148,8 @@ pub fn weigh(
     work_ones: &mut [u64],
     work_twos: &mut [u64],
 ) -> Counts
-    requires { ⌜ ForWeigh held (now ones) (now twos) (now «y_ones») (now «y_twos») (now «s_ones») (now «s_twos») (now «work_ones») (now «work_twos») ⌝ }
+    requires { ⌜ ForWeigh held (now ones) (now twos) (now «y_ones») (now «y_twos») (now «s_ones») (now «s_twos»)
+        (now «work_ones») (now «work_twos») ⌝ }
     ensures { λ r. ⌜ r ≡ heldCounts held (now (ones .entry)) (now (twos .entry)) (tritAt (now («y_ones» .entry)) (now («y_twos» .entry)))
         (tritAt (now («s_ones» .entry)) (now («s_twos» .entry))) ⌝ }
 {

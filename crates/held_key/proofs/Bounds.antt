@@ -1,4 +1,4 @@
--- A key number that is below two bounds is taken alike under both: at a beginning, in a state, by a row (request C-15). Assumes nothing.
+-- A key number that is above neither of two bounds is taken alike under both: at a beginning, in a state, at a row (request C-15). Assumes nothing.
 use mathlib.Core.Path.{_≡_}
 use mathlib.Core.Bool.{_&&_, cond}
 use mathlib.Core.List.{List, []}

@@ -8,12 +8,14 @@ use Rattle.trits.specs.Trit.{Trit, number, t0, t1, t2, addT, negT, mulT, subT, 
 use Rattle.trits.proofs.Arithmetic.{at, every, eqT, law1, law2, law3, add-zero-r, add-comm, add-assoc, mul-comm, mul-assoc, mul-add, mul-zero}
 
 -- an equation in four trits
-pub law4 : (f g : Trit → Trit → Trit → Trit → Trit) → T (every (λ a. every (λ x. every (λ y. every (λ z. eqT (f a x y z) (g a x y z)))))) → (a x y z : Trit)
+pub law4 : (f g : Trit → Trit → Trit → Trit → Trit) → T (every (λ a. every (λ x. every (λ y. every (λ z. eqT (f a x y z) (g a x y z))))))
+    → (a x y z : Trit)
     → f a x y z ≡ g a x y z
 law4 f g h a = law3 (f a) (g a) (at (λ a. every (λ x. every (λ y. every (λ z. eqT (f a x y z) (g a x y z))))) h a)
 
 -- a test of four trits
-pub test4 : (p : Trit → Trit → Trit → Trit → Bool) → T (every (λ a. every (λ x. every (λ y. every (λ z. p a x y z))))) → (a x y z : Trit) → T (p a x y z)
+pub test4 : (p : Trit → Trit → Trit → Trit → Bool) → T (every (λ a. every (λ x. every (λ y. every (λ z. p a x y z)))))
+    → (a x y z : Trit) → T (p a x y z)
 test4 p h a x y z =
     at (p a x y) (at (λ y. every (p a x y)) (at (λ x. every (λ y. every (p a x y))) (at (λ a. every (λ x. every (λ y. every (p a x y)))) h a) x) y) z
 

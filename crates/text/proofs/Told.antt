@@ -79,7 +79,8 @@ module _ (line : List ℕ) (b c d e : ℕ) (h : 2 ≤ length line) (hb : b ≡ 2
           field-more line 2 b hb h nb
           ∙ ap (λ (x : List (List ℕ)). part 2 b line ∷ x) (
           field-more line (b + 1) c hc (field-room line 2 b hb h nb) nc
-          ∙ ap (λ (x : List (List ℕ)). part (b + 1) c line ∷ x) (field-last line (c + 1) d hd (field-room line (b + 1) c hc (field-room line 2 b hb h nb) nc) z)
+          ∙ ap (λ (x : List (List ℕ)). part (b + 1) c line ∷ x)
+          (field-last line (c + 1) d hd (field-room line (b + 1) c hc (field-room line 2 b hb h nb) nc) z)
           )
           )
 
@@ -182,7 +183,8 @@ module _ (line : List ℕ) (b : ℕ) (h : 2 ≤ length line) (hb : b ≡ 2 + bef
   unfolding oneField bounded
   row-more nb =
       let q = some-part 9 (drop (b + 1) line) in
-      sym (ap (λ (x : List (List ℕ)). bounded (oneField rowOf x)) (field-more line 2 b hb h nb ∙ ap (λ (x : List (List ℕ)). part 2 b line ∷ x) (q .2)))
+      sym (ap (λ (x : List (List ℕ)). bounded (oneField rowOf x))
+      (field-more line 2 b hb h nb ∙ ap (λ (x : List (List ℕ)). part 2 b line ∷ x) (q .2)))
 
   pub row-told : b ≡ length line → isDigits (part 2 (length line) line) ≡ true
       → rowLine (part 2 (length line) line) ≡ bounded (oneField rowOf (fields (drop 2 line)))
@@ -207,7 +209,8 @@ module _ (most : ℕ) (line : List ℕ) (e : ℕ) (he : e ≡ 0 + before 9 (drop
   unfolding formOf bounded
   form-length h = by (ℕ-discrete e (length line))
     where
-      out : (x : List ℕ) (rest : List (List ℕ)) → (length x ≡ 1 → ⊥) → fields line ≡ x ∷ rest → noForm ≡ bounded (formOf most (fields line))
+      out : (x : List ℕ) (rest : List (List ℕ)) → (length x ≡ 1 → ⊥) → fields line ≡ x ∷ rest
+          → noForm ≡ bounded (formOf most (fields line))
       out x rest f q = rw (q, other-length 80 x f, other-length 75 x f, other-length 83 x f)
 
       by : Dec (e ≡ length line) → noForm ≡ bounded (formOf most (fields line))

@@ -1,4 +1,4 @@
--- A line whose key number, and a held key whose number, are below two bounds: printed and kept alike under both (request C-15). Assumes nothing.
+-- A line prints alike and leaves alike under two bounds, if neither its key number nor the held one is above them (request C-15). Assumes nothing.
 use mathlib.Core.Path.{_≡_, refl, ap}
 use mathlib.Core.Bool.{Bool, true, false, cond}
 use mathlib.Core.List.{List}
@@ -52,7 +52,7 @@ module _ (a b : ℕ) (kept : Holding) (ka : kept .held .number ≤ a) (kb : kept
   kept-either (rowLine digits) la lb = kept-row-either digits
   kept-either (signLine number formula y s) la lb = refl
 
--- the held key number is that of a P line or was held before, so that it stays below a bound that both are below
+-- the held key number is that of a P line or was held before, so it does not come to be above a bound that neither is above
 module _ (most : ℕ) (kept : Holding) (z : kept .held .number ≤ most) where
   exit-number : (refusal : ℕ) (h : Held) → h .number ≤ most → atExit refusal h (kept .held) .number ≤ most
   exit-number refusal h y = by (eqb refusal 0)

@@ -94,7 +94,8 @@ module _ (h : Held) (ones twos : List ℕ) {p q : List ℕ} (ep : p ≡ keyPart 
     unfolding digitsRefusalUnder
     row-refusal = λ i. storeRefusal (storeOf h (ep i) (eq i) (ex i) (ey i))
 
-    pub row-kept : {g : Held} {o t u v : List ℕ} → g ≡ storeHeld (storeOf h p q x y) → o ≡ storeOnes (storeOf h p q x y) → t ≡ storeTwos (storeOf h p q x y)
+    pub row-kept : {g : Held} {o t u v : List ℕ} → g ≡ storeHeld (storeOf h p q x y) → o ≡ storeOnes (storeOf h p q x y)
+        → t ≡ storeTwos (storeOf h p q x y)
         → u ≡ afterKey h ones → v ≡ afterKey h twos → holding g (o ++ u) (t ++ v) ≡ rowKept (holding h ones twos) digits
     unfolding rowKeptUnder
     row-kept {g} {o} {t} {u} {v} eg eo et eu ev =

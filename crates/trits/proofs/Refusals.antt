@@ -101,7 +101,8 @@ row-ended ones twos m e lo lt =
     past-zero ones twos m (lt ∙ sym lo) (sym (one-row-past ones twos m lo lt) ∙ planes-passed ones twos 1 m e .1)
 
 -- the planes of a vector that is 0 from m on are not refused
-pub vector-passes : (v : ℕ → Trit) (m : ℕ) → ((i : ℕ) → m ≤ i → v i ≡ t0) → planesRefusal (onesOf v (wordsFor m)) (twosOf v (wordsFor m)) 1 m ≡ 0
+pub vector-passes : (v : ℕ → Trit) (m : ℕ) → ((i : ℕ) → m ≤ i → v i ≡ t0)
+    → planesRefusal (onesOf v (wordsFor m)) (twosOf v (wordsFor m)) 1 m ≡ 0
 unfolding planesRefusal
 vector-passes v m z =
     let n = wordsFor m in

@@ -164,7 +164,8 @@ unfolding dotV anyTo sumTo upTo bit fromBits bitAt tritAt tabulate onesOf twosOf
 hands-2111 = record { passed = refl; word = λ q h. by q (places-below q h) }
   where
     by : (q : ℕ) → (q ≡ 0) ⊎ (q ≡ 1) ⊎ (q ≡ 2) ⊎ (q ≡ 3)
-        → tritAt (wordExit (sizes4 0 4) (draw4 start1 0 1 1 0) .ones) (wordExit (sizes4 0 4) (draw4 start1 0 1 1 0) .twos) q ≡ vector (2 ∷ 1 ∷ 1 ∷ 1 ∷ []) q
+        → tritAt (wordExit (sizes4 0 4) (draw4 start1 0 1 1 0) .ones) (wordExit (sizes4 0 4) (draw4 start1 0 1 1 0) .twos) q
+        ≡ vector (2 ∷ 1 ∷ 1 ∷ 1 ∷ []) q
     by q (inl z) = rw z refl
     by q (inr (inl z)) = rw z refl
     by q (inr (inr (inl z))) = rw z refl

@@ -5,11 +5,11 @@
 static uint64_t planes_refusal(const uint64_t *ones, const uint64_t *twos, size_t rows, size_t m) {
     size_t w = WAVE_WORDS(m);
     uint64_t both = 0, past = 0;
+    if (m % 64)
+        for (size_t last = w - 1; last < rows * w; last += w) past |= ones[last] | twos[last];
+    if (past >> m % 64) return 4;
     for (size_t i = 0; i < rows * w; i++) both |= ones[i] & twos[i];
-    if (both) return 3;
-    if (m % 64 == 0) return 0;
-    for (size_t last = w - 1; last < rows * w; last += w) past |= ones[last] | twos[last];
-    return past >> m % 64 ? 4 : 0;
+    return both ? 3 : 0;
 }
 
 static uint64_t bytes_refusal(size_t m, const uint8_t *bytes, size_t n) {

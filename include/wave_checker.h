@@ -17,6 +17,10 @@
  * packed bytes, 20 no key begun or rows missing at a check, 21 a row offered to a whole key, 22 another key number than
  * the held one. A call tests in the order given with it and returns the first refusal that applies; a refused call
  * leaves the state and every buffer as they were.
+ *
+ * Within one buffer the lower number comes first, but for planes, where 4 comes before 3: a row that was cut wrongly is
+ * told as that, even where its bits past the length stand in both planes. Each is looked for in the whole buffer, in
+ * every row of a key, before the next.
  */
 #ifndef WAVE_CHECKER_H
 #define WAVE_CHECKER_H
@@ -75,7 +79,7 @@ wave_stored wave_store_row(wave_held held, uint64_t *ones, size_t ones_words, ui
  * is not the held key's is 22, however large. work_ones and work_twos are working space of WAVE_WORDS(n-k) words each;
  * they may hold anything, are untouched after a refusal, and are all zero after every verdict.
  * Order of refusals: 20 (no key begun), 1 (a state out of its ranges), 20 (rows missing), 22, 2, then the contents of
- * the key (3, then 4, each over all of it), of y (5, then 15) and of s (5, then 15).
+ * the key (4, then 3, each over all of it), of y (5, then 15) and of s (5, then 15).
  */
 wave_checked wave_check(wave_held held, uint64_t number, const uint64_t *ones, size_t ones_words,
                         const uint64_t *twos, size_t twos_words, const uint8_t *y, size_t y_bytes,
@@ -84,7 +88,7 @@ wave_checked wave_check(wave_held held, uint64_t number, const uint64_t *ones, s
 
 /*
  * Packs a row of m trits (0 to 16,384): planes of WAVE_WORDS(m) words each become WAVE_BYTES(m) bytes.
- * Order of refusals: 1, 2, 3, 4. bytes stays after a refusal.
+ * Order of refusals: 1, 2, 4, 3. bytes stays after a refusal.
  */
 uint64_t wave_pack(size_t m, const uint64_t *ones, size_t ones_words, const uint64_t *twos, size_t twos_words,
                    uint8_t *bytes, size_t bytes_count);

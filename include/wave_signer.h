@@ -32,6 +32,10 @@
  * first r_U + g places of the U order lack rank in hu, 14 the weight of the word is not w. A call tests in the order
  * given with it and answers with the first refusal that applies; a refused call leaves every buffer as it was, but for
  * the working space after 9 and above.
+ *
+ * Within one buffer the lower number comes first, but for planes, where 4 comes before 3: a matrix that was cut wrongly
+ * is told as that, even where its bits past the length stand in both planes. Each is looked for in the whole buffer, in
+ * every row, before the next; 3 in one buffer comes before 4 in a later one.
  */
 #ifndef WAVE_SIGNER_H
 #define WAVE_SIGNER_H
@@ -69,8 +73,8 @@ typedef struct { uint64_t n, ku, kv, g, w; } wave_sizes;
 /*
  * Builds the key of the secret (hu, hv, b, c) by the starting order start. p becomes the final order and the key its k
  * rows of n-k trits, bits past a row's length 0; both are written whole, and what they held before means nothing.
- * Order of refusals: 1, 2, then the contents of hu (3, then 4, each over all of it), of hv (3, 4), of b (3, 4), of c
- * (3, 4, then 8 a zero in c) and of start (7), then 9, 10. p and the key stay after a refusal.
+ * Order of refusals: 1, 2, then the contents of hu (4, then 3, each over all of it), of hv (4, 3), of b (4, 3), of c
+ * (4, 3, then 8 a zero in c) and of start (7), then 9, 10. p and the key stay after a refusal.
  * The working space may hold anything; it is untouched after 1 to 8, and all zero after 9, 10 and 0.
  * What is only read (the secret and start) stays after every call.
  */
@@ -87,8 +91,8 @@ uint64_t wave_build(wave_sizes sizes, const uint64_t *hu_ones, size_t hu_ones_wo
  * One draw for the syndrome y under a secret and the p of its key, by supplied choices: an order and kv trits for V, an
  * order and ku values for U, those from index g on not 0. word becomes the n trits of the word in public places, and s
  * its last k trits, the signature; bits past their lengths are 0, and what they held before means nothing.
- * Order of refusals: 1, 2, then the contents of hu, hv and b (3, then 4, each over all of the buffer), of c (3, 4, 8),
- * of p (7), of y (3, 4), of v_order (7), of v (3, 4), of u_order (7) and of u (3, 4, then 8 a zero from index g on,
+ * Order of refusals: 1, 2, then the contents of hu, hv and b (4, then 3, each over all of the buffer), of c (4, 3, 8),
+ * of p (7), of y (4, 3), of v_order (7), of v (4, 3), of u_order (7) and of u (4, 3, then 8 a zero from index g on,
  * used or not), then 12, 13, 14. word and s stay after a refusal. After 12, 13 and 14 other choices may succeed.
  * The working space may hold anything; it is untouched after 1 to 8, and all zero after 12, 13, 14 and 0.
  * What is only read (the secret, p, y and the choices) stays after every call.

@@ -302,18 +302,24 @@ static void checks_refused(void)
     c = right(&m); c.wt--; refused_check(&m, m.held, 7, c, 2);
 
     c = right(&m);
-    /* 3 in any word, the bits past the length too; over the whole buffer before 4 */
+    /* a bit in both planes, in any word: 3, or 4 where it is past the length; a row's third word has two bits of it */
     for (size_t q = 0; q < m.ones.count; q += 11) {
         uint64_t bit = (uint64_t)1 << (q % 64);
         words(&m.ones)[q] |= bit; words(&m.twos)[q] |= bit;
-        refused_check(&m, m.held, 7, c, 3);
+        refused_check(&m, m.held, 7, c, q % 3 == 2 && q % 64 >= 2 ? 4 : 3);
         words(&m.ones)[q] ^= bit; words(&m.twos)[q] ^= bit;
     }
-    words(&m.ones)[2] |= (uint64_t)1 << 63;
-    refused_check(&m, m.held, 7, c, 4);
-    words(&m.ones)[209] |= 1; words(&m.twos)[209] |= 1;
-    refused_check(&m, m.held, 7, c, 3);
-    words(&m.ones)[209] = 0; words(&m.twos)[209] = 0; words(&m.ones)[2] = 0;
+    /* 4 in one row, of the first, two others and the last, beside 3 in another row */
+    for (size_t q = 2; q < m.ones.count; q += 69) {
+        size_t other = q == 2 ? 209 : 0;
+        words(&m.ones)[q] |= (uint64_t)1 << 63;
+        refused_check(&m, m.held, 7, c, 4);
+        words(&m.ones)[other] |= 1; words(&m.twos)[other] |= 1;
+        refused_check(&m, m.held, 7, c, 4);
+        words(&m.ones)[q] = 0;
+        refused_check(&m, m.held, 7, c, 3);
+        words(&m.ones)[other] = 0; words(&m.twos)[other] = 0;
+    }
     verdict(&m, 0, 0, 0);
     /* 4 in each plane: a row of 130 trits uses two bits of its third word */
     for (size_t i = 0; i < 70; i += 23) {
@@ -476,10 +482,15 @@ static void packings(void)
     EXPECT(wave_pack(5, words(&ones), 1, words(&twos), 1, bytes(&packed), 0) == 2);
     EXPECT(wave_pack(5, words(&ones), 1, words(&twos), 1, bytes(&packed), 2) == 2);
     EXPECT(all_same());
+    /* 4 before 3, with the same bit or another; each alone */
     words(&ones)[0] = 1; words(&twos)[0] = 33;
-    EXPECT(wave_pack(5, words(&ones), 1, words(&twos), 1, bytes(&packed), 1) == 3);
+    EXPECT(wave_pack(5, words(&ones), 1, words(&twos), 1, bytes(&packed), 1) == 4);
+    words(&ones)[0] = 32; words(&twos)[0] = 32;
+    EXPECT(wave_pack(5, words(&ones), 1, words(&twos), 1, bytes(&packed), 1) == 4);
     words(&ones)[0] = 0;
     EXPECT(wave_pack(5, words(&ones), 1, words(&twos), 1, bytes(&packed), 1) == 4);
+    words(&ones)[0] = 1; words(&twos)[0] = 1;
+    EXPECT(wave_pack(5, words(&ones), 1, words(&twos), 1, bytes(&packed), 1) == 3);
     EXPECT(bytes(&packed)[0] == 243 && all_guarded());
     take_back_all();
 

@@ -2,7 +2,7 @@
 """What the program `cases` must print, worked out from the paper's rules on lists of trits and on whole numbers; it shares nothing with the crates.
 
 A packed byte is t0 + 3 t1 + 9 t2 + 27 t3 + 81 t4, so its trits come by dividing by 3 five times. A plane is one whole number whose bit i is place i,
-cut into words of 64 bits. Each call tests in the paper's order: 1, every length (2), then the contents (3, 4 of planes; 5, 15 of packed bytes) or the
+cut into words of 64 bits. Each call tests in the paper's order: 1, every length (2), then the contents (4, 3 of planes; 5, 15 of packed bytes) or the
 stream's end (6)."""
 
 
@@ -37,10 +37,10 @@ def pack(m, ones, twos, out):
         code = 1
     elif len(ones) != words_for(m) or len(twos) != words_for(m) or len(out) != bytes_for(m):
         code = 2
-    elif a & b:
-        code = 3
     elif (a | b) >> m:
         code = 4
+    elif a & b:
+        code = 3
     else:
         code = 0
         trits = [(a >> i & 1) + 2 * (b >> i & 1) for i in range(m)] + [0] * 4

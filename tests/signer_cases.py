@@ -2,7 +2,7 @@
 """Worked cases of the build and of the draw, and what the program `sign_lines` must print: worked out from the paper's rules on lists of trits; it shares nothing with the crates.
 
 A plane is one whole number whose bit i is place i, cut into words of 64 bits; a row begins a new word. Each call tests in the paper's order: 1, every
-length (2), the contents buffer after buffer (3, 4, 8, 7), then 9 and 10, or 12, 13 and 14.
+length (2), the contents buffer after buffer (4, 3, 8, 7), then 9 and 10, or 12, 13 and 14.
 
 signer_cases.py calls LIBRARY   runs each case by wave_build and wave_draw of this shared object and holds the answer and every buffer to the rules;
                                 at n = 4 it runs all choices, and holds the words that were released to those that meet the terms of demand 3
@@ -38,14 +38,12 @@ def planes(rows):
 
 
 def planes_refusal(ones, twos, rows, m):
-    if any(a & b for a, b in zip(ones, twos)):
-        return 3
     w = words_for(m)
     for i in range(rows):
         for ws in (ones, twos):
             if sum(x << 64 * j for j, x in enumerate(ws[w * i:w * i + w])) >> m:
                 return 4
-    return 0
+    return 3 if any(a & b for a, b in zip(ones, twos)) else 0
 
 
 # ---- linear algebra modulo 3
@@ -385,6 +383,13 @@ def build_cases():
     four(SMALL, PAPER, [0, 1, 2, 2])
     four(SMALL, PAPER, [0, 1, 2, 4])
     four(SMALL, [[12], [8]] + PAPER[2:], FIRST)
+    # 4 before 3 in one buffer, with one bit, two bits, and bits of two rows; but 3 in a buffer before 4 in a later one
+    four(SMALL, [[4], [4]] + PAPER[2:], FIRST)
+    four(SMALL, [[1], [5]] + PAPER[2:], FIRST)
+    four(SMALL, [[1], [1], [4], [0]] + PAPER[4:], FIRST)
+    four(SMALL, [[4], [0], [1], [1]] + PAPER[4:], FIRST)
+    for hu in ([[1, 8], [1, 0]], [[8, 1], [0, 1]], [[0, 1], [8, 1]], [[1, 0], [1, 8]], [[1, 1], [1, 0]], [[0, 0], [8, 0]]):
+        call_build((6, 1, 1, 0, 3), hu + [[1, 2], [0, 0], [3], [0], [7], [0]], [0, 1, 2, 3, 4, 5], [9] * 6, [[9] * 2, [8] * 2], [[7] * 8, [6] * 8])
     four(SMALL, [[3], [4], [3], [2], [2], [0], [1], [0]], [0, 0, 2, 3])
     four(SMALL, [[0], [0]] + PAPER[2:], FIRST)
     four(SMALL, PAPER[:2] + [[0], [0]] + PAPER[4:], FIRST)
@@ -432,6 +437,11 @@ def draw_cases():
         small_draw(SMALL, *altered(good, at, bad))
     small_draw(SMALL, *altered(altered(good, 6, [[0], [0]]), 3, [1, 1]))
     small_draw(SMALL, *altered(altered(good, 1, [0, 0, 0, 0]), 2, [[4], [4]]))
+    # 4 before 3 in each buffer; but 3 in a buffer before 4 in a later one
+    for at, bad in ((0, [[5], [1]] + PAPER[2:]), (0, PAPER[:6] + [[1], [5]]), (2, [[5], [1]]), (2, [[4], [4]]), (4, [[3], [1]]), (6, [[2], [2]]), (6, [[1], [3]])):
+        small_draw(SMALL, *altered(good, at, bad))
+    small_draw(SMALL, *altered(altered(good, 2, [[1], [1]]), 4, [[2], [0]]))
+    small_draw(SMALL, *altered(altered(good, 4, [[1], [1]]), 6, [[2], [2]]))
     # the first part lacks rank in V, in U, and in both
     small_draw(SMALL, PAPER[:2] + [[2], [0]] + PAPER[4:], *good[1:])
     small_draw(SMALL, [[2], [0]] + PAPER[2:], *good[1:])

@@ -200,17 +200,19 @@ static void lengths(call *c, uint64_t (*run)(call *), int last, int work)
     }
 }
 
-/* a bit in both planes, also past the length, before a bit past the length; m trits in each row */
+/* a bit past the length, alone, in both planes, and beside a bit in both planes; then that bit alone */
 static void planes(call *c, uint64_t (*run)(call *), int plane, int work)
 {
     uint64_t *o = words(c->l + plane), *t = words(c->l + plane + 1), a = o[0], b = t[0];
     o[0] |= (uint64_t)1 << 63;
     refused(c, run, work, 4);
     t[0] |= (uint64_t)1 << 63;
-    refused(c, run, work, 3);
+    refused(c, run, work, 4);
     o[0] = a;
     refused(c, run, work, 4);
-    t[0] = b;
+    o[0] |= 1;
+    t[0] |= 1;
+    refused(c, run, work, 4);
     o[0] = t[0] = 1;
     refused(c, run, work, 3);
     o[0] = a;
@@ -246,6 +248,9 @@ static void builds_refused(void)
     refused(&c, build, BW1, 4);
     words(c.l + HV1)[0] = words(c.l + HV2)[0] = 1;
     refused(&c, build, BW1, 3);
+    words(c.l + HU1)[0] = 5;
+    words(c.l + HU2)[0] = 1;
+    refused(&c, build, BW1, 4);
     c.count[BW2]--;
     refused(&c, build, BW1, 2);
     take_back_all();
@@ -309,6 +314,10 @@ static void draws_refused(void)
     refused(&c, draw, DW1, 7);
     put_digits(&c, C1, 2, "01");
     refused(&c, draw, DW1, 8);
+    words(c.l + B1)[0] = words(c.l + B2)[0] = 5;
+    refused(&c, draw, DW1, 4);
+    words(c.l + HV1)[0] = words(c.l + HV2)[0] = 1;
+    refused(&c, draw, DW1, 3);
     words(c.l + HU1)[0] |= 4;
     refused(&c, draw, DW1, 4);
     c.count[E1]++;

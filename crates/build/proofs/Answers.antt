@@ -18,7 +18,7 @@ use Rattle.scheme.specs.Sizes.{places, dim, sizesFit, half, ru, rv}
 use Rattle.scheme.specs.Secret.{Secret}
 use Rattle.scheme.specs.Build.{buildRefusal}
 use Rattle.calls.specs.Lent.{secretOf, pairDiffers, secretRefusal}
-use Rattle.calls.specs.BuildCall.{BuildCall, keyRowWords, buildWorkWords, keyDiffers, buildLengthsDiffer, buildAnswer}
+use Rattle.calls.specs.BuildCall.{BuildCall, keyRowWords, buildWorkWords, keyDiffers, buildLengthsDiffer, buildAnswer, buildAnswerUnder}
 use Rattle.calls.proofs.Secrets.{pair-same, differs, Lengths, secret-lengths, secret-leaves}
 
 -- ---- the answer
@@ -29,17 +29,17 @@ contents z i = first (secretRefusal z (i .secret)) (demand (isOrder (places z) (
 
 module _ (z : Sizes) (i : BuildCall) where
   pub answer-size : sizesFit z ≡ false → 1 ≡ buildAnswer z i
-  unfolding buildAnswer
+  unfolding buildAnswerUnder
   answer-size e = rw e
 
   module _ (e : sizesFit z ≡ true) where
     pub answer-length : buildLengthsDiffer z i ≡ true → 2 ≡ buildAnswer z i
-    unfolding buildAnswer
+    unfolding buildAnswerUnder
     answer-length f = rw (e, f)
 
     module _ (f : buildLengthsDiffer z i ≡ false) where
       chain : first (secretRefusal z (i .secret)) (demand (isOrder (places z) (i .start)) 7 (buildRefusal z (secretOf z (i .secret)))) ≡ buildAnswer z i
-      unfolding buildAnswer
+      unfolding buildAnswerUnder
       chain = rw (e, f)
 
       pub answer-contents : {x : ℕ} → x ≡ contents z i → (x ≡ 0 → ⊥) → x ≡ buildAnswer z i

@@ -3,3 +3,4 @@ pub mod Marks
 pub mod Bounds
 pub mod Exits
 pub mod Secrets
+pub mod Stages

@@ -17,7 +17,7 @@ use Rattle.matrix.specs.Linear.{Vector}
 use Rattle.matrix.proofs.Field.{not-false}
 use Rattle.scheme.specs.declared.sizes.Sizes.{Sizes}
 use Rattle.scheme.specs.Sizes.{half, ru, rv}
-use Rattle.calls.specs.Lent.{Planes, halfWords, pairDiffers, secretDiffers, secretRefusal}
+use Rattle.calls.specs.Lent.{Planes, halfWords, pairDiffers, secretDiffers, secretRefusal, secretRefusalUnder}
 use Rattle.calls.specs.Steps.{SecretLengths, Readable}
 use Rattle.calls.proofs.Marks.{isZero}
 use Rattle.scheme.specs.Secret.{hasZero}
@@ -82,38 +82,38 @@ module _ (z : Sizes) (i : Planes) where
 
   -- each refusal of a secret leaves the working space
   pub secret-leaves : Leaves (secretRefusal z i)
-  unfolding secretRefusal
+  unfolding secretRefusalUnder
   secret-leaves =
       leaves-first _ _ (leaves-planes _ _ _ _) (leaves-first _ _ (leaves-planes _ _ _ _)
       (leaves-first _ _ (leaves-planes _ _ _ _) (leaves-first _ _ (leaves-planes _ _ _ _) (leaves-refuse zeroInC 8 0 refl leaves-none))))
 
 module _ (z : Sizes) (i : Planes) {x : ℕ} (a : x ≡ refusalHU z i) where
   pub secret-hu : (x ≡ 0 → ⊥) → x ≡ secretRefusal z i
-  unfolding secretRefusal
+  unfolding secretRefusalUnder
   secret-hu f = first-stops _ a f
 
   module _ (f : x ≡ 0) {y : ℕ} (b : y ≡ refusalHV z i) where
     pub secret-hv : (y ≡ 0 → ⊥) → y ≡ secretRefusal z i
-    unfolding secretRefusal
+    unfolding secretRefusalUnder
     secret-hv g = first-goes a f (first-stops _ b g)
 
     module _ (g : y ≡ 0) {u : ℕ} (c : u ≡ refusalB z i) where
       pub secret-b : (u ≡ 0 → ⊥) → u ≡ secretRefusal z i
-      unfolding secretRefusal
+      unfolding secretRefusalUnder
       secret-b h = first-goes a f (first-goes b g (first-stops _ c h))
 
       module _ (h : u ≡ 0) {v : ℕ} (d : v ≡ refusalC z i) where
         pub secret-c : (v ≡ 0 → ⊥) → v ≡ secretRefusal z i
-        unfolding secretRefusal
+        unfolding secretRefusalUnder
         secret-c k = first-goes a f (first-goes b g (first-goes c h (first-stops _ d k)))
 
         module _ (k : v ≡ 0) where
           pub secret-zero : zeroInC z i ≡ true → 8 ≡ secretRefusal z i
-          unfolding secretRefusal
+          unfolding secretRefusalUnder
           secret-zero e = first-goes a f (first-goes b g (first-goes c h (first-goes d k (rw e))))
 
           pub secret-good : zeroInC z i ≡ false → 0 ≡ secretRefusal z i
-          unfolding secretRefusal
+          unfolding secretRefusalUnder
           secret-good e = first-goes a f (first-goes b g (first-goes c h (first-goes d k (rw e))))
 
 -- ---- contents that are not refused
@@ -124,7 +124,7 @@ pub readable : (z : Sizes) (i : Planes)
     → ((j : ℕ) → Fits w64 (getD (i .hv .twos) j 0))
     → ((j : ℕ) → Fits w64 (getD (i .b .ones) j 0)) → ((j : ℕ) → Fits w64 (getD (i .b .twos) j 0)) → ((j : ℕ) → Fits w64 (getD (i .c .ones) j 0))
     → ((j : ℕ) → Fits w64 (getD (i .c .twos) j 0)) → Readable z i
-unfolding secretRefusal
+unfolding secretRefusalUnder
 readable z i l e f1 f2 f3 f4 f5 f6 f7 f8 =
     let A = passed-first (refusalHU z i) _ e in
     let B = passed-first (refusalHV z i) _ (A .1) in

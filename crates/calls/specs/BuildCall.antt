@@ -7,13 +7,13 @@ use lib.ListN.{length}
 use Rattle.trits.specs.Trit.{upTo}
 use Rattle.trits.specs.Planes.{Pair, pairOf, wordsFor, onesOf, twosOf}
 use Rattle.trits.specs.Rows.{rowsOf}
-use Rattle.trits.specs.Refusal.{refuse, demand, first, atExit, pairAtExit, spacePairExit}
+use Rattle.trits.specs.Refusal.{refuse, demand, first, atExit, pairAtExit, spacePairExit, PlanesTest, planesRefusal}
 use Rattle.matrix.specs.Orders.{isOrder}
 use Rattle.scheme.specs.declared.sizes.Sizes.{Sizes}
 use Rattle.scheme.specs.Sizes.{places, dim, codim, sizesFit}
 use Rattle.scheme.specs.Secret.{Secret}
 use Rattle.scheme.specs.Build.{buildRefusal, keyOrder, keyRow}
-use Rattle.calls.specs.Lent.{Planes, halfWords, secretOf, pairDiffers, secretDiffers, secretRefusal}
+use Rattle.calls.specs.Lent.{Planes, halfWords, secretOf, pairDiffers, secretDiffers, secretRefusalUnder}
 
 -- ---- what is lent
 
@@ -50,13 +50,16 @@ buildLengthsDiffer z i =
     || keyDiffers z (length (i .start)) (length (i .p)) (length (i .key .ones)) (length (i .key .twos)) (length (i .work .ones)) (length (i .work .twos))
 
 -- ---- the answer: 1, every length, the contents of the secret and of the starting order, then 9 and 10
-unfoldable pub buildAnswer : Sizes → BuildCall → ℕ
-buildAnswer z i =
+unfoldable pub buildAnswerUnder : PlanesTest → Sizes → BuildCall → ℕ
+buildAnswerUnder test z i =
     demand (sizesFit z) 1
     (refuse (buildLengthsDiffer z i) 2
-    (first (secretRefusal z (i .secret))
+    (first (secretRefusalUnder test z (i .secret))
     (demand (isOrder (places z) (i .start)) 7
     (buildRefusal z (secretOf z (i .secret))))))
+
+abbrev pub buildAnswer : Sizes → BuildCall → ℕ
+buildAnswer z i = buildAnswerUnder planesRefusal z i
 
 -- ---- each lent buffer at exit
 

@@ -6,13 +6,13 @@ use Prim.Native.Nat.{ℕ, _+_, _-_, _*_}
 use lib.Dec.{eqb, ltb}
 use lib.ListN.{length}
 use Rattle.trits.specs.Planes.{Pair, pairOf, rowPair, tritAt, wordsFor}
-use Rattle.trits.specs.Refusal.{refuse, demand, first, pairAtExit, spacePairExit, planesRefusal}
+use Rattle.trits.specs.Refusal.{refuse, demand, first, pairAtExit, spacePairExit, PlanesTest, planesRefusal}
 use Rattle.matrix.specs.Linear.{Vector}
 use Rattle.matrix.specs.Orders.{isOrder}
 use Rattle.scheme.specs.declared.sizes.Sizes.{Sizes}
 use Rattle.scheme.specs.Sizes.{half, places, dim, ru, rv, codim, gapU, sizesFit}
 use Rattle.scheme.specs.Draw.{Choices, drawn, drawRefusal, signature}
-use Rattle.calls.specs.Lent.{Planes, halfWords, secretOf, pairDiffers, secretDiffers, secretRefusal}
+use Rattle.calls.specs.Lent.{Planes, halfWords, secretOf, pairDiffers, secretDiffers, secretRefusalUnder}
 use Rattle.scheme.specs.Secret.{hasZero}
 
 -- ---- what is lent
@@ -84,28 +84,34 @@ drawLengthsDiffer z i =
     (length (i .orderU)) (length (i .u .ones)) (length (i .u .twos))
     (length (i .word .ones)) (length (i .word .twos)) (length (i .s .ones)) (length (i .s .twos)) (length (i .work .ones)) (length (i .work .twos))
 
--- ---- 3, 4, 7 and 8: the contents, buffer after buffer
+-- ---- 4, 3, 7 and 8: the contents, buffer after buffer
 
 -- after the secret: p, y, the V order, the V trits, the U order, the U values, of which those from g on may not be 0, used or not
-unfoldable pub choicesRefusal : Sizes → DrawCall → ℕ
-choicesRefusal z i =
+unfoldable pub choicesRefusalUnder : PlanesTest → Sizes → DrawCall → ℕ
+choicesRefusalUnder test z i =
     demand (isOrder (places z) (i .p)) 7
-    (first (planesRefusal (i .y .ones) (i .y .twos) 1 (codim z))
+    (first (test (i .y .ones) (i .y .twos) 1 (codim z))
     (demand (isOrder (half z) (i .orderV)) 7
-    (first (planesRefusal (i .v .ones) (i .v .twos) 1 (z .kv))
+    (first (test (i .v .ones) (i .v .twos) 1 (z .kv))
     (demand (isOrder (half z) (i .orderU)) 7
-    (first (planesRefusal (i .u .ones) (i .u .twos) 1 (z .ku))
+    (first (test (i .u .ones) (i .u .twos) 1 (z .ku))
     (refuse (hasZero (z .ku - gapU z) (λ j. tritAt (i .u .ones) (i .u .twos) (gapU z + j))) 8
     0))))))
 
+abbrev pub choicesRefusal : Sizes → DrawCall → ℕ
+choicesRefusal z i = choicesRefusalUnder planesRefusal z i
+
 -- ---- the answer: 1, every length, the contents, then 12, 13 and 14
-unfoldable pub drawAnswer : Sizes → DrawCall → ℕ
-drawAnswer z i =
+unfoldable pub drawAnswerUnder : PlanesTest → Sizes → DrawCall → ℕ
+drawAnswerUnder test z i =
     demand (sizesFit z) 1
     (refuse (drawLengthsDiffer z i) 2
-    (first (secretRefusal z (i .secret))
-    (first (choicesRefusal z i)
+    (first (secretRefusalUnder test z (i .secret))
+    (first (choicesRefusalUnder test z i)
     (drawRefusal z (secretOf z (i .secret)) (i .p) (syndromeOf i) (choicesOf i)))))
+
+abbrev pub drawAnswer : Sizes → DrawCall → ℕ
+drawAnswer z i = drawAnswerUnder planesRefusal z i
 
 -- ---- each lent buffer at exit
 

@@ -6,7 +6,7 @@ use Prim.Native.Nat.{ℕ, _*_}
 use lib.Dec.{eqb}
 use Rattle.trits.specs.Planes.{Pair, pairOf, tritAt, wordsFor}
 use Rattle.trits.specs.Rows.{matrixAt}
-use Rattle.trits.specs.Refusal.{refuse, first, planesRefusal}
+use Rattle.trits.specs.Refusal.{refuse, first, PlanesTest, planesRefusal}
 use Rattle.scheme.specs.declared.sizes.Sizes.{Sizes}
 use Rattle.scheme.specs.Sizes.{half, ru, rv}
 use Rattle.scheme.specs.Secret.{Secret, hasZero}
@@ -50,14 +50,18 @@ secretDiffers z hu1 hu2 hv1 hv2 b1 b2 c1 c2 =
     || (pairDiffers (halfWords z) b1 b2
     || pairDiffers (halfWords z) c1 c2))
 
--- ---- 3, 4 and 8: the contents, buffer after buffer
+-- ---- 4, 3 and 8: the contents, buffer after buffer
 
--- H_U, H_V, b, c: 3 before 4 in each, and 8 for c
-unfoldable pub secretRefusal : Sizes → Planes → ℕ
-secretRefusal z i =
-    first (planesRefusal (i .hu .ones) (i .hu .twos) (ru z) (half z))
-    (first (planesRefusal (i .hv .ones) (i .hv .twos) (rv z) (half z))
-    (first (planesRefusal (i .b .ones) (i .b .twos) 1 (half z))
-    (first (planesRefusal (i .c .ones) (i .c .twos) 1 (half z))
+-- H_U, H_V, b, c, whichever way a pair of planes is tested, and 8 for c
+unfoldable pub secretRefusalUnder : PlanesTest → Sizes → Planes → ℕ
+secretRefusalUnder test z i =
+    first (test (i .hu .ones) (i .hu .twos) (ru z) (half z))
+    (first (test (i .hv .ones) (i .hv .twos) (rv z) (half z))
+    (first (test (i .b .ones) (i .b .twos) 1 (half z))
+    (first (test (i .c .ones) (i .c .twos) 1 (half z))
     (refuse (hasZero (half z) (tritAt (i .c .ones) (i .c .twos))) 8
     0))))
+
+-- 4 before 3 in each
+abbrev pub secretRefusal : Sizes → Planes → ℕ
+secretRefusal z i = secretRefusalUnder planesRefusal z i

@@ -2,4 +2,5 @@
 pub mod Lent
 pub mod BuildCall
 pub mod DrawCall
+pub mod Stages
 pub mod Steps

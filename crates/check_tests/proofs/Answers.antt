@@ -18,8 +18,9 @@ use Rattle.packed.proofs.Turned.{leaves-packed}
 use Rattle.held_key.specs.declared.state.Held.{Held}
 use Rattle.held_key.specs.Held.{sound, rowTrits, rowWords, keyWords}
 use Rattle.check_tests.specs.declared.Checked.{Checked}
-use Rattle.check_tests.specs.Check.{Check, PackedCheck, callRefusal, callRefusalUnder, planesLengths, planesContents, packedLengths, packedContents}
-use Rattle.check_tests.specs.Check.{checkRefusal, checkRefusalUnder, checkPackedRefusal, answered}
+use Rattle.check_tests.specs.Check.{Check, PackedCheck, callRefusal, callRefusalUnder, planesLengths, planesContentsUnder, packedLengths}
+use Rattle.check_tests.specs.Check.{packedContentsUnder}
+use Rattle.check_tests.specs.Check.{checkRefusal, checkRefusalUnder, checkPackedRefusal, checkPackedRefusalUnder, answered}
 
 -- ---- the verdict
 
@@ -66,7 +67,7 @@ leaves-call h number a b d e =
     leaves-none)))))))
 
 pub leaves-check : (c : Check) → Leaves (checkRefusal c)
-unfolding checkRefusalUnder planesLengths planesContents
+unfolding checkRefusalUnder planesLengths planesContentsUnder
 leaves-check c =
     let h = c .held in
     leaves-first _ _ (leaves-call h (c .number) (length (c .ones)) (length (c .twos)) (length (c .workOnes)) (length (c .workTwos)))
@@ -80,7 +81,7 @@ leaves-check c =
     (leaves-first _ _ (leaves-planes (c .yOnes) (c .yTwos) 1 (rowTrits h)) (leaves-planes (c .sOnes) (c .sTwos) 1 (h .k)))))
 
 pub leaves-packed-check : (c : PackedCheck) → Leaves (checkPackedRefusal c)
-unfolding checkPackedRefusal packedLengths packedContents
+unfolding checkPackedRefusalUnder packedLengths packedContentsUnder
 leaves-packed-check c =
     let h = c .held in
     leaves-first _ _ (leaves-call h (c .number) (length (c .ones)) (length (c .twos)) (length (c .workOnes)) (length (c .workTwos)))

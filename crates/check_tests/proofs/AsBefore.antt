@@ -10,7 +10,7 @@ use Rattle.trits.proofs.Counting.{counts-weight}
 use Rattle.verdict.specs.Verdict.{fullCounts}
 use Rattle.held_key.specs.Held.{rowTrits}
 use Rattle.check_tests.specs.Check.{Check, PackedCheck, checkRefusal, checkPackedRefusal, heldCountsUnder, answered, checkAnswer, checkAnswerUnder}
-use Rattle.check_tests.specs.Check.{checkPackedAnswer}
+use Rattle.check_tests.specs.Check.{checkPackedAnswer, checkPackedAnswerUnder}
 use Rattle.check_tests.specs.AsBefore.{weightAlone, checkWord, checkPackedWord, checkBy, checkPackedBy, SameVerdict}
 
 -- an answer looks at the sum of its two numbers alone
@@ -25,7 +25,7 @@ unfolding checkAnswerUnder heldCountsUnder fullCounts
 check-counts-apart c = refl
 
 pub check-packed-counts-apart : (c : PackedCheck) → checkPackedAnswer c ≡ checkPackedBy countsV c
-unfolding checkPackedAnswer heldCountsUnder fullCounts
+unfolding checkPackedAnswerUnder heldCountsUnder fullCounts
 check-packed-counts-apart c = refl
 
 -- and as it was by the weight

@@ -3,3 +3,4 @@ pub mod Passed
 pub mod Answers
 pub mod AsBefore
 pub mod Bounds
+pub mod Stages

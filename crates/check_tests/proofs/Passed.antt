@@ -13,8 +13,9 @@ use Rattle.packed.specs.Packed.{bytesFor, packedRow, packedRefusal}
 use Rattle.packed.proofs.RoundTrip.{one-form}
 use Rattle.held_key.specs.declared.state.Held.{Held}
 use Rattle.held_key.specs.Held.{sound, rowTrits, rowWords, keyWords}
-use Rattle.check_tests.specs.Check.{Check, checkRefusal, checkRefusalUnder, PackedCheck, checkPackedRefusal}
-use Rattle.check_tests.specs.Check.{callRefusal, callRefusalUnder, planesLengths, planesContents, packedLengths, packedContents}
+use Rattle.check_tests.specs.Check.{Check, checkRefusal, checkRefusalUnder, PackedCheck, checkPackedRefusal, checkPackedRefusalUnder}
+use Rattle.check_tests.specs.Check.{callRefusal, callRefusalUnder, planesLengths, planesContents, planesContentsUnder, packedLengths, packedContents}
+use Rattle.check_tests.specs.Check.{packedContentsUnder}
 use Rattle.held_key.specs.Steps.{Whole}
 
 pub record Called (h : Held) (number ones twos workOnes workTwos : ℕ) : Type 0 where
@@ -78,7 +79,7 @@ packed-fitted h y s e =
 -- the contents are right
 pub contents : (h : Held) (ones twos yOnes yTwos sOnes sTwos : List ℕ) → planesContents h ones twos yOnes yTwos sOnes sTwos ≡ 0
     → (planesRefusal ones twos (h .k) (rowTrits h) ≡ 0) × (planesRefusal yOnes yTwos 1 (rowTrits h) ≡ 0) × (planesRefusal sOnes sTwos 1 (h .k) ≡ 0)
-unfolding planesContents
+unfolding planesContentsUnder
 contents h ones twos yo yt so st e =
     let a = passed-first (planesRefusal ones twos (h .k) (rowTrits h)) _ e in
     let b = passed-first (planesRefusal yo yt 1 (rowTrits h)) (planesRefusal so st 1 (h .k)) (a .1) in
@@ -86,7 +87,7 @@ contents h ones twos yo yt so st e =
 
 pub packed-contents : (h : Held) (ones twos y s : List ℕ) → packedContents h ones twos y s ≡ 0
     → (planesRefusal ones twos (h .k) (rowTrits h) ≡ 0) × (packedRefusal (rowTrits h) y ≡ 0) × (packedRefusal (h .k) s ≡ 0)
-unfolding packedContents
+unfolding packedContentsUnder
 packed-contents h ones twos y s e =
     let a = passed-first (planesRefusal ones twos (h .k) (rowTrits h)) _ e in
     let b = passed-first (packedRefusal (rowTrits h) y) (packedRefusal (h .k) s) (a .1) in
@@ -108,7 +109,7 @@ check-passed c e =
 pub check-packed-passed : (c : PackedCheck) → checkPackedRefusal c ≡ 0 → let h = c .held in
     Called h (c .number) (length (c .ones)) (length (c .twos)) (length (c .workOnes)) (length (c .workTwos))
     × (packedLengths h (length (c .y)) (length (c .s)) ≡ 0) × (packedContents h (c .ones) (c .twos) (c .y) (c .s) ≡ 0)
-unfolding checkPackedRefusal
+unfolding checkPackedRefusalUnder
 check-packed-passed c e =
     let h = c .held in
     let a = passed-first (callRefusal h (c .number) (length (c .ones)) (length (c .twos)) (length (c .workOnes)) (length (c .workTwos))) _ e in

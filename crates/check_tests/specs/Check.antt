@@ -1,5 +1,5 @@
 -- The check: its refusals in the paper's order, the answer, and the working space at exit ("The verdict", both sections "Turned back"). Assumes nothing.
--- What depends on the largest key number is defined with any other in its place, by a name that ends in `Under`.
+-- What depends on the largest key number, or on the test of a pair of planes, is defined with any other in its place, by a name that ends in `Under`.
 use mathlib.Core.Bool.{cond}
 use mathlib.Core.List.{List}
 use Prim.Native.Nat.{ℕ}
@@ -7,7 +7,7 @@ use lib.Dec.{eqb}
 use lib.ListN.{length}
 use Rattle.trits.specs.Trit.{Trit, sumOf}
 use Rattle.trits.specs.Planes.{tritAt, wordsFor}
-use Rattle.trits.specs.Refusal.{numberOf, refuse, demand, first, spaceExit, planesRefusal}
+use Rattle.trits.specs.Refusal.{numberOf, refuse, demand, first, spaceExit, PlanesTest, planesRefusal}
 use Rattle.trits.specs.declared.Counts.{Counts}
 use Rattle.packed.specs.Packed.{bytesFor, packedRow, packedRefusal}
 use Rattle.held_key.specs.declared.state.Held.{Held}
@@ -88,11 +88,14 @@ planesLengths h yOnes yTwos sOnes sTwos =
     0)))
 
 -- then the contents: the held rows, y, s
-unfoldable pub planesContents : Held → List ℕ → List ℕ → List ℕ → List ℕ → List ℕ → List ℕ → ℕ
-planesContents h ones twos yOnes yTwos sOnes sTwos =
-    first (planesRefusal ones twos (h .k) (rowTrits h))
-    (first (planesRefusal yOnes yTwos 1 (rowTrits h))
-    (planesRefusal sOnes sTwos 1 (h .k)))
+unfoldable pub planesContentsUnder : PlanesTest → Held → List ℕ → List ℕ → List ℕ → List ℕ → List ℕ → List ℕ → ℕ
+planesContentsUnder test h ones twos yOnes yTwos sOnes sTwos =
+    first (test ones twos (h .k) (rowTrits h))
+    (first (test yOnes yTwos 1 (rowTrits h))
+    (test sOnes sTwos 1 (h .k)))
+
+abbrev pub planesContents : Held → List ℕ → List ℕ → List ℕ → List ℕ → List ℕ → List ℕ → ℕ
+planesContents h ones twos yOnes yTwos sOnes sTwos = planesContentsUnder planesRefusal h ones twos yOnes yTwos sOnes sTwos
 
 -- packed y and s: their lengths
 unfoldable pub packedLengths : Held → ℕ → ℕ → ℕ
@@ -102,30 +105,36 @@ packedLengths h y s =
     0)
 
 -- then the contents: the held rows, y (5, 15), s (5, 15)
-unfoldable pub packedContents : Held → List ℕ → List ℕ → List ℕ → List ℕ → ℕ
-packedContents h ones twos y s =
-    first (planesRefusal ones twos (h .k) (rowTrits h))
+unfoldable pub packedContentsUnder : PlanesTest → Held → List ℕ → List ℕ → List ℕ → List ℕ → ℕ
+packedContentsUnder test h ones twos y s =
+    first (test ones twos (h .k) (rowTrits h))
     (first (packedRefusal (rowTrits h) y)
     (packedRefusal (h .k) s))
 
+abbrev pub packedContents : Held → List ℕ → List ℕ → List ℕ → List ℕ → ℕ
+packedContents h ones twos y s = packedContentsUnder planesRefusal h ones twos y s
+
 -- the check of y and s in planes
-unfoldable pub checkRefusalUnder : ℕ → Check → ℕ
-checkRefusalUnder most c =
+unfoldable pub checkRefusalUnder : ℕ → PlanesTest → Check → ℕ
+checkRefusalUnder most test c =
     let h = c .held in
     first (callRefusalUnder most h (c .number) (length (c .ones)) (length (c .twos)) (length (c .workOnes)) (length (c .workTwos)))
     (first (planesLengths h (length (c .yOnes)) (length (c .yTwos)) (length (c .sOnes)) (length (c .sTwos)))
-    (planesContents h (c .ones) (c .twos) (c .yOnes) (c .yTwos) (c .sOnes) (c .sTwos)))
+    (planesContentsUnder test h (c .ones) (c .twos) (c .yOnes) (c .yTwos) (c .sOnes) (c .sTwos)))
 
 abbrev pub checkRefusal : Check → ℕ
-checkRefusal c = checkRefusalUnder mostKeyNumber c
+checkRefusal c = checkRefusalUnder mostKeyNumber planesRefusal c
 
 -- the check of packed y and s
-unfoldable pub checkPackedRefusal : PackedCheck → ℕ
-checkPackedRefusal c =
+unfoldable pub checkPackedRefusalUnder : ℕ → PlanesTest → PackedCheck → ℕ
+checkPackedRefusalUnder most test c =
     let h = c .held in
-    first (callRefusal h (c .number) (length (c .ones)) (length (c .twos)) (length (c .workOnes)) (length (c .workTwos)))
+    first (callRefusalUnder most h (c .number) (length (c .ones)) (length (c .twos)) (length (c .workOnes)) (length (c .workTwos)))
     (first (packedLengths h (length (c .y)) (length (c .s)))
-    (packedContents h (c .ones) (c .twos) (c .y) (c .s)))
+    (packedContentsUnder test h (c .ones) (c .twos) (c .y) (c .s)))
+
+abbrev pub checkPackedRefusal : PackedCheck → ℕ
+checkPackedRefusal c = checkPackedRefusalUnder mostKeyNumber planesRefusal c
 
 -- ---- the answer
 
@@ -156,18 +165,24 @@ checkCountsUnder most c = heldCountsUnder most (c .held) (c .ones) (c .twos) (tr
 abbrev pub checkCounts : Check → Counts
 checkCounts c = checkCountsUnder mostKeyNumber c
 
-unfoldable pub checkAnswerUnder : ℕ → Check → Checked
-checkAnswerUnder most c = answered (checkRefusalUnder most c) (checkCountsUnder most c) (c .held .w)
+unfoldable pub checkAnswerUnder : ℕ → PlanesTest → Check → Checked
+checkAnswerUnder most test c = answered (checkRefusalUnder most test c) (checkCountsUnder most c) (c .held .w)
 
 abbrev pub checkAnswer : Check → Checked
-checkAnswer c = checkAnswerUnder mostKeyNumber c
+checkAnswer c = checkAnswerUnder mostKeyNumber planesRefusal c
 
 -- what the check of packed y and s counts and answers
-abbrev pub checkPackedCounts : PackedCheck → Counts
-checkPackedCounts c = heldCounts (c .held) (c .ones) (c .twos) (packedRow (c .y)) (packedRow (c .s))
+abbrev pub checkPackedCountsUnder : ℕ → PackedCheck → Counts
+checkPackedCountsUnder most c = heldCountsUnder most (c .held) (c .ones) (c .twos) (packedRow (c .y)) (packedRow (c .s))
 
-unfoldable pub checkPackedAnswer : PackedCheck → Checked
-checkPackedAnswer c = answered (checkPackedRefusal c) (checkPackedCounts c) (c .held .w)
+abbrev pub checkPackedCounts : PackedCheck → Counts
+checkPackedCounts c = checkPackedCountsUnder mostKeyNumber c
+
+unfoldable pub checkPackedAnswerUnder : ℕ → PlanesTest → PackedCheck → Checked
+checkPackedAnswerUnder most test c = answered (checkPackedRefusalUnder most test c) (checkPackedCountsUnder most c) (c .held .w)
+
+abbrev pub checkPackedAnswer : PackedCheck → Checked
+checkPackedAnswer c = checkPackedAnswerUnder mostKeyNumber planesRefusal c
 
 -- ---- the working space at exit
 

@@ -15,9 +15,9 @@ use Rattle.held_key.specs.Held.{numbersFitUnder, soundUnder, heldRowUnder, held
 use Rattle.held_key.specs.Store.{beginRefusalUnder, begunHeld, beginHeld, packedStoreOf, rowRefusalUnder, storePackedRefusal, nextHeld}
 use Rattle.held_key.specs.Store.{storedHeld, storedPlane}
 use Rattle.held_key.specs.Load.{offer, offerAll}
-use Rattle.check_tests.specs.Check.{callRefusalUnder, planesLengths, planesContents, packedLengths, packedContents, heldCountsUnder, answered}
-use Rattle.check_tests.specs.Check.{checkOf, checkRefusalUnder, checkAnswer, checkAnswerUnder, packedCheckOf, checkPackedRefusal, checkPackedAnswer}
-use Rattle.check_tests.specs.Check.{checkPackedWorkOnes, checkPackedWorkTwos}
+use Rattle.check_tests.specs.Check.{callRefusalUnder, planesLengths, planesContentsUnder, packedLengths, packedContentsUnder, heldCountsUnder, answered}
+use Rattle.check_tests.specs.Check.{checkOf, checkRefusal, checkRefusalUnder, checkAnswer, checkAnswerUnder, packedCheckOf, checkPackedRefusal}
+use Rattle.check_tests.specs.Check.{checkPackedRefusalUnder, checkPackedAnswer, checkPackedAnswerUnder, checkPackedWorkOnes, checkPackedWorkTwos}
 
 -- P 7 4 2 4, over a state of any numbers
 abbrev held : ℕ → Held
@@ -45,90 +45,122 @@ third = refl
 -- S 7 12 12 11: three 1s and one 2, yes
 line-1 : checkPackedAnswer (packedCheckOf (held 2) 7 (0 ∷ 0 ∷ []) (2 ∷ 3 ∷ []) (7 ∷ []) (4 ∷ []) (5 ∷ []) (5 ∷ []))
     ≡ record { refusal = 0; yes = 1; ones = 3; twos = 1 }
-unfolding checkPackedAnswer answered checkPackedRefusal first callRefusalUnder soundUnder numbersFitUnder packedLengths packedContents planesRefusal bothSet
-    anyTo bitAt bit rowsPastEnd rowPart heldRowUnder pastEnd tritAt packedRefusal badByte packedPastEnd heldCountsUnder fullCounts sumTo fullWord timesKey
-    dotV heldKeyUnder packedRow digitOf
+unfolding checkPackedAnswerUnder answered checkPackedRefusalUnder first callRefusalUnder soundUnder numbersFitUnder packedLengths packedContentsUnder
+    planesRefusal bothSet anyTo bitAt bit rowsPastEnd rowPart heldRowUnder pastEnd tritAt packedRefusal badByte packedPastEnd heldCountsUnder fullCounts
+    sumTo fullWord timesKey dotV heldKeyUnder packedRow digitOf
 line-1 = refl
 
 -- S 7 13 12 12: one 1 and two 2s, no
 line-2 : checkPackedAnswer (packedCheckOf (held 2) 7 (0 ∷ 0 ∷ []) (2 ∷ 3 ∷ []) (7 ∷ []) (7 ∷ []) (5 ∷ []) (5 ∷ []))
     ≡ record { refusal = 0; yes = 0; ones = 1; twos = 2 }
-unfolding checkPackedAnswer answered checkPackedRefusal first callRefusalUnder soundUnder numbersFitUnder packedLengths packedContents planesRefusal bothSet
-    anyTo bitAt bit rowsPastEnd rowPart heldRowUnder pastEnd tritAt packedRefusal badByte packedPastEnd heldCountsUnder fullCounts sumTo fullWord timesKey
-    dotV heldKeyUnder packedRow digitOf
+unfolding checkPackedAnswerUnder answered checkPackedRefusalUnder first callRefusalUnder soundUnder numbersFitUnder packedLengths packedContentsUnder
+    planesRefusal bothSet anyTo bitAt bit rowsPastEnd rowPart heldRowUnder pastEnd tritAt packedRefusal badByte packedPastEnd heldCountsUnder fullCounts
+    sumTo fullWord timesKey dotV heldKeyUnder packedRow digitOf
 line-2 = refl
 
 -- S 8 14 12 11: 22
 line-3 : checkPackedAnswer (packedCheckOf (held 2) 8 (0 ∷ 0 ∷ []) (2 ∷ 3 ∷ []) (7 ∷ []) (4 ∷ []) (5 ∷ []) (5 ∷ []))
     ≡ record { refusal = 22; yes = 0; ones = 0; twos = 0 }
-unfolding checkPackedAnswer answered checkPackedRefusal first callRefusalUnder soundUnder numbersFitUnder
+unfolding checkPackedAnswerUnder answered checkPackedRefusalUnder first callRefusalUnder soundUnder numbersFitUnder
 line-3 = refl
 
 -- the first of them in planes
 line-1-planes : checkAnswer (checkOf (held 2) 7 (0 ∷ 0 ∷ []) (2 ∷ 3 ∷ []) (1 ∷ []) (2 ∷ []) (3 ∷ []) (0 ∷ []) (5 ∷ []) (5 ∷ []))
     ≡ record { refusal = 0; yes = 1; ones = 3; twos = 1 }
-unfolding checkAnswerUnder answered checkRefusalUnder first callRefusalUnder soundUnder numbersFitUnder planesLengths planesContents planesRefusal bothSet
+unfolding checkAnswerUnder answered checkRefusalUnder first callRefusalUnder soundUnder numbersFitUnder planesLengths planesContentsUnder planesRefusal bothSet
     anyTo bitAt bit rowsPastEnd rowPart heldRowUnder pastEnd tritAt heldCountsUnder fullCounts sumTo fullWord timesKey dotV heldKeyUnder
 line-1-planes = refl
 
 -- no key begun before all else; a state out of its ranges before missing rows; these before another key number; that before a length
 none : checkPackedRefusal (packedCheckOf (record { begun = 0; number = 4294967296; n = 5; k = 9; w = 0; rows = 99 }) 8 [] [] [] [] [] []) ≡ 20
-unfolding checkPackedRefusal first callRefusalUnder
+unfolding checkPackedRefusalUnder first callRefusalUnder
 none = refl
 
 corrupt : checkPackedRefusal (packedCheckOf (record { begun = 2; number = 7; n = 4; k = 2; w = 4; rows = 1 }) 8 [] [] [] [] [] []) ≡ 1
-unfolding checkPackedRefusal first callRefusalUnder soundUnder
+unfolding checkPackedRefusalUnder first callRefusalUnder soundUnder
 corrupt = refl
 
 missing : checkPackedRefusal (packedCheckOf (held 1) 8 [] [] [] [] [] []) ≡ 20
-unfolding checkPackedRefusal first callRefusalUnder soundUnder numbersFitUnder
+unfolding checkPackedRefusalUnder first callRefusalUnder soundUnder numbersFitUnder
 missing = refl
 
 other : checkPackedRefusal (packedCheckOf (held 2) 8 [] [] [] [] [] []) ≡ 22
-unfolding checkPackedRefusal first callRefusalUnder soundUnder numbersFitUnder
+unfolding checkPackedRefusalUnder first callRefusalUnder soundUnder numbersFitUnder
 other = refl
 
 -- a key number above its range is 1 in a state, and 22 where it is asked for: 7 and 2 to the power 32, under key 7
 above : checkPackedRefusal (packedCheckOf (record { begun = 1; number = 4294967296; n = 4; k = 2; w = 4; rows = 1 }) 8 [] [] [] [] [] []) ≡ 1
-unfolding checkPackedRefusal first callRefusalUnder soundUnder numbersFitUnder
+unfolding checkPackedRefusalUnder first callRefusalUnder soundUnder numbersFitUnder
 above = refl
 
 asked-above : checkPackedRefusal (packedCheckOf (held 2) 4294967303 [] [] [] [] [] []) ≡ 22
-unfolding checkPackedRefusal first callRefusalUnder soundUnder numbersFitUnder
+unfolding checkPackedRefusalUnder first callRefusalUnder soundUnder numbersFitUnder
 asked-above = refl
 
--- a length before the contents; 3 in the last row before 4 in the first; 4 before 5
+-- a length before the contents; 4 in one row before 3 in the other, either way round; 3 and 4 before 5
 short : checkPackedRefusal (packedCheckOf (held 2) 7 (4 ∷ 4 ∷ []) (4 ∷ 4 ∷ []) (243 ∷ []) (243 ∷ []) (5 ∷ []) []) ≡ 2
-unfolding checkPackedRefusal first callRefusalUnder soundUnder numbersFitUnder
+unfolding checkPackedRefusalUnder first callRefusalUnder soundUnder numbersFitUnder
 short = refl
 
-both : checkPackedRefusal (packedCheckOf (held 2) 7 (4 ∷ 1 ∷ []) (2 ∷ 3 ∷ []) (243 ∷ []) (4 ∷ []) (5 ∷ []) (5 ∷ [])) ≡ 3
-unfolding checkPackedRefusal first callRefusalUnder soundUnder numbersFitUnder packedLengths packedContents planesRefusal bothSet anyTo bitAt bit
+past-before : checkPackedRefusal (packedCheckOf (held 2) 7 (4 ∷ 1 ∷ []) (2 ∷ 3 ∷ []) (243 ∷ []) (4 ∷ []) (5 ∷ []) (5 ∷ [])) ≡ 4
+unfolding checkPackedRefusalUnder first callRefusalUnder soundUnder numbersFitUnder packedLengths packedContentsUnder planesRefusal bothSet anyTo bitAt bit
+    rowsPastEnd rowPart pastEnd
+past-before = refl
+
+past-after : checkPackedRefusal (packedCheckOf (held 2) 7 (2 ∷ 4 ∷ []) (2 ∷ 3 ∷ []) (243 ∷ []) (4 ∷ []) (5 ∷ []) (5 ∷ [])) ≡ 4
+unfolding checkPackedRefusalUnder first callRefusalUnder soundUnder numbersFitUnder packedLengths packedContentsUnder planesRefusal bothSet anyTo bitAt bit
+    rowsPastEnd rowPart pastEnd
+past-after = refl
+
+both : checkPackedRefusal (packedCheckOf (held 2) 7 (0 ∷ 1 ∷ []) (2 ∷ 3 ∷ []) (243 ∷ []) (4 ∷ []) (5 ∷ []) (5 ∷ [])) ≡ 3
+unfolding checkPackedRefusalUnder first callRefusalUnder soundUnder numbersFitUnder packedLengths packedContentsUnder planesRefusal bothSet anyTo bitAt bit
+    rowsPastEnd rowPart pastEnd
 both = refl
 
 past : checkPackedRefusal (packedCheckOf (held 2) 7 (4 ∷ 0 ∷ []) (2 ∷ 3 ∷ []) (243 ∷ []) (4 ∷ []) (5 ∷ []) (5 ∷ [])) ≡ 4
-unfolding checkPackedRefusal first callRefusalUnder soundUnder numbersFitUnder packedLengths packedContents planesRefusal bothSet anyTo bitAt bit
+unfolding checkPackedRefusalUnder first callRefusalUnder soundUnder numbersFitUnder packedLengths packedContentsUnder planesRefusal bothSet anyTo bitAt bit
     rowsPastEnd rowPart pastEnd
 past = refl
 
 large : checkPackedRefusal (packedCheckOf (held 2) 7 (0 ∷ 0 ∷ []) (2 ∷ 3 ∷ []) (243 ∷ []) (4 ∷ []) (5 ∷ []) (5 ∷ [])) ≡ 5
-unfolding checkPackedRefusal first callRefusalUnder soundUnder numbersFitUnder packedLengths packedContents planesRefusal bothSet anyTo bitAt bit
+unfolding checkPackedRefusalUnder first callRefusalUnder soundUnder numbersFitUnder packedLengths packedContentsUnder planesRefusal bothSet anyTo bitAt bit
     rowsPastEnd rowPart pastEnd packedRefusal badByte packedPastEnd
 large = refl
 
+-- in planes: 3 in the held rows before 4 in y, 3 in y before 4 in s; and 4 before 3 in each
+rows-before-y : checkRefusal (checkOf (held 2) 7 (0 ∷ 1 ∷ []) (2 ∷ 3 ∷ []) (5 ∷ []) (1 ∷ []) (3 ∷ []) (0 ∷ []) (5 ∷ []) (5 ∷ [])) ≡ 3
+unfolding checkRefusalUnder first callRefusalUnder soundUnder numbersFitUnder planesLengths planesContentsUnder planesRefusal bothSet anyTo bitAt bit
+    rowsPastEnd rowPart pastEnd
+rows-before-y = refl
+
+y-before-s : checkRefusal (checkOf (held 2) 7 (0 ∷ 0 ∷ []) (2 ∷ 3 ∷ []) (1 ∷ []) (1 ∷ []) (4 ∷ []) (0 ∷ []) (5 ∷ []) (5 ∷ [])) ≡ 3
+unfolding checkRefusalUnder first callRefusalUnder soundUnder numbersFitUnder planesLengths planesContentsUnder planesRefusal bothSet anyTo bitAt bit
+    rowsPastEnd rowPart pastEnd
+y-before-s = refl
+
+past-of-y : checkRefusal (checkOf (held 2) 7 (0 ∷ 0 ∷ []) (2 ∷ 3 ∷ []) (5 ∷ []) (1 ∷ []) (1 ∷ []) (1 ∷ []) (5 ∷ []) (5 ∷ [])) ≡ 4
+unfolding checkRefusalUnder first callRefusalUnder soundUnder numbersFitUnder planesLengths planesContentsUnder planesRefusal bothSet anyTo bitAt bit
+    rowsPastEnd rowPart pastEnd
+past-of-y = refl
+
+past-of-s : checkRefusal (checkOf (held 2) 7 (0 ∷ 0 ∷ []) (2 ∷ 3 ∷ []) (1 ∷ []) (2 ∷ []) (4 ∷ []) (4 ∷ []) (5 ∷ []) (5 ∷ [])) ≡ 4
+unfolding checkRefusalUnder first callRefusalUnder soundUnder numbersFitUnder planesLengths planesContentsUnder planesRefusal bothSet anyTo bitAt bit
+    rowsPastEnd rowPart pastEnd
+past-of-s = refl
+
 -- a trit past the length: 15 in y comes before 5 in s, 5 in y before 15 in s, and s is tested as y is
 past-y : checkPackedRefusal (packedCheckOf (held 2) 7 (0 ∷ 0 ∷ []) (2 ∷ 3 ∷ []) (9 ∷ []) (243 ∷ []) (5 ∷ []) (5 ∷ [])) ≡ 15
-unfolding checkPackedRefusal first callRefusalUnder soundUnder numbersFitUnder packedLengths packedContents planesRefusal bothSet anyTo bitAt bit
+unfolding checkPackedRefusalUnder first callRefusalUnder soundUnder numbersFitUnder packedLengths packedContentsUnder planesRefusal bothSet anyTo bitAt bit
     rowsPastEnd rowPart pastEnd packedRefusal badByte packedPastEnd packedRow digitOf
 past-y = refl
 
 large-y : checkPackedRefusal (packedCheckOf (held 2) 7 (0 ∷ 0 ∷ []) (2 ∷ 3 ∷ []) (243 ∷ []) (9 ∷ []) (5 ∷ []) (5 ∷ [])) ≡ 5
-unfolding checkPackedRefusal first callRefusalUnder soundUnder numbersFitUnder packedLengths packedContents planesRefusal bothSet anyTo bitAt bit
+unfolding checkPackedRefusalUnder first callRefusalUnder soundUnder numbersFitUnder packedLengths packedContentsUnder planesRefusal bothSet anyTo bitAt bit
     rowsPastEnd rowPart pastEnd packedRefusal badByte packedPastEnd packedRow digitOf
 large-y = refl
 
 past-s : checkPackedRefusal (packedCheckOf (held 2) 7 (0 ∷ 0 ∷ []) (2 ∷ 3 ∷ []) (7 ∷ []) (13 ∷ []) (5 ∷ []) (5 ∷ [])) ≡ 15
-unfolding checkPackedRefusal first callRefusalUnder soundUnder numbersFitUnder packedLengths packedContents planesRefusal bothSet anyTo bitAt bit
+unfolding checkPackedRefusalUnder first callRefusalUnder soundUnder numbersFitUnder packedLengths packedContentsUnder planesRefusal bothSet anyTo bitAt bit
     rowsPastEnd rowPart pastEnd packedRefusal badByte packedPastEnd packedRow digitOf
 past-s = refl
 
@@ -145,15 +177,15 @@ past-told = refl
 
 -- the working space: zero after a verdict, as it was after a refusal
 cleared : checkPackedWorkOnes (packedCheckOf (held 2) 7 (0 ∷ 0 ∷ []) (2 ∷ 3 ∷ []) (7 ∷ []) (4 ∷ []) (5 ∷ []) (6 ∷ [])) ≡ 0 ∷ []
-unfolding spaceExit checkPackedRefusal first callRefusalUnder soundUnder numbersFitUnder packedLengths packedContents planesRefusal bothSet anyTo bitAt bit
-    rowsPastEnd rowPart pastEnd packedRefusal badByte packedPastEnd packedRow digitOf zeroWords tabulate
+unfolding spaceExit checkPackedRefusalUnder first callRefusalUnder soundUnder numbersFitUnder packedLengths packedContentsUnder planesRefusal bothSet anyTo
+    bitAt bit rowsPastEnd rowPart pastEnd packedRefusal badByte packedPastEnd packedRow digitOf zeroWords tabulate
 cleared = refl
 
 kept : checkPackedWorkTwos (packedCheckOf (held 2) 8 (0 ∷ 0 ∷ []) (2 ∷ 3 ∷ []) (7 ∷ []) (4 ∷ []) (5 ∷ []) (6 ∷ [])) ≡ 6 ∷ []
-unfolding spaceExit checkPackedRefusal first callRefusalUnder soundUnder numbersFitUnder
+unfolding spaceExit checkPackedRefusalUnder first callRefusalUnder soundUnder numbersFitUnder
 kept = refl
 
 past-kept : checkPackedWorkTwos (packedCheckOf (held 2) 7 (0 ∷ 0 ∷ []) (2 ∷ 3 ∷ []) (7 ∷ []) (13 ∷ []) (5 ∷ []) (6 ∷ [])) ≡ 6 ∷ []
-unfolding spaceExit checkPackedRefusal first callRefusalUnder soundUnder numbersFitUnder packedLengths packedContents planesRefusal bothSet anyTo bitAt bit
-    rowsPastEnd rowPart pastEnd packedRefusal badByte packedPastEnd packedRow digitOf
+unfolding spaceExit checkPackedRefusalUnder first callRefusalUnder soundUnder numbersFitUnder packedLengths packedContentsUnder planesRefusal bothSet anyTo
+    bitAt bit rowsPastEnd rowPart pastEnd packedRefusal badByte packedPastEnd packedRow digitOf
 past-kept = refl

@@ -20,8 +20,9 @@ use Rattle.held_key.specs.Held.{numbersFit, sound, soundUnder, heldKey}
 use Rattle.held_key.specs.Store.{beginRefusal, beginRefusalUnder, begunHeld, beginHeld, rowRefusal, rowRefusalUnder, nextHeld, storedHeld}
 use Rattle.held_key.specs.Store.{PackedStore, packedStoreOf, storePackedRefusal, storePackedOnes, storePackedTwos}
 use Rattle.held_key.specs.Load.{Holding, offer, offerAll}
-use Rattle.check_tests.specs.Check.{callRefusal, callRefusalUnder, packedLengths, packedContents, heldCountsUnder, answered}
-use Rattle.check_tests.specs.Check.{PackedCheck, packedCheckOf, checkPackedRefusal, checkPackedCounts, checkPackedAnswer}
+use Rattle.check_tests.specs.Check.{callRefusal, callRefusalUnder, packedLengths, packedContents, packedContentsUnder, heldCountsUnder, answered}
+use Rattle.check_tests.specs.Check.{PackedCheck, packedCheckOf, checkPackedRefusal, checkPackedRefusalUnder, checkPackedCounts, checkPackedAnswer}
+use Rattle.check_tests.specs.Check.{checkPackedAnswerUnder}
 use Rattle.held_key.specs.Steps.{Whole}
 use Rattle.verdict.proofs.FullWord.{counts-cong}
 use Rattle.held_key.proofs.Room.{stored-packed-passed}
@@ -125,7 +126,7 @@ module _ (number n k w : ℕ) (z : numbersFit number n k w ≡ true) (rows : ℕ
     lengths-pass = rw (eq-eqb (length y) (bytesFor (n - k)) yl, eq-eqb (length t) (bytesFor k) tl)
 
     contents-pass : 0 ≡ packedContents (heldAt k) (s .ones) (s .twos) y t
-    unfolding packedContents
+    unfolding packedContentsUnder
     contents-pass = first-goes (sym (filled-passes whole key (g .rows-are))) refl (first-goes (sym yg) refl (sym tg))
 
     abbrev asks : PackedCheck
@@ -133,7 +134,7 @@ module _ (number n k w : ℕ) (z : numbersFit number n k w ≡ true) (rows : ℕ
 
     -- nothing is refused
     pub accepted : checkPackedRefusal (packedCheckOf (heldAt k) number (s .ones) (s .twos) y t wo wt) ≡ 0
-    unfolding checkPackedRefusal
+    unfolding checkPackedRefusalUnder
     accepted = sym (first-goes (sym call-passes) refl (first-goes (sym lengths-pass) refl contents-pass))
 
     counts-are : checkPackedCounts asks ≡ fullCounts (n - k) k key (packedRow y) (packedRow t)
@@ -144,7 +145,7 @@ module _ (number n k w : ℕ) (z : numbersFit number n k w ≡ true) (rows : ℕ
     -- the answer is that of the rows offered
     pub answer : checkPackedAnswer (packedCheckOf (heldAt k) number (s .ones) (s .twos) y t wo wt)
         ≡ answered 0 (fullCounts (n - k) k key (packedRow y) (packedRow t)) w
-    unfolding checkPackedAnswer
+    unfolding checkPackedAnswerUnder
     answer = ap₂ (λ (a : ℕ) (b : Counts). answered a b w) accepted counts-are
 
   -- begin, offer the k rows, check: whatever was held before and whatever the planes had, the answer is that of the rows offered

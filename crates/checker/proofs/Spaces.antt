@@ -6,7 +6,7 @@ use lib.ListN.{length}
 use Rattle.trits.specs.Refusal.{first}
 use Rattle.held_key.specs.declared.state.Held.{Held}
 use Rattle.check_tests.specs.Check.{callRefusal, planesLengths, planesContents, packedLengths, packedContents}
-use Rattle.check_tests.specs.Check.{checkOf, checkRefusal, checkRefusalUnder, packedCheckOf, checkPackedRefusal}
+use Rattle.check_tests.specs.Check.{checkOf, checkRefusal, checkRefusalUnder, packedCheckOf, checkPackedRefusal, checkPackedRefusalUnder}
 
 module _ (h : Held) (number : ℕ) (ones twos : List ℕ) where
   pub check-spaces : (yo yt so st a b c d : List ℕ) → length a ≡ length c → length b ≡ length d
@@ -18,7 +18,7 @@ module _ (h : Held) (number : ℕ) (ones twos : List ℕ) where
 
   pub packed-spaces : (y s a b c d : List ℕ) → length a ≡ length c → length b ≡ length d
       → checkPackedRefusal (packedCheckOf h number ones twos y s a b) ≡ checkPackedRefusal (packedCheckOf h number ones twos y s c d)
-  unfolding checkPackedRefusal
+  unfolding checkPackedRefusalUnder
   packed-spaces y s a b c d e f =
       let rest = first (packedLengths h (length y) (length s)) (packedContents h ones twos y s) in
       ap₂ (λ (x y : ℕ). first (callRefusal h number (length ones) (length twos) x y) rest) e f

@@ -21,8 +21,9 @@ use Rattle.packed.proofs.RoundTrip.{packed-length, packed-back, packed-accepted
 use Rattle.held_key.specs.declared.state.Held.{Held}
 use Rattle.verdict.specs.Verdict.{fullCounts, Extending, Found}
 use Rattle.held_key.specs.Held.{sound, rowTrits, heldKey}
-use Rattle.check_tests.specs.Check.{callRefusal, packedLengths, packedContents, heldCounts, heldCountsUnder, answered}
-use Rattle.check_tests.specs.Check.{Check, checkRefusal, checkRefusalUnder, checkAnswer, checkAnswerUnder, PackedCheck, checkPackedRefusal, checkPackedAnswer}
+use Rattle.check_tests.specs.Check.{callRefusal, packedLengths, packedContents, packedContentsUnder, heldCounts, heldCountsUnder, answered}
+use Rattle.check_tests.specs.Check.{Check, checkRefusal, checkRefusalUnder, checkAnswer, checkAnswerUnder, PackedCheck, checkPackedRefusal}
+use Rattle.check_tests.specs.Check.{checkPackedRefusalUnder, checkPackedAnswer, checkPackedAnswerUnder}
 use Rattle.held_key.proofs.Sizes.{sizes}
 use Rattle.verdict.proofs.FullWord.{verifier, extends-once, counts-of, yes-sum}
 use Rattle.check_tests.proofs.Passed.{Fitted, fitted, contents, check-passed, check-packed-passed}
@@ -58,7 +59,7 @@ check-verdict c e = rw e (found (c .held) (c .ones) (c .twos) (tritAt (c .yOnes)
 -- the packed check
 pub check-packed-verdict : (c : PackedCheck) → checkPackedRefusal c ≡ 0 → let h = c .held in
     (checkPackedAnswer c .yes ≡ 1) ↔ Found (rowTrits h) (h .k) (h .w) (heldKey h (c .ones) (c .twos)) (packedRow (c .y)) (packedRow (c .s))
-unfolding checkPackedAnswer
+unfolding checkPackedAnswerUnder
 check-packed-verdict c e = rw e (found (c .held) (c .ones) (c .twos) (packedRow (c .y)) (packedRow (c .s)))
 
 -- the ones and twos that a check answers are those of that word
@@ -80,7 +81,7 @@ check-counts c e v x =
 pub check-packed-counts : (c : PackedCheck) → checkPackedRefusal c ≡ 0 → (v : ℕ → Trit) → let h = c .held in
     Extending (rowTrits h) (h .k) (heldKey h (c .ones) (c .twos)) (packedRow (c .y)) (packedRow (c .s)) v
     → (checkPackedAnswer c .ones ≡ onesV v (h .n)) × (checkPackedAnswer c .twos ≡ twosV v (h .n))
-unfolding checkPackedAnswer answered
+unfolding checkPackedAnswerUnder answered
 check-packed-counts c e v x =
     let h = c .held in
     let f = word-counts h (c .ones) (c .twos) (packedRow (c .y)) (packedRow (c .s)) v (check-packed-passed c e .0 .is-sound) x in
@@ -138,12 +139,12 @@ module _ (c : Check) (e : checkRefusal c ≡ 0) where
   lengths-pass = rw (eq-eqb (length py) (bytesFor (rowTrits h)) (packed-length (rowTrits h) y), eq-eqb (length ps) (bytesFor (h .k)) (packed-length (h .k) s))
 
   contents-pass : 0 ≡ packedContents h (c .ones) (c .twos) py ps
-  unfolding packedContents
+  unfolding packedContentsUnder
   contents-pass = first-goes (sym (right .0)) refl (first-goes (sym (packed-accepted (rowTrits h) y)) refl (sym (packed-accepted (h .k) s)))
 
   -- the packed check is not refused
   pub packed-passes : checkPackedRefusal (packedOf c) ≡ 0
-  unfolding checkPackedRefusal
+  unfolding checkPackedRefusalUnder
   packed-passes = sym (first-goes (sym call-passes) refl (first-goes (sym lengths-pass) refl contents-pass))
 
   y-back : packedRow py ≡ y
@@ -154,5 +155,5 @@ module _ (c : Check) (e : checkRefusal c ≡ 0) where
 
   -- and it answers the same
   pub packed-agrees : checkPackedAnswer (packedOf c) ≡ checkAnswer c
-  unfolding checkAnswerUnder checkPackedAnswer
+  unfolding checkAnswerUnder checkPackedAnswerUnder
   packed-agrees = ap₂ (λ (r : ℕ) (x : Counts). answered r x (h .w)) (packed-passes ∙ sym e) (ap₂ (heldCounts h (c .ones) (c .twos)) y-back s-back)

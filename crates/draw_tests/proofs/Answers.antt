@@ -25,7 +25,7 @@ use Rattle.scheme.specs.Draw.{Choices, drawRefusal, firstV, firstU, drawn}
 use Rattle.scheme.proofs.Zeros.{noZero-of}
 use Rattle.calls.specs.Lent.{pairDiffers, secretRefusal}
 use Rattle.calls.specs.Steps.{Readable}
-use Rattle.calls.specs.DrawCall.{DrawCall, drawWorkWords, choicesDiffer, drawLengthsDiffer, choicesRefusal, drawAnswer}
+use Rattle.calls.specs.DrawCall.{DrawCall, drawWorkWords, choicesDiffer, drawLengthsDiffer, choicesRefusal, choicesRefusalUnder, drawAnswer, drawAnswerUnder}
 use Rattle.calls.proofs.Secrets.{pair-same, differs, Lengths, secret-lengths, secret-leaves}
 use Rattle.draw_tests.specs.Steps.{given, chosen, ending, Ready, ChosenLengths}
 
@@ -37,17 +37,17 @@ contents z i = first (secretRefusal z (i .secret)) (choicesRefusal z i)
 
 module _ (z : Sizes) (i : DrawCall) where
   pub answer-size : sizesFit z ≡ false → 1 ≡ drawAnswer z i
-  unfolding drawAnswer
+  unfolding drawAnswerUnder
   answer-size e = rw e
 
   module _ (e : sizesFit z ≡ true) where
     pub answer-length : drawLengthsDiffer z i ≡ true → 2 ≡ drawAnswer z i
-    unfolding drawAnswer
+    unfolding drawAnswerUnder
     answer-length f = rw (e, f)
 
     module _ (f : drawLengthsDiffer z i ≡ false) where
       chain : first (secretRefusal z (i .secret)) (first (choicesRefusal z i) (ending z i)) ≡ drawAnswer z i
-      unfolding drawAnswer
+      unfolding drawAnswerUnder
       chain = rw (e, f)
 
       pub answer-contents : {x : ℕ} → x ≡ contents z i → (x ≡ 0 → ⊥) → x ≡ drawAnswer z i
@@ -74,14 +74,14 @@ module _ (z : Sizes) (i : DrawCall) where
 pub same-choices : (z : Sizes) (i : DrawCall)
     → choicesRefusal z (chosen (i .p) (i .y .ones) (i .y .twos) (i .orderV) (i .v .ones) (i .v .twos) (i .orderU) (i .u .ones) (i .u .twos)) ≡ choicesRefusal z
     i
-unfolding choicesRefusal
+unfolding choicesRefusalUnder
 same-choices z i = refl
 
 -- ---- the working space
 
 -- a refusal of the contents leaves it
 pub contents-leaves : (z : Sizes) (i : DrawCall) → Leaves (contents z i)
-unfolding choicesRefusal
+unfolding choicesRefusalUnder
 contents-leaves z i =
     leaves-first (secretRefusal z (i .secret)) (choicesRefusal z i) (secret-leaves z (i .secret))
     (leaves-demand (isOrder (places z) (i .p)) 7 _ refl (leaves-first _ _ (leaves-planes (i .y .ones) (i .y .twos) 1 (codim z))
@@ -176,7 +176,7 @@ module _ (z : Sizes) (i : DrawCall) where
         → ((j : ℕ) → Fits w64 (getD (i .v .twos) j 0))
         → ((j : ℕ) → Fits w64 (getD (i .u .ones) j 0)) → ((j : ℕ) → Fits w64 (getD (i .u .twos) j 0))
         → Ready z (given (i .secret) (i .p) (i .y .ones) (i .y .twos) (i .orderV) (i .v .ones) (i .v .twos) (i .orderU) (i .u .ones) (i .u .twos))
-    unfolding choicesRefusal
+    unfolding choicesRefusalUnder
     ready g k f1 f2 f3 f4 f5 f6 =
         let l = lengths-choices .chosen in
         let S = passed-first (secretRefusal z (i .secret)) (choicesRefusal z i) g in

@@ -8,6 +8,7 @@ use lib.Dec.{ltb}
 use lib.ListN.{length}
 use Rattle.trits.specs.Planes.{tritAt}
 use Rattle.trits.specs.Rows.{rowPart}
+use Rattle.trits.specs.Refusal.{PlanesTest}
 use Rattle.held_key.specs.declared.state.Held.{Held}
 use Rattle.held_key.specs.Held.{numbersFitUnder, soundUnder, rowWords, heldRowUnder, heldKeyUnder}
 use Rattle.held_key.specs.Store.{Store, beginRefusalUnder, rowRefusalUnder, storeRefusalUnder}
@@ -36,6 +37,7 @@ module _ (a b : ℕ) (h : Held) (la : h .number ≤ a) (lb : h .number ≤ b) wh
       let there = sound-either t && ltb i (h .rows) in
       tritAt (cond there (rowPart ones (h .k) (rowWords h) i) []) (cond there (rowPart twos (h .k) (rowWords h) i) [])
 
-pub store-either : (a b : ℕ) (c : Store) → c .held .number ≤ a → c .held .number ≤ b → storeRefusalUnder a c ≡ storeRefusalUnder b c
+pub store-either : (a b : ℕ) (test : PlanesTest) (c : Store) → c .held .number ≤ a → c .held .number ≤ b
+    → storeRefusalUnder a test c ≡ storeRefusalUnder b test c
 unfolding storeRefusalUnder
-store-either a b c la lb = rw (row-either a b (c .held) la lb (length (c .ones)) (length (c .twos)))
+store-either a b test c la lb = rw (row-either a b (c .held) la lb (length (c .ones)) (length (c .twos)))

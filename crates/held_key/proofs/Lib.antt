@@ -2,6 +2,7 @@
 pub mod Cases
 pub mod Sizes
 pub mod Bounds
+pub mod Stages
 pub mod Stretch
 pub mod Room
 pub mod Storing

@@ -2,4 +2,5 @@
 pub mod Held
 pub mod Store
 pub mod Load
+pub mod Stages
 pub mod Steps

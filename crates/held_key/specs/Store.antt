@@ -1,13 +1,13 @@
 -- Beginning a key and storing a row: the refusals in the paper's order, the state and the lent planes at
 -- exit ("Held key and lines of text", both sections "Turned back"). Assumes nothing.
--- What depends on the largest key number is defined with any other in its place, by a name that ends in `Under`.
+-- What depends on the largest key number, or on the test of a pair of planes, is defined with any other in its place, by a name that ends in `Under`.
 use mathlib.Core.List.{List}
 use Prim.Native.Nat.{ℕ, _+_, _*_}
 use lib.Dec.{eqb}
 use lib.ListN.{length}
 use Rattle.trits.specs.Planes.{onesOf, twosOf}
 use Rattle.trits.specs.Rows.{putWords}
-use Rattle.trits.specs.Refusal.{refuse, demand, first, atExit, planesRefusal}
+use Rattle.trits.specs.Refusal.{refuse, demand, first, atExit, PlanesTest, planesRefusal}
 use Rattle.packed.specs.Packed.{bytesFor, packedRow, packedRefusal}
 use Rattle.held_key.specs.declared.state.Held.{Held}
 use Rattle.held_key.specs.Held.{mostKeyNumber, numbersFitUnder, soundUnder, rowTrits, rowWords, keyWords}
@@ -68,16 +68,16 @@ abbrev pub rowRefusal : Held → ℕ → ℕ → ℕ
 rowRefusal h ones twos = rowRefusalUnder mostKeyNumber h ones twos
 
 -- then a row in planes: its lengths, its contents
-unfoldable pub storeRefusalUnder : ℕ → Store → ℕ
-storeRefusalUnder most c =
+unfoldable pub storeRefusalUnder : ℕ → PlanesTest → Store → ℕ
+storeRefusalUnder most test c =
     let h = c .held in
     first (rowRefusalUnder most h (length (c .ones)) (length (c .twos)))
     (demand (eqb (length (c .rowOnes)) (rowWords h)) 2
     (demand (eqb (length (c .rowTwos)) (rowWords h)) 2
-    (planesRefusal (c .rowOnes) (c .rowTwos) 1 (rowTrits h))))
+    (test (c .rowOnes) (c .rowTwos) 1 (rowTrits h))))
 
 abbrev pub storeRefusal : Store → ℕ
-storeRefusal c = storeRefusalUnder mostKeyNumber c
+storeRefusal c = storeRefusalUnder mostKeyNumber planesRefusal c
 
 -- or a packed row: its length, its contents (5, 15)
 unfoldable pub storePackedRefusal : PackedStore → ℕ

@@ -11,7 +11,7 @@ use Rattle.trits.specs.Rows.{rowPart, rowsPastEnd}
 use Rattle.trits.specs.Refusal.{refuse, planesRefusal}
 use Rattle.packed.specs.Packed.{byteOf, digitOf, packedRow, packedBytes, badByte, packedPastEnd, packedRefusal}
 use Rattle.packed.specs.Stream.{kept, streamRow, tooShort}
-use Rattle.packed.specs.Calls.{packOf, packRefusal, packExit, unpackOf, unpackRefusal, unpackOnes, unpackTwos}
+use Rattle.packed.specs.Calls.{packOf, packRefusal, packRefusalUnder, packExit, unpackOf, unpackRefusal, unpackOnes, unpackTwos}
 use Rattle.packed.specs.Calls.{streamOf, streamRefusal, streamOnes, streamTwos}
 
 -- a list of trits as a vector
@@ -24,7 +24,7 @@ unfolding packedBytes tabulate byteOf upTo
 five-pack = refl
 
 pub five-call : packExit (packOf 5 (17 ∷ []) (2 ∷ []) (99 ∷ [])) ≡ 88 ∷ []
-unfolding packExit packRefusal planesRefusal bothSet rowsPastEnd rowPart pastEnd anyTo bitAt bit packedBytes tabulate byteOf upTo tritAt
+unfolding packExit packRefusalUnder planesRefusal bothSet rowsPastEnd rowPart pastEnd anyTo bitAt bit packedBytes tabulate byteOf upTo tritAt
 five-call = refl
 
 -- ★ 242 reads 2,2,2,2,2
@@ -100,21 +100,30 @@ pub stream-short : streamRefusal (streamOf 6 (243 ∷ 1 ∷ 255 ∷ []) (7 ∷ [
 unfolding streamRefusal tooShort kept
 stream-short = refl
 
--- a bit in both planes past the length is 3, and a bit past the length alone 4
-pub both-first : packRefusal (packOf 2 (4 ∷ []) (4 ∷ []) (0 ∷ [])) ≡ 3
-unfolding packRefusal planesRefusal bothSet rowsPastEnd rowPart pastEnd anyTo bitAt bit
-both-first = refl
+-- a bit in both planes past the length is 4, and so are a bit past the length and another in both planes before it
+pub past-first : packRefusal (packOf 2 (4 ∷ []) (4 ∷ []) (0 ∷ [])) ≡ 4
+unfolding packRefusalUnder planesRefusal bothSet rowsPastEnd rowPart pastEnd anyTo bitAt bit
+past-first = refl
+
+pub past-beside : packRefusal (packOf 2 (1 ∷ []) (5 ∷ []) (0 ∷ [])) ≡ 4
+unfolding packRefusalUnder planesRefusal bothSet rowsPastEnd rowPart pastEnd anyTo bitAt bit
+past-beside = refl
+
+-- each alone: 3, 4
+pub both-alone : packRefusal (packOf 2 (1 ∷ []) (1 ∷ []) (0 ∷ [])) ≡ 3
+unfolding packRefusalUnder planesRefusal bothSet rowsPastEnd rowPart pastEnd anyTo bitAt bit
+both-alone = refl
 
 pub past-alone : packRefusal (packOf 2 (4 ∷ []) (0 ∷ []) (0 ∷ [])) ≡ 4
-unfolding packRefusal planesRefusal bothSet rowsPastEnd rowPart pastEnd anyTo bitAt bit
+unfolding packRefusalUnder planesRefusal bothSet rowsPastEnd rowPart pastEnd anyTo bitAt bit
 past-alone = refl
 
 -- 16,385 trits are 1 in all three calls, and 16,384 pass that test
 pub too-many : (packRefusal (packOf 16385 [] [] []) ≡ 1) × (unpackRefusal (unpackOf 16385 [] [] []) ≡ 1) × (streamRefusal (streamOf 16385 [] [] []) ≡ 1)
-unfolding packRefusal unpackRefusal streamRefusal
+unfolding packRefusalUnder unpackRefusal streamRefusal
 too-many = (refl, refl, refl)
 
 pub most-many : (packRefusal (packOf 16384 [] [] []) ≡ 2) × (unpackRefusal (unpackOf 16384 [] [] []) ≡ 2)
     × (streamRefusal (streamOf 16384 [] [] []) ≡ 2)
-unfolding packRefusal unpackRefusal streamRefusal
+unfolding packRefusalUnder unpackRefusal streamRefusal
 most-many = (refl, refl, refl)

@@ -5,4 +5,5 @@ pub mod Putting
 pub mod Past
 pub mod Turned
 pub mod RoundTrip
+pub mod Stages
 pub mod Cases

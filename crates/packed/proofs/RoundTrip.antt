@@ -21,7 +21,7 @@ use Rattle.trits.proofs.Matrix.{one-row-past}
 use Rattle.trits.proofs.Ends.{upto-out, upto-ended}
 use Rattle.trits.proofs.Refusals.{passed-refuse, passed-demand, planes-passed, vector-passes, exit-new}
 use Rattle.packed.specs.Packed.{bytesFor, byteOf, digitOf, packedRow, packedBytes, badByte, packedRefusal}
-use Rattle.packed.specs.Calls.{Pack, packOf, packRefusal, packExit, Unpack, unpackOf, unpackRefusal, unpackOnes, unpackTwos}
+use Rattle.packed.specs.Calls.{Pack, packOf, packRefusal, packRefusalUnder, packExit, Unpack, unpackOf, unpackRefusal, unpackOnes, unpackTwos}
 use Rattle.trits.proofs.Arithmetic.{trit-number}
 use Rattle.packed.proofs.Digits.{digit-number, byte-lt, digit-byte, byte-digits, packed-place}
 use Rattle.packed.proofs.Keeping.{big, bytes-small}
@@ -123,7 +123,7 @@ pub record Packable (c : Pack) : Type 0 where
   pub past : pastEnd (c .ones) (c .twos) (c .m) ≡ false
 
 pub packable : (c : Pack) → packRefusal c ≡ 0 → Packable c
-unfolding packRefusal
+unfolding packRefusalUnder
 packable c e =
     let m = c .m in
     let a = passed-refuse (ltb 16384 m) 1 _ (lit< tt) e in

@@ -12,14 +12,14 @@ use Rattle.trits.specs.Refusal.{refuse, planesRefusal}
 use Rattle.trits.proofs.Refusals.{passed-refuse, Leaves, leaves-none, leaves-refuse}
 use Rattle.packed.specs.Packed.{bytesFor, packedRow, badByte, packedPastEnd, packedRefusal}
 use Rattle.packed.specs.Stream.{kept, tooShort}
-use Rattle.packed.specs.Calls.{packOf, packRefusal, unpackOf, unpackRefusal, streamOf, streamRefusal}
+use Rattle.packed.specs.Calls.{packOf, packRefusal, packRefusalUnder, unpackOf, unpackRefusal, streamOf, streamRefusal}
 use Rattle.packed.proofs.Past.{packed-ended}
 
 module _ (m : ℕ) (ones twos bytes : List ℕ) where
   -- too many trits
   module _ (l : 16384 < m) where
     pub pack-size : 1 ≡ packRefusal (packOf m ones twos bytes)
-    unfolding packRefusal
+    unfolding packRefusalUnder
     pack-size = rw (lt-ltb 16384 m l)
 
     pub unpack-size : 1 ≡ unpackRefusal (unpackOf m bytes ones twos)
@@ -33,7 +33,7 @@ module _ (m : ℕ) (ones twos bytes : List ℕ) where
   -- a wrong length, of the planes or of the bytes
   module _ (l : m ≤ 16384) where
     pub pack-ones : (length ones ≡ wordsFor m → ⊥) → 2 ≡ packRefusal (packOf m ones twos bytes)
-    unfolding packRefusal
+    unfolding packRefusalUnder
     pack-ones f = rw (le-ltb 16384 m l, ne-eqb _ _ f)
 
     pub stream-ones : (length ones ≡ wordsFor m → ⊥) → 2 ≡ streamRefusal (streamOf m bytes ones twos)
@@ -46,7 +46,7 @@ module _ (m : ℕ) (ones twos bytes : List ℕ) where
 
     module _ (o : length ones ≡ wordsFor m) where
       pub pack-twos : (length twos ≡ wordsFor m → ⊥) → 2 ≡ packRefusal (packOf m ones twos bytes)
-      unfolding packRefusal
+      unfolding packRefusalUnder
       pack-twos f = rw (le-ltb 16384 m l, eq-eqb _ _ o, ne-eqb _ _ f)
 
       pub stream-twos : (length twos ≡ wordsFor m → ⊥) → 2 ≡ streamRefusal (streamOf m bytes ones twos)
@@ -55,7 +55,7 @@ module _ (m : ℕ) (ones twos bytes : List ℕ) where
 
       module _ (t : length twos ≡ wordsFor m) where
         pub pack-bytes : (length bytes ≡ bytesFor m → ⊥) → 2 ≡ packRefusal (packOf m ones twos bytes)
-        unfolding packRefusal
+        unfolding packRefusalUnder
         pack-bytes f = rw (le-ltb 16384 m l, eq-eqb _ _ o, eq-eqb _ _ t, ne-eqb _ _ f)
 
         -- the stream decides
@@ -81,7 +81,7 @@ module _ (m : ℕ) (ones twos bytes : List ℕ) where
 
           -- the row decides
           pub pack-passed : planesRefusal ones twos 1 m ≡ packRefusal (packOf m ones twos bytes)
-          unfolding packRefusal
+          unfolding packRefusalUnder
           pack-passed = rw (le-ltb 16384 m l, eq-eqb _ _ o, eq-eqb _ _ t, eq-eqb _ _ b)
 
 -- the tests of the contents, when they are known

@@ -4,7 +4,7 @@ use Prim.Native.Nat.{ℕ}
 use lib.Dec.{eqb, ltb}
 use lib.ListN.{length}
 use Rattle.trits.specs.Planes.{tritAt, onesOf, twosOf, wordsFor}
-use Rattle.trits.specs.Refusal.{refuse, demand, atExit, planesRefusal}
+use Rattle.trits.specs.Refusal.{refuse, demand, atExit, PlanesTest, planesRefusal}
 use Rattle.packed.specs.Packed.{bytesFor, packedRow, packedBytes, packedRefusal}
 use Rattle.packed.specs.Stream.{streamRow, tooShort}
 
@@ -24,15 +24,18 @@ pub record Pack : Type 0 where
 abbrev pub packOf : ℕ → List ℕ → List ℕ → List ℕ → Pack
 packOf m ones twos bytes = record { m = m; ones = ones; twos = twos; bytes = bytes }
 
--- 1, every length, then the row's contents
-unfoldable pub packRefusal : Pack → ℕ
-packRefusal c =
+-- 1, every length, then the row's contents, whichever way they are tested
+unfoldable pub packRefusalUnder : PlanesTest → Pack → ℕ
+packRefusalUnder test c =
     let m = c .m in
     refuse (ltb mostTrits m) 1
     (demand (eqb (length (c .ones)) (wordsFor m)) 2
     (demand (eqb (length (c .twos)) (wordsFor m)) 2
     (demand (eqb (length (c .bytes)) (bytesFor m)) 2
-    (planesRefusal (c .ones) (c .twos) 1 m))))
+    (test (c .ones) (c .twos) 1 m))))
+
+abbrev pub packRefusal : Pack → ℕ
+packRefusal c = packRefusalUnder planesRefusal c
 
 -- the bytes at exit
 unfoldable pub packExit : Pack → List ℕ

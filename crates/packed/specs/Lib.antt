@@ -2,4 +2,5 @@
 pub mod Packed
 pub mod Stream
 pub mod Calls
+pub mod Stages
 pub mod Steps

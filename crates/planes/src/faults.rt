@@ -43,16 +43,16 @@ pub fn rows_past_end(ones: &[u64], twos: &[u64], rows: usize, m: usize) -> bool
     past >> used != 0
 }
 
-// The contents of one pair of planes: a bit in both, over the whole buffer, before a bit past the length.
+// The contents of one pair of planes: a bit past the length, over the whole buffer, before a bit in both.
 pub fn test_planes(ones: &[u64], twos: &[u64], rows: usize, m: usize) -> Outcome
     requires { ⌜ ForPlanes (now ones) (now twos) rows m ⌝ }
     ensures { λ r. ⌜ codeOf r ≡ planesRefusal (now (ones .entry)) (now (twos .entry)) rows m ⌝ }
 {
-    if both_set(ones, twos) {
-        return Outcome::Refused(Refusal::BothPlanes);
-    }
     if rows_past_end(ones, twos, rows, m) {
         return Outcome::Refused(Refusal::PastEnd);
+    }
+    if both_set(ones, twos) {
+        return Outcome::Refused(Refusal::BothPlanes);
     }
     Outcome::Done
 }

@@ -4,7 +4,7 @@ use mathlib.Core.Bool.{Bool, true, false, cond}
 use mathlib.Core.List.{List}
 use Prim.Native.Nat.{ℕ, _≤_}
 use lib.Dec.{eqb}
-use Rattle.trits.specs.Refusal.{atExit}
+use Rattle.trits.specs.Refusal.{atExit, planesRefusal}
 use Rattle.text.specs.Forms.{Line, noForm, keyLine, rowLine, signLine}
 use Rattle.text.specs.AsBefore.{keyNumberOf}
 use Rattle.held_key.specs.declared.state.Held.{Held}
@@ -27,15 +27,15 @@ module _ (a b : ℕ) (kept : Holding) (ka : kept .held .number ≤ a) (kb : kept
 
   digits-either : (digits : List ℕ) → digitsRefusalUnder a kept digits ≡ digitsRefusalUnder b kept digits
   unfolding digitsRefusalUnder
-  digits-either digits = store-either a b (rowStore kept digits) ka kb
+  digits-either digits = store-either a b planesRefusal (rowStore kept digits) ka kb
 
   kept-row-either : (digits : List ℕ) → rowKeptUnder a kept digits ≡ rowKeptUnder b kept digits
   unfolding rowKeptUnder
-  kept-row-either digits = rw (store-either a b (rowStore kept digits) ka kb)
+  kept-row-either digits = rw (store-either a b planesRefusal (rowStore kept digits) ka kb)
 
   sign-either : (number : ℕ) (y s : List ℕ) → signAnswerUnder a kept number y s ≡ signAnswerUnder b kept number y s
   unfolding signAnswerUnder
-  sign-either number y s = check-either a b (signCheck kept number y s) ka kb
+  sign-either number y s = check-either a b planesRefusal (signCheck kept number y s) ka kb
 
   -- what a line prints, and what it leaves
   pub prints-either : (l : Line) → keyNumberOf l ≤ a → keyNumberOf l ≤ b → linePrintsUnder a kept l ≡ linePrintsUnder b kept l
@@ -65,5 +65,5 @@ module _ (most : ℕ) (kept : Holding) (z : kept .held .number ≤ most) where
   unfolding lineKeptUnder keyNumberOf keyHeldUnder rowKeptUnder storedHeld nextHeld begunHeld
   number-kept noForm y = z
   number-kept (keyLine number n k w) y = exit-number (keyRefusalUnder most number n k w) (begunHeld number n k w) y
-  number-kept (rowLine digits) y = exit-number (storeRefusalUnder most (rowStore kept digits)) (nextHeld (kept .held)) z
+  number-kept (rowLine digits) y = exit-number (storeRefusalUnder most planesRefusal (rowStore kept digits)) (nextHeld (kept .held)) z
   number-kept (signLine number formula y′ s) y = z

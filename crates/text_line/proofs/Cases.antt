@@ -14,7 +14,7 @@ use Rattle.text.specs.Answers.{signRefused, lineRefused}
 use Rattle.held_key.specs.Held.{numbersFitUnder, soundUnder}
 use Rattle.held_key.specs.Store.{beginRefusalUnder}
 use Rattle.held_key.specs.Load.{Holding}
-use Rattle.check_tests.specs.Check.{callRefusalUnder, planesLengths, planesContents, checkRefusalUnder, answered, checkAnswerUnder}
+use Rattle.check_tests.specs.Check.{callRefusalUnder, planesLengths, planesContentsUnder, checkRefusalUnder, answered, checkAnswerUnder}
 use Rattle.text_line.specs.Answer.{holding, asked, keyPart, offeredOnes, offeredTwos, keyRefusalUnder, keyHeldUnder, signAnswer, signAnswerUnder}
 use Rattle.text_line.specs.Answer.{signPrints, refusalPrints, linePrints, linePrintsUnder, lineKept, lineKeptUnder, readLine}
 
@@ -78,7 +78,7 @@ answers-largest : (signAnswer largest 4294967295 (49 ∷ 50 ∷ []) (49 ∷ 49 �
     × (linePrints largest (signLine 255 12 (49 ∷ 50 ∷ []) (49 ∷ 49 ∷ [])) ≡ signRefused 255 12 22)
     × (linePrints none (signLine 4294967295 12 (49 ∷ 50 ∷ []) (49 ∷ 49 ∷ [])) ≡ signRefused 4294967295 12 20)
 unfolding linePrintsUnder signPrints signAnswerUnder checkAnswerUnder answered checkRefusalUnder first callRefusalUnder soundUnder numbersFitUnder
-    planesLengths planesContents planesRefusal bothSet anyTo bitAt bit rowsPastEnd rowPart pastEnd upTo keyPart asked offeredOnes offeredTwos onesOf twosOf
+    planesLengths planesContentsUnder planesRefusal bothSet anyTo bitAt bit rowsPastEnd rowPart pastEnd upTo keyPart asked offeredOnes offeredTwos onesOf twosOf
     tabulate fromBits digitRow digitAt zeroWords
 answers-largest = (refl, refl, refl, refl)
 

@@ -6,7 +6,7 @@ use Prim.Native.Nat.{ℕ}
 use lib.Dec.{eqb, leb, ltb}
 use lib.ListN.{length, take, drop}
 use Rattle.trits.specs.Planes.{onesOf, twosOf, wordsFor, zeroWords}
-use Rattle.trits.specs.Refusal.{refuse, atExit}
+use Rattle.trits.specs.Refusal.{refuse, atExit, planesRefusal}
 use Rattle.text.specs.Digits.{digitRow}
 use Rattle.text.specs.Forms.{Line, noForm, keyLine, rowLine, signLine, lineOf}
 use Rattle.text.specs.Answers.{verdictAnswer, signRefused, lineRefused}
@@ -60,13 +60,13 @@ rowStore kept digits =
     storeOf h (keyPart h (kept .ones)) (keyPart h (kept .twos)) (offeredOnes (rowTrits h) digits) (offeredTwos (rowTrits h) digits)
 
 unfoldable pub digitsRefusalUnder : ℕ → Holding → List ℕ → ℕ
-digitsRefusalUnder most kept digits = storeRefusalUnder most (rowStore kept digits)
+digitsRefusalUnder most kept digits = storeRefusalUnder most planesRefusal (rowStore kept digits)
 
 -- the state and the part of each plane that the key takes as the checker leaves them, and the words after that part
 unfoldable pub rowKeptUnder : ℕ → Holding → List ℕ → Holding
 rowKeptUnder most kept digits =
     let c = rowStore kept digits in
-    let refusal = storeRefusalUnder most c in record {
+    let refusal = storeRefusalUnder most planesRefusal c in record {
       held = storedHeld refusal (c .held);
       ones = storedPlane refusal (c .held) (c .ones) (c .rowOnes) ++ afterKey (kept .held) (kept .ones);
       twos = storedPlane refusal (c .held) (c .twos) (c .rowTwos) ++ afterKey (kept .held) (kept .twos);
@@ -82,7 +82,7 @@ signCheck kept number y s =
     (offeredOnes (h .k) s) (offeredTwos (h .k) s) (zeroWords (asked h (rowWords h))) (zeroWords (asked h (rowWords h)))
 
 unfoldable pub signAnswerUnder : ℕ → Holding → ℕ → List ℕ → List ℕ → Checked
-signAnswerUnder most kept number y s = checkAnswerUnder most (signCheck kept number y s)
+signAnswerUnder most kept number y s = checkAnswerUnder most planesRefusal (signCheck kept number y s)
 
 -- the answer to an S line: the verdict, or the refusal
 unfoldable pub signPrints : ℕ → ℕ → Checked → List ℕ

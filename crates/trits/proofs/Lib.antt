@@ -15,3 +15,4 @@ pub mod Matrix
 pub mod Ends
 pub mod Cases
 pub mod Refusals
+pub mod Stages

@@ -85,9 +85,9 @@ pub planes-passed : (ones twos : List ℕ) (rows m : ℕ) → planesRefusal ones
     × (rowsPastEnd ones twos rows m ≡ false)
 unfolding planesRefusal
 planes-passed ones twos rows m e =
-    let a = passed-refuse (bothSet ones twos) 3 _ (lit< tt) e in
-    let b = passed-refuse (rowsPastEnd ones twos rows m) 4 0 (lit< tt) (a .1) in
-    (a .0, b .0)
+    let a = passed-refuse (rowsPastEnd ones twos rows m) 4 _ (lit< tt) e in
+    let b = passed-refuse (bothSet ones twos) 3 0 (lit< tt) (a .1) in
+    (b .0, a .0)
 
 -- such planes can be read
 pub planes-row : {ones twos : List ℕ} (rows m : ℕ) → planesRefusal ones twos rows m ≡ 0 → length twos ≡ length ones
@@ -129,7 +129,7 @@ module _ (P : ℕ → Type 0) where
 
   pub planes-all : (ones twos : List ℕ) (rows m : ℕ) → P 3 → P 4 → P 0 → P (planesRefusal ones twos rows m)
   unfolding planesRefusal
-  planes-all ones twos rows m h g z = refuse-all (bothSet ones twos) 3 _ h (refuse-all (rowsPastEnd ones twos rows m) 4 0 g z)
+  planes-all ones twos rows m h g z = refuse-all (rowsPastEnd ones twos rows m) 4 _ g (refuse-all (bothSet ones twos) 3 0 h z)
 
 -- ---- the state or a lent buffer at exit
 

@@ -4,4 +4,5 @@ pub mod Trit
 pub mod Planes
 pub mod Rows
 pub mod Refusal
+pub mod Stages
 pub mod InDigits

@@ -73,9 +73,15 @@ spaceExit answer plane = cond (spaceStays answer) plane (zeroWords (length plane
 abbrev pub spacePairExit : ℕ → Pair → Pair
 spacePairExit answer space = pairOf (spaceExit answer (space .ones)) (spaceExit answer (space .twos))
 
--- ---- the contents of one pair of planes, of `rows` rows of m trits: 3 over the whole buffer before 4
-unfoldable pub planesRefusal : List ℕ → List ℕ → ℕ → ℕ → ℕ
+-- ---- the contents of one pair of planes
+
+-- how they are tested: from the ones, the twos, the number of rows and the trits of a row, the number of the refusal, or 0
+abbrev pub PlanesTest : Type 0
+PlanesTest = List ℕ → List ℕ → ℕ → ℕ → ℕ
+
+-- 4 over the whole buffer before 3 (request C-20): within a pair of planes the lower number does not come first
+unfoldable pub planesRefusal : PlanesTest
 planesRefusal ones twos rows m =
-    refuse (bothSet ones twos) 3
-    (refuse (rowsPastEnd ones twos rows m) 4
+    refuse (rowsPastEnd ones twos rows m) 4
+    (refuse (bothSet ones twos) 3
     0)

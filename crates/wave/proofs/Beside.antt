@@ -12,7 +12,7 @@ use Rattle.trits.specs.Planes.{bit, fromBits, bitAt, tritAt, tabulate, onesOf, 
 use Rattle.trits.specs.Rows.{rowsOf, rowPart, matrixAt, putWords, rowsPastEnd}
 use Rattle.trits.specs.Refusal.{first, spaceExit, planesRefusal}
 use Rattle.packed.specs.Packed.{byteOf, digitOf, packedRow, packedBytes, badByte, packedPastEnd, packedRefusal}
-use Rattle.packed.specs.Calls.{packRefusal, packExit}
+use Rattle.packed.specs.Calls.{packRefusalUnder, packExit}
 use Rattle.matrix.specs.Linear.{Vector, elem, agree, find, solve, inSpan, keep, pivots, rank, without, fill, range}
 use Rattle.matrix.specs.Orders.{isOrder}
 use Rattle.trits.specs.InDigits.{vector, digitRows}
@@ -21,14 +21,15 @@ use Rattle.verdict.specs.Verdict.{timesKey, fullWord, fullCounts, syndrome}
 use Rattle.held_key.specs.Held.{numbersFitUnder, soundUnder, heldRowUnder, heldKeyUnder}
 use Rattle.held_key.specs.Store.{beginRefusalUnder, begunHeld, beginHeld, rowRefusalUnder, storePackedRefusal, nextHeld, storedHeld, storedPlane}
 use Rattle.held_key.specs.Load.{offer, offerAll}
-use Rattle.check_tests.specs.Check.{callRefusalUnder, packedLengths, packedContents, checkPackedRefusal, heldCountsUnder, answered, checkPackedAnswer}
+use Rattle.check_tests.specs.Check.{callRefusalUnder, packedLengths, packedContentsUnder, checkPackedRefusalUnder, heldCountsUnder, answered}
+use Rattle.check_tests.specs.Check.{checkPackedAnswerUnder}
 use Rattle.scheme.specs.Sizes.{sizesFit}
 use Rattle.scheme.specs.Secret.{noZero, secretMatrix, hasZero}
 use Rattle.scheme.specs.Build.{arrange, arranged, rowOfR, buildRefusal}
 use Rattle.scheme.specs.Draw.{choicesFit, placed, pivotsV, suppliedV, drawV, pivotsU, suppliedU, drawU, drawn, drawRefusal}
-use Rattle.calls.specs.Lent.{secretDiffers, secretRefusal}
-use Rattle.calls.specs.BuildCall.{keyDiffers, buildLengthsDiffer, buildAnswer, orderExit, keyOnesOf, keyTwosOf, keyExit, buildWorkExit}
-use Rattle.calls.specs.DrawCall.{choicesDiffer, drawLengthsDiffer, choicesRefusal, drawAnswer, wordOf, wordExit, sExit, drawWorkExit}
+use Rattle.calls.specs.Lent.{secretDiffers, secretRefusalUnder}
+use Rattle.calls.specs.BuildCall.{keyDiffers, buildLengthsDiffer, buildAnswerUnder, orderExit, keyOnesOf, keyTwosOf, keyExit, buildWorkExit}
+use Rattle.calls.specs.DrawCall.{choicesDiffer, drawLengthsDiffer, choicesRefusalUnder, drawAnswerUnder, wordOf, wordExit, sExit, drawWorkExit}
 use Rattle.wave.specs.Terms.{Terms, builtKey, LentSyndrome, HandsOut}
 use Rattle.wave.specs.Examples.{sizes4, secret4, start1, key1, p2, key2, y4, draw4}
 use Rattle.wave.specs.Beside.{Beside, secretR, keyR}
@@ -148,19 +149,19 @@ refused-both t = let three : _≡_ {A = ℕ} 3 0 = t .contents in absurd (omega 
 not-2221 : HandsOut (sizes4 0 4) (draw4 start1 0 1 1 0) (vector (2 ∷ 2 ∷ 2 ∷ 1 ∷ [])) → ⊥
 unfolding dotV anyTo sumTo upTo bit fromBits bitAt tritAt tabulate onesOf twosOf bothSet pastEnd rowPart matrixAt rowsPastEnd first planesRefusal agree find
     solve inSpan keep pivots rank without fill range isOrder sizesFit pivotsV suppliedV drawV pivotsU suppliedU drawU drawn drawRefusal secretDiffers hasZero
-    secretRefusal choicesDiffer drawLengthsDiffer choicesRefusal drawAnswer wordOf wordExit
+    secretRefusalUnder choicesDiffer drawLengthsDiffer choicesRefusalUnder drawAnswerUnder wordOf wordExit
 not-2221 h = let other : _≡_ {A = ℕ} 1 2 = ap number (h .word 1 (omega arith)) in absurd (omega arith)
 
 none-0212 : (e : Vector) → HandsOut (sizes4 0 4) (draw4 start1 1 0 1 0) e → ⊥
 unfolding dotV anyTo sumTo upTo bit fromBits bitAt tritAt tabulate bothSet pastEnd rowPart matrixAt rowsPastEnd first planesRefusal agree find solve inSpan keep
-    pivots rank without fill range isOrder sizesFit pivotsV suppliedV drawV pivotsU suppliedU drawU drawn drawRefusal secretDiffers hasZero secretRefusal
-    choicesDiffer drawLengthsDiffer choicesRefusal drawAnswer
+    pivots rank without fill range isOrder sizesFit pivotsV suppliedV drawV pivotsU suppliedU drawU drawn drawRefusal secretDiffers hasZero secretRefusalUnder
+    choicesDiffer drawLengthsDiffer choicesRefusalUnder drawAnswerUnder
 none-0212 e h = let fourteen : _≡_ {A = ℕ} 14 0 = h .passed in absurd (omega arith)
 
 hands-2111 : HandsOut (sizes4 0 4) (draw4 start1 0 1 1 0) (vector (2 ∷ 1 ∷ 1 ∷ 1 ∷ []))
 unfolding dotV anyTo sumTo upTo bit fromBits bitAt tritAt tabulate onesOf twosOf bothSet pastEnd rowPart matrixAt rowsPastEnd first planesRefusal agree find
     solve inSpan keep pivots rank without fill range isOrder sizesFit pivotsV suppliedV drawV pivotsU suppliedU drawU drawn drawRefusal secretDiffers hasZero
-    secretRefusal choicesDiffer drawLengthsDiffer choicesRefusal drawAnswer wordOf wordExit
+    secretRefusalUnder choicesDiffer drawLengthsDiffer choicesRefusalUnder drawAnswerUnder wordOf wordExit
 hands-2111 = record { passed = refl; word = λ q h. by q (places-below q h) }
   where
     by : (q : ℕ) → (q ≡ 0) ⊎ (q ≡ 1) ⊎ (q ≡ 2) ⊎ (q ≡ 3)
@@ -182,12 +183,12 @@ hands-2111 = record { passed = refl; word = λ q h. by q (places-below q h) }
 
 pub beside : Beside
 unfolding dotV anyTo sumTo upTo bit fromBits bitAt tritAt tabulate onesOf twosOf zeroWords bothSet pastEnd rowsOf rowPart matrixAt putWords rowsPastEnd
-    first planesRefusal byteOf digitOf packedRow packedBytes badByte packedPastEnd packedRefusal packRefusal packExit agree find solve inSpan keep pivots
+    first planesRefusal byteOf digitOf packedRow packedBytes badByte packedPastEnd packedRefusal packRefusalUnder packExit agree find solve inSpan keep pivots
     rank without fill range isOrder digitRows timesKey fullWord fullCounts numbersFitUnder soundUnder heldRowUnder heldKeyUnder beginRefusalUnder begunHeld
-    beginHeld rowRefusalUnder storePackedRefusal nextHeld storedHeld storedPlane offer offerAll callRefusalUnder packedLengths packedContents
-    checkPackedRefusal heldCountsUnder answered checkPackedAnswer sizesFit noZero secretMatrix arrange arranged rowOfR buildRefusal choicesFit pivotsV
-    suppliedV drawV pivotsU suppliedU drawU drawn drawRefusal secretDiffers hasZero secretRefusal spaceExit keyDiffers buildLengthsDiffer buildAnswer
-    orderExit keyOnesOf keyTwosOf keyExit buildWorkExit choicesDiffer drawLengthsDiffer choicesRefusal drawAnswer wordOf wordExit sExit drawWorkExit
+    beginHeld rowRefusalUnder storePackedRefusal nextHeld storedHeld storedPlane offer offerAll callRefusalUnder packedLengths packedContentsUnder
+    checkPackedRefusalUnder heldCountsUnder answered checkPackedAnswerUnder sizesFit noZero secretMatrix arrange arranged rowOfR buildRefusal choicesFit pivotsV
+    suppliedV drawV pivotsU suppliedU drawU drawn drawRefusal secretDiffers hasZero secretRefusalUnder spaceExit keyDiffers buildLengthsDiffer buildAnswerUnder
+    orderExit keyOnesOf keyTwosOf keyExit buildWorkExit choicesDiffer drawLengthsDiffer choicesRefusalUnder drawAnswerUnder wordOf wordExit sExit drawWorkExit
     builtKey
 beside = record {
   word-1200 = refl;

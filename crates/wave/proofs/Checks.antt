@@ -9,6 +9,7 @@ use Rattle.trits.specs.declared.Counts.{Counts}
 use Rattle.packed.specs.Packed.{packedRow}
 use Rattle.matrix.specs.Linear.{Vector}
 use Rattle.check_tests.specs.Check.{Check, PackedCheck, checkRefusal, checkPackedRefusal, answered, checkAnswer, checkAnswerUnder, checkPackedAnswer}
+use Rattle.check_tests.specs.Check.{checkPackedAnswerUnder}
 use Rattle.check_tests.proofs.Passed.{check-passed, check-packed-passed}
 use Rattle.checker.proofs.Verdicts.{check-verdict, check-packed-verdict, found-once}
 use Rattle.wave.specs.Verifier.{HeldExtending, HeldFound}
@@ -40,7 +41,7 @@ module _ (c : Check) (r : checkAnswer c .refusal ≡ 0) where
 
 module _ (c : PackedCheck) (r : checkPackedAnswer c .refusal ≡ 0) where
   pub packed-not-refused : checkPackedRefusal c ≡ 0
-  unfolding checkPackedAnswer
+  unfolding checkPackedAnswerUnder
   packed-not-refused = answered-number (checkPackedRefusal c) _ _ r
 
   pub packed-says-yes : (checkPackedAnswer c .yes ≡ 1)

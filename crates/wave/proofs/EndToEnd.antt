@@ -31,8 +31,8 @@ use Rattle.held_key.specs.declared.state.Held.{Held}
 use Rattle.check_tests.specs.declared.Checked.{Checked}
 use Rattle.held_key.specs.Held.{rowTrits}
 use Rattle.held_key.specs.Load.{Holding, offerAll}
-use Rattle.check_tests.specs.Check.{callRefusal, planesLengths, planesContents, answered}
-use Rattle.check_tests.specs.Check.{checkRefusal, checkRefusalUnder, checkAnswer, packedCheckOf, checkPackedRefusal, checkPackedAnswer}
+use Rattle.check_tests.specs.Check.{callRefusal, planesLengths, planesContents, planesContentsUnder, answered}
+use Rattle.check_tests.specs.Check.{checkRefusal, checkRefusalUnder, checkAnswer, packedCheckOf, checkPackedRefusal, checkPackedRefusalUnder, checkPackedAnswer}
 use Rattle.check_tests.proofs.Passed.{check-packed-passed, packed-contents}
 use Rattle.checker.proofs.EndToEnd.{begun, offered, loaded}
 use Rattle.checker.proofs.Verdicts.{packed-agrees}
@@ -243,7 +243,7 @@ module _ (z : Sizes) (i : BuildCall) (b : Built z i) (g w : ℕ) (l : DrawCall) 
   packed-passed = packed-not-refused (carriedCheck z i g w l m) (ap (λ (x : Checked). x .refusal) packed-answer)
 
   call-passes : callRefusal (key .held) (m .number) (length (key .ones)) (length (key .twos)) (length (m .workOnes)) (length (m .workTwos)) ≡ 0
-  unfolding checkPackedRefusal
+  unfolding checkPackedRefusalUnder
   call-passes = passed-first (callRefusal (key .held) (m .number) (length (key .ones)) (length (key .twos)) (length (m .workOnes)) (length (m .workTwos))) _
       packed-passed .0
 
@@ -269,7 +269,7 @@ module _ (z : Sizes) (i : BuildCall) (b : Built z i) (g w : ℕ) (l : DrawCall) 
   s-passes = ap₂ (λ (x y : List ℕ). planesRefusal x y 1 (dim z)) s-ones s-twos ∙ written-passes (dim z) (signature Z (wordOf Z l))
 
   contents-pass : planesContents (key .held) (key .ones) (key .twos) (l .y .ones) (l .y .twos) (sExit Z l .ones) (sExit Z l .twos) ≡ 0
-  unfolding planesContents
+  unfolding planesContentsUnder
   contents-pass =
       let f : rowTrits (key .held) ≡ codim z = ap (λ (h : Held). rowTrits h) held-is ∙ size in
       let k : key .held .k ≡ dim z = ap (λ (h : Held). h .k) held-is in

@@ -16,16 +16,17 @@ use Rattle.scheme.specs.Secret.{noZero, hasZero}
 use Rattle.scheme.specs.Build.{buildFits, buildRefusal}
 use Rattle.scheme.specs.Draw.{choicesFit, drawRefusal}
 use Rattle.scheme.proofs.Zeros.{noZero-of}
-use Rattle.calls.specs.Lent.{Planes, secretOf, pairDiffers, secretRefusal}
-use Rattle.calls.specs.BuildCall.{BuildCall, buildLengthsDiffer, buildAnswer}
-use Rattle.calls.specs.DrawCall.{DrawCall, syndromeOf, choicesOf, drawWorkWords, choicesDiffer, drawLengthsDiffer, choicesRefusal, drawAnswer}
+use Rattle.calls.specs.Lent.{Planes, secretOf, pairDiffers, secretRefusal, secretRefusalUnder}
+use Rattle.calls.specs.BuildCall.{BuildCall, buildLengthsDiffer, buildAnswer, buildAnswerUnder}
+use Rattle.calls.specs.DrawCall.{DrawCall, syndromeOf, choicesOf, drawWorkWords, choicesDiffer, drawLengthsDiffer, choicesRefusal, choicesRefusalUnder}
+use Rattle.calls.specs.DrawCall.{drawAnswer, drawAnswerUnder}
 use Rattle.calls.proofs.Secrets.{differs}
 
 -- ---- the secret, whatever g and w are
 
 -- c is nowhere 0
 pub secret-unit : (z : Sizes) (k : Planes) → secretRefusal z k ≡ 0 → noZero (half z) (tritAt (k .c .ones) (k .c .twos)) ≡ true
-unfolding secretRefusal
+unfolding secretRefusalUnder
 secret-unit z k e =
     let a = passed-first (planesRefusal (k .hu .ones) (k .hu .twos) (ru z) (half z)) _ e in
     let b = passed-first (planesRefusal (k .hv .ones) (k .hv .twos) (rv z) (half z)) _ (a .1) in
@@ -43,7 +44,7 @@ pub record BuildPassed (z : Sizes) (i : BuildCall) : Type 0 where
   pub ranks : buildRefusal z (secretOf z (i .secret)) ≡ 0
 
 pub build-call : (z : Sizes) (i : BuildCall) → buildAnswer z i ≡ 0 → BuildPassed z i
-unfolding buildAnswer buildLengthsDiffer
+unfolding buildAnswerUnder buildLengthsDiffer
 build-call z i e =
     let a = passed-demand (sizesFit z) 1 _ (lit< tt) e in
     let b = passed-refuse (buildLengthsDiffer z i) 2 _ (lit< tt) (a .1) in
@@ -72,7 +73,7 @@ pub record DrawPassed (z : Sizes) (l : DrawCall) : Type 0 where
   pub draws : drawRefusal z (secretOf z (l .secret)) (l .p) (syndromeOf l) (choicesOf l) ≡ 0
 
 pub draw-call : (z : Sizes) (l : DrawCall) → drawAnswer z l ≡ 0 → DrawPassed z l
-unfolding drawAnswer choicesRefusal
+unfolding drawAnswerUnder choicesRefusalUnder
 draw-call z l e =
     let a = passed-demand (sizesFit z) 1 _ (lit< tt) e in
     let b = passed-refuse (drawLengthsDiffer z l) 2 _ (lit< tt) (a .1) in
@@ -101,7 +102,7 @@ draw-call z l e =
 
 -- and the other way
 pub call-draws : (z : Sizes) (l : DrawCall) → DrawPassed z l → drawAnswer z l ≡ 0
-unfolding drawAnswer choicesRefusal first
+unfolding drawAnswerUnder choicesRefusalUnder first
 call-draws z l p =
     rw (p .sizes, p .lengths, p .contents, p .order, p .syndrome, p .order-v, p .trits-v, p .order-u, p .values-u, p .last-u) (p .draws)
 

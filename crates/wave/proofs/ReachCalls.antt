@@ -29,7 +29,7 @@ use Rattle.scheme_laws.proofs.Pairs.{zero-no}
 use Rattle.scheme.proofs.Ranges.{sizes-fit}
 use Rattle.scheme.proofs.Zeros.{hasZero-of}
 use Rattle.scheme_laws.proofs.Draws.{Valid}
-use Rattle.calls.specs.Lent.{secretOf, secretDiffers, secretRefusal}
+use Rattle.calls.specs.Lent.{secretOf, secretDiffers, secretRefusal, secretRefusalUnder}
 use Rattle.calls.specs.BuildCall.{BuildCall, keyRowWords, orderExit, keyOnesOf, keyTwosOf, keyExit}
 use Rattle.calls.specs.DrawCall.{DrawCall, choicesOf, drawWorkWords, drawLengthsDiffer, drawAnswer, wordOf, wordExit, sExit}
 use Rattle.wave.specs.Terms.{Built, builtKey, sized, LentSyndrome, LentAs, Under, HandsOut, Bits, SomeDraw, KeyTerms}
@@ -190,7 +190,7 @@ module _ (z : Sizes) (i : BuildCall) (b : Built z i) (g w : ℕ) (fit : sizesFit
       (length-zeros (drawWorkWords z)) (length-zeros (drawWorkWords z)))
 
   made-secret : secretRefusal Z (i .secret) ≡ 0
-  unfolding secretRefusal
+  unfolding secretRefusalUnder
   made-secret = build-call z i b .contents
 
   made-passes : DrawPassed Z made

@@ -11,7 +11,7 @@ use Rattle.trits.specs.Rows.{rowsOf, rowPart, matrixAt, rowsPastEnd}
 use Rattle.trits.specs.Refusal.{first, spaceExit, planesRefusal}
 use Rattle.trits.proofs.Ends.{upto-in}
 use Rattle.packed.specs.Packed.{byteOf, digitOf, packedRow, packedBytes, badByte, packedPastEnd, packedRefusal}
-use Rattle.packed.specs.Calls.{packRefusal, packExit, unpackRefusal, unpackOnes, unpackTwos}
+use Rattle.packed.specs.Calls.{packRefusalUnder, packExit, unpackRefusal, unpackOnes, unpackTwos}
 use Rattle.matrix.specs.Linear.{Vector, agree, find, solve, inSpan, keep, pivots, rank, without, fill, range}
 use Rattle.matrix.specs.Orders.{isOrder}
 use Rattle.trits.specs.InDigits.{digitRows}
@@ -19,14 +19,15 @@ use Rattle.matrix.proofs.Field.{set-not}
 use Rattle.matrix.proofs.Places.{elem-at}
 use Rattle.verdict.specs.Verdict.{timesKey, fullWord, fullCounts, saysYes}
 use Rattle.held_key.specs.Held.{numbersFitUnder, soundUnder, heldRowUnder, heldKeyUnder}
-use Rattle.check_tests.specs.Check.{callRefusalUnder, packedLengths, packedContents, checkPackedRefusal, heldCountsUnder, answered, checkPackedAnswer}
+use Rattle.check_tests.specs.Check.{callRefusalUnder, packedLengths, packedContentsUnder, checkPackedRefusalUnder, heldCountsUnder, answered}
+use Rattle.check_tests.specs.Check.{checkPackedAnswerUnder}
 use Rattle.scheme.specs.Sizes.{sizesFit}
 use Rattle.scheme.specs.Secret.{secretMatrix, hasZero}
 use Rattle.scheme.specs.Build.{arrange, arranged, rowOfR, buildRefusal}
 use Rattle.scheme.specs.Draw.{placed, signature, pivotsV, suppliedV, drawV, pivotsU, suppliedU, drawU, drawn, drawRefusal}
-use Rattle.calls.specs.Lent.{secretDiffers, secretRefusal}
-use Rattle.calls.specs.BuildCall.{keyDiffers, buildLengthsDiffer, buildAnswer, orderExit, keyOnesOf, keyTwosOf, keyExit, buildWorkExit}
-use Rattle.calls.specs.DrawCall.{choicesDiffer, drawLengthsDiffer, choicesRefusal, drawAnswer, wordOf, wordExit, sExit, drawWorkExit}
+use Rattle.calls.specs.Lent.{secretDiffers, secretRefusalUnder}
+use Rattle.calls.specs.BuildCall.{keyDiffers, buildLengthsDiffer, buildAnswer, buildAnswerUnder, orderExit, keyOnesOf, keyTwosOf, keyExit, buildWorkExit}
+use Rattle.calls.specs.DrawCall.{choicesDiffer, drawLengthsDiffer, choicesRefusalUnder, drawAnswerUnder, wordOf, wordExit, sExit, drawWorkExit}
 use Rattle.wave.specs.Examples.{sizes4, start1, build4}
 use Rattle.wave.specs.Starred.{NoDrawMakes1200, gap4, Starred}
 use Rattle.wave.proofs.ReachCalls.{handed-signature, drawn-terms}
@@ -35,12 +36,12 @@ use Rattle.wave.proofs.ReachCalls.{handed-signature, drawn-terms}
 
 first-built : buildAnswer (sizes4 0 4) (build4 start1) ≡ 0
 unfolding dotV anyTo bit bitAt tritAt bothSet pastEnd rowPart matrixAt rowsPastEnd first planesRefusal agree find solve inSpan keep pivots rank range isOrder
-    sizesFit buildRefusal secretDiffers hasZero secretRefusal keyDiffers buildLengthsDiffer buildAnswer
+    sizesFit buildRefusal secretDiffers hasZero secretRefusalUnder keyDiffers buildLengthsDiffer buildAnswerUnder
 first-built = refl
 
 first-order : orderExit (sizes4 0 4) (build4 start1) ≡ start1
 unfolding dotV anyTo bit bitAt tritAt bothSet pastEnd rowPart matrixAt rowsPastEnd first planesRefusal agree find solve inSpan keep pivots rank range isOrder
-    sizesFit secretMatrix arrange arranged buildRefusal secretDiffers hasZero secretRefusal keyDiffers buildLengthsDiffer buildAnswer orderExit
+    sizesFit secretMatrix arrange arranged buildRefusal secretDiffers hasZero secretRefusalUnder keyDiffers buildLengthsDiffer buildAnswerUnder orderExit
 first-order = refl
 
 -- ---- the star over every call
@@ -77,12 +78,12 @@ never g one l u d s1 s2 =
 
 pub starred : Starred
 unfolding dotV anyTo sumTo upTo bit fromBits bitAt tritAt tabulate onesOf twosOf zeroWords bothSet pastEnd rowsOf rowPart matrixAt rowsPastEnd first
-    planesRefusal byteOf digitOf packedRow packedBytes badByte packedPastEnd packedRefusal packRefusal packExit unpackRefusal unpackOnes unpackTwos agree
-    find solve inSpan keep pivots rank without fill range isOrder digitRows timesKey fullWord fullCounts saysYes numbersFitUnder soundUnder heldRowUnder
-    heldKeyUnder callRefusalUnder packedLengths packedContents checkPackedRefusal heldCountsUnder answered checkPackedAnswer sizesFit secretMatrix arrange
-    arranged rowOfR buildRefusal pivotsV suppliedV drawV pivotsU suppliedU drawU drawn drawRefusal secretDiffers hasZero secretRefusal spaceExit keyDiffers
-    buildLengthsDiffer buildAnswer orderExit keyOnesOf keyTwosOf keyExit buildWorkExit choicesDiffer drawLengthsDiffer choicesRefusal drawAnswer wordOf
-    wordExit sExit drawWorkExit
+    planesRefusal byteOf digitOf packedRow packedBytes badByte packedPastEnd packedRefusal packRefusalUnder packExit unpackRefusal unpackOnes unpackTwos
+    agree find solve inSpan keep pivots rank without fill range isOrder digitRows timesKey fullWord fullCounts saysYes numbersFitUnder soundUnder
+    heldRowUnder heldKeyUnder callRefusalUnder packedLengths packedContentsUnder checkPackedRefusalUnder heldCountsUnder answered checkPackedAnswerUnder
+    sizesFit secretMatrix arrange arranged rowOfR buildRefusal pivotsV suppliedV drawV pivotsU suppliedU drawU drawn drawRefusal secretDiffers hasZero
+    secretRefusalUnder spaceExit keyDiffers buildLengthsDiffer buildAnswerUnder orderExit keyOnesOf keyTwosOf keyExit buildWorkExit choicesDiffer
+    drawLengthsDiffer choicesRefusalUnder drawAnswerUnder wordOf wordExit sExit drawWorkExit
 starred = record {
   packs-88 = refl;
   packed-88 = refl;

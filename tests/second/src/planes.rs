@@ -8,17 +8,17 @@ fn bit(plane: &[u64], row_start: usize, place: usize) -> bool {
     plane[row_start + place / 64] >> (place % 64) & 1 == 1
 }
 
-/// 3 for a bit set in both planes, anywhere; then 4 for a bit set past the length of a row; else 0. The lengths are right.
+/// 4 for a bit set past the length of any row; then 3 for a bit set in both planes, anywhere; else 0. The lengths are right.
 pub fn fault(ones: &[u64], twos: &[u64], rows: usize, m: usize) -> u64 {
-    if ones.iter().zip(twos).any(|(a, b)| a & b != 0) {
-        return 3;
-    }
     for r in 0..rows {
         for place in m..64 * words(m) {
             if bit(ones, r * words(m), place) || bit(twos, r * words(m), place) {
                 return 4;
             }
         }
+    }
+    if ones.iter().zip(twos).any(|(a, b)| a & b != 0) {
+        return 3;
     }
     0
 }

@@ -65,9 +65,13 @@ fn packing_examples() {
     let mut bytes = vec![0; 3277];
     assert_eq!(pack(16384, &[0; 256], &[0; 256], &mut bytes), 0);
     assert_eq!(pack(16385, &[0; 257], &[0; 257], &mut bytes), 1);
-    // 3 anywhere comes before 4
-    assert_eq!(pack(2, &[4 | 1 << 63], &[1 << 63], &mut [0]), 3);
+    // 4 comes before 3, with the same bit or another
+    assert_eq!(pack(2, &[4 | 1 << 63], &[1 << 63], &mut [0]), 4);
+    assert_eq!(pack(2, &[1 << 63], &[1 << 63], &mut [0]), 4);
+    assert_eq!(pack(2, &[5], &[1], &mut [0]), 4);
+    assert_eq!(pack(2, &[1], &[5], &mut [0]), 4);
     assert_eq!(pack(2, &[4], &[0], &mut [0]), 4);
+    assert_eq!(pack(2, &[1], &[1], &mut [0]), 3);
 }
 
 /// Every text of one byte or two, at every length that takes so many: what is read packs to its bytes, and as many texts are read as there are rows.

@@ -9,7 +9,7 @@ use denote.Ref.{now}
 use Rattle.trits.specs.Planes.{wordsFor}
 use Rattle.trits.specs.Refusal.{codeOf, first, planesRefusal}
 use Rattle.trits.proofs.Refusals.{first-stops, first-goes}
-use Rattle.check_tests.specs.Check.{planesContents}
+use Rattle.check_tests.specs.Check.{planesContentsUnder}
 use Rattle.held_key.specs.Held.{rowTrits}
 use Rattle.held_key.proofs.Sizes.{sizes}
 use Rattle.check_tests.proofs.Passed.{Fitted, fitted}
@@ -62,7 +62,7 @@ code-requires : tie.Need-code-requires
 code-requires c κs = search needs
 
 returns : tie.Need-returns
-unfolding planesContents
+unfolding planesContentsUnder
 returns c =
     first-stops _ (key-told (c .before .before)) (λ z. c .if1 .taken (c .before .code .ensures ∙ z))
 
@@ -75,7 +75,7 @@ code-requires-2 : tie.Need-code-requires-2
 code-requires-2 c κs = search needs
 
 returns-2 : tie.Need-returns-2
-unfolding planesContents
+unfolding planesContentsUnder
 returns-2 c =
     key-goes (c .before .before .before) (first-stops _ (y-told (c .before .before)) (λ z. c .if2 .taken (c .before .code2 .ensures ∙ z)))
 
@@ -85,7 +85,7 @@ test-planes-requires-3 c κs =
     omega (arith, fitting s, sizes (s .args .held) (s .pre .0 .is-sound))
 
 returns-3 : tie.Need-returns-3
-unfolding planesContents
+unfolding planesContentsUnder
 returns-3 c =
     key-goes (c .before .before .before .before)
     (first-goes (y-told (c .before .before .before)) (sym (c .before .before .code2 .ensures) ∙ c .before .if2 .left) (c .test-planes3 .ensures))

@@ -6,7 +6,7 @@ use lib.ListN.{length}
 use denote.Ref.{now}
 use Rattle.trits.specs.Refusal.{codeOf}
 use Rattle.trits.proofs.Refusals.{first-stops, first-goes}
-use Rattle.check_tests.specs.Check.{checkPackedRefusal}
+use Rattle.check_tests.specs.Check.{checkPackedRefusalUnder}
 use Rattle.check_tests.proofs.Passed.{Called, called, whole}
 use Rattle.check_tests.proofs.test_packed_check.Statement.{statement}
 use Rattle.check_tests.proofs.test_packed_check.Tie as tie
@@ -31,7 +31,7 @@ code-requires : tie.Need-code-requires
 code-requires c κs = search needs
 
 returns : tie.Need-returns
-unfolding checkPackedRefusal
+unfolding checkPackedRefusalUnder
 returns c =
     first-stops _ (c .before .before .test-call .ensures) (λ z. c .if1 .taken (c .before .code .ensures ∙ z))
 
@@ -42,7 +42,7 @@ code-requires-2 : tie.Need-code-requires-2
 code-requires-2 c κs = search needs
 
 returns-2 : tie.Need-returns-2
-unfolding checkPackedRefusal
+unfolding checkPackedRefusalUnder
 returns-2 c =
     let else1 = c .before .before .before in
     first-goes (else1 .before .before .test-call .ensures) (call-passed else1)
@@ -53,7 +53,7 @@ test-packed-contents-requires c κs =
     (whole (key-called (c .before .before .before)), sym (c .before .before .test-packed-lengths .ensures) ∙ sym (c .before .code2 .ensures) ∙ c .if2 .left)
 
 returns-3 : tie.Need-returns-3
-unfolding checkPackedRefusal
+unfolding checkPackedRefusalUnder
 returns-3 c =
     let else1 = c .before .before .before .before in
     first-goes (else1 .before .before .test-call .ensures) (call-passed else1)

@@ -10,7 +10,7 @@ use Rattle.trits.specs.Planes.{wordsFor}
 use Rattle.trits.specs.Refusal.{codeOf, first, planesRefusal}
 use Rattle.trits.proofs.Refusals.{first-stops, first-goes}
 use Rattle.packed.specs.Packed.{bytesFor, packedRefusal}
-use Rattle.check_tests.specs.Check.{packedContents}
+use Rattle.check_tests.specs.Check.{packedContentsUnder}
 use Rattle.held_key.specs.Held.{rowTrits}
 use Rattle.held_key.proofs.Sizes.{sizes}
 use Rattle.check_tests.proofs.Passed.{packed-fitted}
@@ -64,7 +64,7 @@ code-requires : tie.Need-code-requires
 code-requires c κs = search needs
 
 returns : tie.Need-returns
-unfolding packedContents
+unfolding packedContentsUnder
 returns c =
     first-stops _ (key-told (c .before .before)) (λ z. c .if1 .taken (c .before .code .ensures ∙ z))
 
@@ -76,7 +76,7 @@ code-requires-2 : tie.Need-code-requires-2
 code-requires-2 c κs = search needs
 
 returns-2 : tie.Need-returns-2
-unfolding packedContents
+unfolding packedContentsUnder
 returns-2 c =
     key-goes (c .before .before .before) (first-stops _ (y-told (c .before .before)) (λ z. c .if2 .taken (c .before .code2 .ensures ∙ z)))
 
@@ -86,7 +86,7 @@ test-bytes-requires-2 c κs =
     omega (arith, fitting (start-from-else1 else1), else1 .before .before .before .row-trits .ensures)
 
 returns-3 : tie.Need-returns-3
-unfolding packedContents
+unfolding packedContentsUnder
 returns-3 c =
     key-goes (c .before .before .before .before)
     (first-goes (y-told (c .before .before .before)) (sym (c .before .before .code2 .ensures) ∙ c .before .if2 .left) (c .test-bytes2 .ensures))

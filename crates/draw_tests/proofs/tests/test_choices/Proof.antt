@@ -12,7 +12,7 @@ use Rattle.matrix.specs.Orders.{isOrder}
 use Rattle.matrix.proofs.Field.{not-true, not-false}
 use Rattle.scheme.specs.Sizes.{half, places, codim, gapU}
 use Rattle.scheme.specs.Secret.{hasZero}
-use Rattle.calls.specs.DrawCall.{choicesRefusal}
+use Rattle.calls.specs.DrawCall.{choicesRefusal, choicesRefusalUnder}
 use Rattle.calls.proofs.Bounds.{Bounds, bounds}
 use Rattle.draw_tests.specs.Steps.{chosen}
 use borrow.Author.Needs.{needs}
@@ -106,7 +106,7 @@ u-order-told c =
 
 -- past each test that passed, the tests that are left decide
 past-p : (c : tie.Else1) → from-y (start-from-else1 c) ≡ all (start-from-else1 c)
-unfolding choicesRefusal
+unfolding choicesRefusalUnder
 past-p c = met _ (p-told (c .before) ∙ not-false (c .before .is-order .result) (c .if1 .left))
 
 past-y : (c : tie.Else2) → from-v-order (start-from-else2 c) ≡ all (start-from-else2 c)
@@ -133,7 +133,7 @@ is-order-requires c κs =
     omega (arith, within s .high, within s .even, s .pre .1 .order)
 
 returns : tie.Need-returns
-unfolding choicesRefusal
+unfolding choicesRefusalUnder
 returns c = failed _ (p-told (c .before) ∙ not-true (c .before .is-order .result) (c .if1 .taken))
 
 sub-test-planes : tie.Need-sub-test-planes

@@ -244,7 +244,7 @@ pub fn faults(case: &Case) -> Vec<(Fault, u64)> {
                 if m > 0 && rows > 0 {
                     out.push((Fault::Both { at, rows, m, past: false }, 3));
                     if m % 64 != 0 {
-                        out.push((Fault::Both { at, rows, m, past: true }, 3));
+                        out.push((Fault::Both { at, rows, m, past: true }, 4));
                         out.push((Fault::Past { at, rows, m }, 4));
                         out.push((Fault::Past { at: at + 1, rows, m }, 4));
                     }

@@ -1,6 +1,6 @@
 //! Which cases are run: sizes at every edge with every fault, pairs of faults, round trips, and cases by chance.
 
-use crate::case::{Buffer, Call, Case, CALLS};
+use crate::case::{Buffer, Call, Case, Role, CALLS};
 use crate::compare::Comparer;
 use crate::damage::{faults, Fault};
 use crate::make::{self, SecretPlanes, Shape};
@@ -49,6 +49,52 @@ pub fn last_bytes(c: &mut Comparer) {
                 let found = c.compare(&case, std::slice::from_ref(&name)).refusal();
                 if found != rule {
                     c.report(&case, &[name], &format!("second answers {found}, the rule is {rule}"));
+                }
+            }
+        }
+    }
+}
+
+/// What is wrong with a pair of planes: nothing, a bit past the length in either, a bit in both planes within the length or past it, or two bits of these.
+fn plane_faults(at: usize, rows: usize, m: usize) -> [Vec<Fault>; 7] {
+    let (both, same) = (Fault::Both { at, rows, m, past: false }, Fault::Both { at, rows, m, past: true });
+    let (ones, twos) = (Fault::Past { at, rows, m }, Fault::Past { at: at + 1, rows, m });
+    [vec![], vec![ones], vec![twos], vec![both], vec![same], vec![both, ones], vec![both, twos]]
+}
+
+/// The rule in numbers for one pair of planes: 4 where a bit is past the length, else 3 where something is wrong.
+fn planes_rule(list: &[Fault]) -> u64 {
+    match list {
+        [] => 0,
+        _ if list.iter().any(|f| matches!(f, Fault::Past { .. } | Fault::Both { past: true, .. })) => 4,
+        _ => 3,
+    }
+}
+
+/// 4 before 3, but buffer after buffer: every two pairs of planes of a call are answered by the rule in numbers of the first that has something wrong.
+pub fn past_first(c: &mut Comparer) {
+    let mut cases = vec![make::pack(&mut c.rng, 2), make::pack(&mut c.rng, 130), make::check(&mut c.rng, 6, 3), make::check(&mut c.rng, 200, 70)];
+    for (n, ku, kv, g) in [(4, 1, 1, 0), (6, 1, 1, 1), (130, 32, 31, 5), (260, 3, 5, 2)] {
+        let shape = Shape { n, ku, kv, g };
+        cases.extend([make::build(&mut c.rng, &shape), make::draw(&mut c.rng, &shape)]);
+    }
+    for case in cases {
+        let mut planes = vec![];
+        for role in &case.roles {
+            if let Role::Planes { at, rows, m } = *role {
+                planes.push(plane_faults(at, rows, m));
+            }
+        }
+        for (i, earlier) in planes.iter().enumerate() {
+            let mut later = vec![vec![]];
+            later.extend(planes[i + 1..].iter().flat_map(|lists| lists[1..].to_vec()));
+            for (a, b) in earlier.iter().flat_map(|a| later.iter().map(move |b| (a, b))) {
+                let list = [a.as_slice(), b].concat();
+                let rule = planes_rule(if a.is_empty() { b } else { a });
+                let found = c.damaged(&case, &list).refusal();
+                if found != rule {
+                    let names: Vec<String> = list.iter().map(|f| f.name(case.call)).collect();
+                    c.report(&case, &names, &format!("second answers {found}, the rule is {rule}"));
                 }
             }
         }

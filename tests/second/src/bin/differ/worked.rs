@@ -69,6 +69,28 @@ pub fn cases(c: &mut Comparer) {
     expect(c, two(8), &[0], &[(1, one(0)), (2, one(3))]);
     expect(c, two(242), &[15], &[(1, one(3)), (2, one(4))]);
 
+    // two trits: 4 before 3, with the same bit or another, and each alone
+    for (ones, twos, refusal) in [(4, 4, 4), (5, 1, 4), (1, 5, 4), (1 << 63, 2 | 1 << 63, 4), (4, 0, 4), (1, 1, 3)] {
+        expect(c, Case::new(Call::Pack, vec![2], vec![one(ones), one(twos), Bytes(vec![9])]), &[refusal], &[(2, Bytes(vec![9]))]);
+    }
+    // the held rows: 3 in one and 4 in the other, either way round
+    for (ones, twos, refusal) in [([1, 4], [1, 0], 4), ([4, 1], [0, 1], 4), ([0, 1], [4, 1], 4), ([4, 0], [4, 0], 4), ([0, 1], [0, 1], 3)] {
+        let mut held = check(7, 4, "12", "11");
+        held.buffers[0] = Words(ones.to_vec());
+        held.buffers[1] = Words(twos.to_vec());
+        expect(c, held, &[refusal, 0, 0, 0], &[(4, one(5)), (5, one(6))]);
+    }
+    // H_U and H_V: within one 4 comes first; 3 in H_U comes before 4 in H_V
+    for (planes, refusal) in [([5, 1, 1, 2], 4), ([1, 1, 4, 0], 3), ([4, 0, 1, 1], 4), ([1, 1, 4, 4], 3), ([3, 0, 5, 1], 4)] {
+        let (mut built, mut drawn) = (build([0, 1, 2, 3]), draw(4, "2", "1"));
+        for (i, word) in planes.into_iter().enumerate() {
+            built.buffers[i] = one(word);
+            drawn.buffers[i] = one(word);
+        }
+        expect(c, built, &[refusal], &[(10, Words(vec![7; 2])), (12, Words(vec![5; 4])), (13, Words(vec![6; 4]))]);
+        expect(c, drawn, &[refusal], &[(17, one(1)), (18, one(2)), (19, one(3)), (20, one(4)), (21, Words(vec![5; 6])), (22, Words(vec![6; 6]))]);
+    }
+
     let [k1, k2] = pair("02 22");
     expect(c, build([0, 1, 2, 3]), &[0], &[(9, Order(vec![0, 1, 2, 3])), (10, k1), (11, k2), (12, Words(vec![0; 4])), (13, Words(vec![0; 4]))]);
     let [k1, k2] = pair("22 20");

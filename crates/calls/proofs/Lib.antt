@@ -4,3 +4,4 @@ pub mod Bounds
 pub mod Exits
 pub mod Secrets
 pub mod Stages
+pub mod Cases

@@ -80,13 +80,6 @@ module _ (z : Sizes) (i : Planes) where
   abbrev pub zeroInC : Bool
   zeroInC = hasZero (half z) (tritAt (i .c .ones) (i .c .twos))
 
-  -- each refusal of a secret leaves the working space
-  pub secret-leaves : Leaves (secretRefusal z i)
-  unfolding secretRefusalUnder
-  secret-leaves =
-      leaves-first _ _ (leaves-planes _ _ _ _) (leaves-first _ _ (leaves-planes _ _ _ _)
-      (leaves-first _ _ (leaves-planes _ _ _ _) (leaves-first _ _ (leaves-planes _ _ _ _) (leaves-refuse zeroInC 8 0 refl leaves-none))))
-
 module _ (z : Sizes) (i : Planes) {x : ℕ} (a : x ≡ refusalHU z i) where
   pub secret-hu : (x ≡ 0 → ⊥) → x ≡ secretRefusal z i
   unfolding secretRefusalUnder
@@ -115,6 +108,13 @@ module _ (z : Sizes) (i : Planes) {x : ℕ} (a : x ≡ refusalHU z i) where
           pub secret-good : zeroInC z i ≡ false → 0 ≡ secretRefusal z i
           unfolding secretRefusalUnder
           secret-good e = first-goes a f (first-goes b g (first-goes c h (first-goes d k (rw e))))
+
+-- each refusal of a secret leaves the working space
+pub secret-leaves : (z : Sizes) (i : Planes) → Leaves (secretRefusal z i)
+unfolding secretRefusalUnder
+secret-leaves z i =
+    leaves-first _ _ (leaves-planes _ _ _ _) (leaves-first _ _ (leaves-planes _ _ _ _)
+    (leaves-first _ _ (leaves-planes _ _ _ _) (leaves-first _ _ (leaves-planes _ _ _ _) (leaves-refuse (zeroInC z i) 8 0 refl leaves-none))))
 
 -- ---- contents that are not refused
 

@@ -4,3 +4,4 @@ pub mod Answers
 pub mod AsBefore
 pub mod Bounds
 pub mod Stages
+pub mod Cases

@@ -16,7 +16,7 @@ use Rattle.held_key.specs.Store.{beginRefusalUnder, begunHeld, beginHeld, packe
 use Rattle.held_key.specs.Store.{storedHeld, storedPlane}
 use Rattle.held_key.specs.Load.{offer, offerAll}
 use Rattle.check_tests.specs.Check.{callRefusalUnder, planesLengths, planesContentsUnder, packedLengths, packedContentsUnder, heldCountsUnder, answered}
-use Rattle.check_tests.specs.Check.{checkOf, checkRefusal, checkRefusalUnder, checkAnswer, checkAnswerUnder, packedCheckOf, checkPackedRefusal}
+use Rattle.check_tests.specs.Check.{checkOf, checkRefusalUnder, checkAnswer, checkAnswerUnder, packedCheckOf, checkPackedRefusal}
 use Rattle.check_tests.specs.Check.{checkPackedRefusalUnder, checkPackedAnswer, checkPackedAnswerUnder, checkPackedWorkOnes, checkPackedWorkTwos}
 
 -- P 7 4 2 4, over a state of any numbers
@@ -126,27 +126,6 @@ large : checkPackedRefusal (packedCheckOf (held 2) 7 (0 ∷ 0 ∷ []) (2 ∷ 3 �
 unfolding checkPackedRefusalUnder first callRefusalUnder soundUnder numbersFitUnder packedLengths packedContentsUnder planesRefusal bothSet anyTo bitAt bit
     rowsPastEnd rowPart pastEnd packedRefusal badByte packedPastEnd
 large = refl
-
--- in planes: 3 in the held rows before 4 in y, 3 in y before 4 in s; and 4 before 3 in each
-rows-before-y : checkRefusal (checkOf (held 2) 7 (0 ∷ 1 ∷ []) (2 ∷ 3 ∷ []) (5 ∷ []) (1 ∷ []) (3 ∷ []) (0 ∷ []) (5 ∷ []) (5 ∷ [])) ≡ 3
-unfolding checkRefusalUnder first callRefusalUnder soundUnder numbersFitUnder planesLengths planesContentsUnder planesRefusal bothSet anyTo bitAt bit
-    rowsPastEnd rowPart pastEnd
-rows-before-y = refl
-
-y-before-s : checkRefusal (checkOf (held 2) 7 (0 ∷ 0 ∷ []) (2 ∷ 3 ∷ []) (1 ∷ []) (1 ∷ []) (4 ∷ []) (0 ∷ []) (5 ∷ []) (5 ∷ [])) ≡ 3
-unfolding checkRefusalUnder first callRefusalUnder soundUnder numbersFitUnder planesLengths planesContentsUnder planesRefusal bothSet anyTo bitAt bit
-    rowsPastEnd rowPart pastEnd
-y-before-s = refl
-
-past-of-y : checkRefusal (checkOf (held 2) 7 (0 ∷ 0 ∷ []) (2 ∷ 3 ∷ []) (5 ∷ []) (1 ∷ []) (1 ∷ []) (1 ∷ []) (5 ∷ []) (5 ∷ [])) ≡ 4
-unfolding checkRefusalUnder first callRefusalUnder soundUnder numbersFitUnder planesLengths planesContentsUnder planesRefusal bothSet anyTo bitAt bit
-    rowsPastEnd rowPart pastEnd
-past-of-y = refl
-
-past-of-s : checkRefusal (checkOf (held 2) 7 (0 ∷ 0 ∷ []) (2 ∷ 3 ∷ []) (1 ∷ []) (2 ∷ []) (4 ∷ []) (4 ∷ []) (5 ∷ []) (5 ∷ [])) ≡ 4
-unfolding checkRefusalUnder first callRefusalUnder soundUnder numbersFitUnder planesLengths planesContentsUnder planesRefusal bothSet anyTo bitAt bit
-    rowsPastEnd rowPart pastEnd
-past-of-s = refl
 
 -- a trit past the length: 15 in y comes before 5 in s, 5 in y before 15 in s, and s is tested as y is
 past-y : checkPackedRefusal (packedCheckOf (held 2) 7 (0 ∷ 0 ∷ []) (2 ∷ 3 ∷ []) (9 ∷ []) (243 ∷ []) (5 ∷ []) (5 ∷ [])) ≡ 15

@@ -80,14 +80,41 @@ pub passed-demand : (t : Bool) (k x : ℕ) → 0 < k → demand t k x ≡ 0 → 
 passed-demand true k x h e = (refl, e)
 passed-demand false k x h e = absurd (omega arith)
 
--- planes that are not refused
-pub planes-passed : (ones twos : List ℕ) (rows m : ℕ) → planesRefusal ones twos rows m ≡ 0 → (bothSet ones twos ≡ false)
-    × (rowsPastEnd ones twos rows m ≡ false)
-unfolding planesRefusal
-planes-passed ones twos rows m e =
-    let a = passed-refuse (rowsPastEnd ones twos rows m) 4 _ (lit< tt) e in
-    let b = passed-refuse (bothSet ones twos) 3 0 (lit< tt) (a .1) in
-    (b .0, a .0)
+-- ---- a pair of planes
+
+module _ (ones twos : List ℕ) (rows m : ℕ) where
+  -- a bit past the length is 4, whatever else the buffer has
+  pub past-told : rowsPastEnd ones twos rows m ≡ true → planesRefusal ones twos rows m ≡ 4
+  unfolding planesRefusal
+  past-told e = rw e
+
+  -- with none there, a bit in both planes is 3
+  pub both-told : rowsPastEnd ones twos rows m ≡ false → bothSet ones twos ≡ true → planesRefusal ones twos rows m ≡ 3
+  unfolding planesRefusal
+  both-told e f = rw (e, f)
+
+  pub neither-told : rowsPastEnd ones twos rows m ≡ false → bothSet ones twos ≡ false → planesRefusal ones twos rows m ≡ 0
+  unfolding planesRefusal
+  neither-told e f = rw (e, f)
+
+  -- there are no other answers
+  pub planes-all : (P : ℕ → Type 0) → P 3 → P 4 → P 0 → P (planesRefusal ones twos rows m)
+  planes-all P three four none = by (rowsPastEnd ones twos rows m) refl (bothSet ones twos) refl
+    where
+      by : (past : Bool) → rowsPastEnd ones twos rows m ≡ past → (both : Bool) → bothSet ones twos ≡ both → P (planesRefusal ones twos rows m)
+      by true e both f = rw (past-told e) four
+      by false e true f = rw (both-told e f) three
+      by false e false f = rw (neither-told e f) none
+
+  -- planes that are not refused
+  pub planes-passed : planesRefusal ones twos rows m ≡ 0 → (bothSet ones twos ≡ false) × (rowsPastEnd ones twos rows m ≡ false)
+  planes-passed z = by (rowsPastEnd ones twos rows m) refl (bothSet ones twos) refl
+    where
+      by : (past : Bool) → rowsPastEnd ones twos rows m ≡ past → (both : Bool) → bothSet ones twos ≡ both
+          → (bothSet ones twos ≡ false) × (rowsPastEnd ones twos rows m ≡ false)
+      by true e both f = let k = sym (past-told e) ∙ z in absurd (omega arith)
+      by false e true f = let k = sym (both-told e f) ∙ z in absurd (omega arith)
+      by false e false f = (f, e)
 
 -- such planes can be read
 pub planes-row : {ones twos : List ℕ} (rows m : ℕ) → planesRefusal ones twos rows m ≡ 0 → length twos ≡ length ones
@@ -103,10 +130,10 @@ row-ended ones twos m e lo lt =
 -- the planes of a vector that is 0 from m on are not refused
 pub vector-passes : (v : ℕ → Trit) (m : ℕ) → ((i : ℕ) → m ≤ i → v i ≡ t0)
     → planesRefusal (onesOf v (wordsFor m)) (twosOf v (wordsFor m)) 1 m ≡ 0
-unfolding planesRefusal
 vector-passes v m z =
     let n = wordsFor m in
-    rw (written-both v n, one-row-past (onesOf v n) (twosOf v n) m (length-ones v n) (length-twos v n) ∙ written-past v m n z (omega arith))
+    neither-told (onesOf v n) (twosOf v n) 1 m (one-row-past (onesOf v n) (twosOf v n) m (length-ones v n) (length-twos v n) ∙ written-past v m n z (omega arith))
+    (written-both v n)
 
 -- ---- what is true of each refusal in a chain is true of what the chain tells
 
@@ -126,10 +153,6 @@ module _ (P : ℕ → Type 0) where
       by : (t : Bool) → P (cond t b a)
       by true = g
       by false = h
-
-  pub planes-all : (ones twos : List ℕ) (rows m : ℕ) → P 3 → P 4 → P 0 → P (planesRefusal ones twos rows m)
-  unfolding planesRefusal
-  planes-all ones twos rows m h g z = refuse-all (rowsPastEnd ones twos rows m) 4 _ g (refuse-all (bothSet ones twos) 3 0 h z)
 
 -- ---- the state or a lent buffer at exit
 
@@ -170,7 +193,7 @@ pub leaves-first : (a b : ℕ) → Leaves a → Leaves b → Leaves (first a b)
 leaves-first a b h g = first-all Leaves a b h g
 
 pub leaves-planes : (ones twos : List ℕ) (rows m : ℕ) → Leaves (planesRefusal ones twos rows m)
-leaves-planes ones twos rows m = planes-all Leaves ones twos rows m (record { stays = λ f. refl }) (record { stays = λ f. refl }) leaves-none
+leaves-planes ones twos rows m = planes-all ones twos rows m Leaves (record { stays = λ f. refl }) (record { stays = λ f. refl }) leaves-none
 
 -- the space after a call that a chain refused, told by k
 pub left-kept : (plane : List ℕ) {r k : ℕ} → k ≡ r → 0 < k → Leaves r → plane ≡ spaceExit r plane

@@ -1,6 +1,6 @@
 -- Computed: the contents of the secret and of the choices, buffer after buffer, 4 before 3 in each (request C-20). Assumes nothing.
 use mathlib.Core.Path.{_≡_, refl}
-use mathlib.Core.List.{List, [], _∷_}
+use mathlib.Core.List.{[], _∷_}
 use Prim.Native.Nat.{ℕ}
 use Rattle.trits.specs.Trit.{anyTo}
 use Rattle.trits.specs.Planes.{bit, bitAt, bothSet, pastEnd, tritAt}
@@ -10,7 +10,7 @@ use Rattle.matrix.specs.Orders.{isOrder}
 use Rattle.scheme.specs.declared.sizes.Sizes.{Sizes}
 use Rattle.scheme.specs.Secret.{hasZero}
 use Rattle.calls.specs.Lent.{planes, secretRefusal, secretRefusalUnder}
-use Rattle.calls.specs.DrawCall.{DrawCall, drawCall, choicesRefusal, choicesRefusalUnder}
+use Rattle.calls.specs.DrawCall.{drawCall, choicesRefusal, choicesRefusalUnder}
 
 -- the paper's sizes: every buffer is one word of two trits, or of one
 abbrev four : Sizes

@@ -1,4 +1,4 @@
--- The laws: marks of an order, sizes in their ranges, the secret's tests, the working space at exit.
+-- The laws: marks of an order, sizes in their ranges, the working space at exit, the secret's tests; what request C-20 changes, computed cases.
 pub mod Marks
 pub mod Bounds
 pub mod Exits

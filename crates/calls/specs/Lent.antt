@@ -52,7 +52,7 @@ secretDiffers z hu1 hu2 hv1 hv2 b1 b2 c1 c2 =
 
 -- ---- 4, 3 and 8: the contents, buffer after buffer
 
--- H_U, H_V, b, c, whichever way a pair of planes is tested, and 8 for c
+-- H_U, H_V, b, c, each 4 before 3, or by any other test of a pair of planes; and 8 for c
 unfoldable pub secretRefusalUnder : PlanesTest → Sizes → Planes → ℕ
 secretRefusalUnder test z i =
     first (test (i .hu .ones) (i .hu .twos) (ru z) (half z))
@@ -62,6 +62,5 @@ secretRefusalUnder test z i =
     (refuse (hasZero (half z) (tritAt (i .c .ones) (i .c .twos))) 8
     0))))
 
--- 4 before 3 in each
 abbrev pub secretRefusal : Sizes → Planes → ℕ
 secretRefusal z i = secretRefusalUnder planesRefusal z i

@@ -1,4 +1,4 @@
--- The definitions that the contracts cite: what both calls are lent, the build, the draw.
+-- The definitions that the contracts cite: what both calls are lent, the build, the draw; their tests in stages; last, what inner functions do.
 pub mod Lent
 pub mod BuildCall
 pub mod DrawCall

@@ -1,6 +1,6 @@
 -- Computed: the contents of a check, buffer after buffer, 4 before 3 in each (request C-20). Assumes nothing.
 use mathlib.Core.Path.{_≡_, refl}
-use mathlib.Core.List.{List, [], _∷_}
+use mathlib.Core.List.{[], _∷_}
 use Prim.Native.Nat.{ℕ}
 use Rattle.trits.specs.Trit.{anyTo}
 use Rattle.trits.specs.Planes.{bit, bitAt, bothSet, pastEnd}

@@ -5,7 +5,7 @@ use mathlib.Core.Logic.{_⊎_, inl, inr, _≢_}
 use Prim.Native.Nat.{ℕ}
 use native.Mathlib.Omega.{arith}
 use lib.ListN.{length}
-use Rattle.trits.specs.Refusal.{first, PlanesTest, planesRefusal}
+use Rattle.trits.specs.Refusal.{first, PlanesTest}
 use Rattle.trits.specs.declared.Counts.{Counts}
 use Rattle.trits.specs.declared.refusal.Refusal.the-variants.{BothPlanes, PastEnd}
 use Rattle.trits.specs.Stages.{bothFirst, decided, firstHasBoth, FourForThree}

@@ -87,7 +87,7 @@ planesLengths h yOnes yTwos sOnes sTwos =
     (demand (eqb sTwos (wordsFor (h .k))) 2
     0)))
 
--- then the contents: the held rows, y, s
+-- then the contents: the held rows, y, s (4, 3 in each)
 unfoldable pub planesContentsUnder : PlanesTest → Held → List ℕ → List ℕ → List ℕ → List ℕ → List ℕ → List ℕ → ℕ
 planesContentsUnder test h ones twos yOnes yTwos sOnes sTwos =
     first (test ones twos (h .k) (rowTrits h))
@@ -104,7 +104,7 @@ packedLengths h y s =
     (demand (eqb s (bytesFor (h .k))) 2
     0)
 
--- then the contents: the held rows, y (5, 15), s (5, 15)
+-- then the contents: the held rows (4, 3), y (5, 15), s (5, 15)
 unfoldable pub packedContentsUnder : PlanesTest → Held → List ℕ → List ℕ → List ℕ → List ℕ → ℕ
 packedContentsUnder test h ones twos y s =
     first (test ones twos (h .k) (rowTrits h))

@@ -12,7 +12,7 @@ use Rattle.trits.specs.Trit.{Trit, t0}
 use Rattle.trits.specs.Planes.{bit, bitAt, tritAt, onesOf, twosOf, bothAt, bothSet, pastEnd}
 use Rattle.trits.specs.Rows.{rowPart, putWords, rowsPastEnd}
 use Rattle.trits.specs.Refusal.{planesRefusal}
-use Rattle.trits.proofs.Refusals.{planes-passed}
+use Rattle.trits.proofs.Refusals.{neither-told, planes-passed}
 use Rattle.trits.proofs.Tests.{any-none, none-any, written-both, written-past}
 use Rattle.trits.proofs.Reading.{bitAt-place, length-ones, length-twos, holds-reads}
 use Rattle.trits.proofs.Parts.{getD-mid}
@@ -147,5 +147,7 @@ module _ {h : Held} {ones twos : List ℕ} (w : Whole h ones twos) (K : Key) (g 
 
   -- it is not refused at all
   pub filled-passes : planesRefusal ones twos (h .k) (rowTrits h) ≡ 0
-  unfolding planesRefusal bothSet
-  filled-passes = rw (none-any (64 * length ones) (bothAt ones twos) (λ p l. none-both p (omega (arith, w .ones-size))), filled-ends)
+  unfolding bothSet
+  filled-passes =
+      neither-told ones twos (h .k) (rowTrits h) filled-ends
+      (none-any (64 * length ones) (bothAt ones twos) (λ p l. none-both p (omega (arith, w .ones-size))))

@@ -1,4 +1,5 @@
--- The laws of the held key: computed cases, sizes, two bounds of key numbers, rows as stretches, tests that passed, rows stored; then what a host may rely on.
+-- The laws of the held key: computed cases, sizes, two bounds of key numbers, what request C-20 changes, rows as stretches, tests that passed,
+-- rows stored; then what a host may rely on.
 pub mod Cases
 pub mod Sizes
 pub mod Bounds

@@ -67,7 +67,7 @@ rowRefusalUnder most h ones twos =
 abbrev pub rowRefusal : Held → ℕ → ℕ → ℕ
 rowRefusal h ones twos = rowRefusalUnder mostKeyNumber h ones twos
 
--- then a row in planes: its lengths, its contents
+-- then a row in planes: its lengths, its contents (4, 3)
 unfoldable pub storeRefusalUnder : ℕ → PlanesTest → Store → ℕ
 storeRefusalUnder most test c =
     let h = c .held in

@@ -1,4 +1,4 @@
--- The laws that the functions' proofs cite, and that callers may.
+-- The laws that the functions' proofs cite, and that callers may; what request C-20 changes, computed cases.
 pub mod Digits
 pub mod Keeping
 pub mod Putting

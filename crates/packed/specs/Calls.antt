@@ -24,7 +24,7 @@ pub record Pack : Type 0 where
 abbrev pub packOf : ℕ → List ℕ → List ℕ → List ℕ → Pack
 packOf m ones twos bytes = record { m = m; ones = ones; twos = twos; bytes = bytes }
 
--- 1, every length, then the row's contents, whichever way they are tested
+-- 1, every length, then the row's contents (4, 3), or any other test of them
 unfoldable pub packRefusalUnder : PlanesTest → Pack → ℕ
 packRefusalUnder test c =
     let m = c .m in

@@ -1,6 +1,5 @@
 -- The stages of the tests of `pack`: 1 / 2 / the row's contents. Assumes nothing.
 use mathlib.Core.List.{List, [], _∷_}
-use Prim.Native.Nat.{ℕ}
 use lib.Dec.{eqb, ltb}
 use lib.ListN.{length}
 use Rattle.trits.specs.Planes.{wordsFor}

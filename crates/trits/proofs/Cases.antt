@@ -1,6 +1,6 @@
 -- Computed: 4 and 3 in planes, in the order of request C-20 and in the old one; the working space at the ends that the paper lists. Assumes nothing.
 use mathlib.Core.Path.{_≡_, refl}
-use mathlib.Core.Bool.{Bool, true, false}
+use mathlib.Core.Bool.{true, false}
 use mathlib.Core.List.{List, [], _∷_}
 use Prim.Native.Nat.{ℕ}
 use Rattle.trits.specs.Trit.{anyTo}
@@ -26,7 +26,8 @@ unfolding planesRefusal rowsPastEnd rowPart pastEnd anyTo bitAt bit bothSet
 both = (refl, refl, refl)
 
 -- where both are, it was 3
-before : (rows bothFirst 0 4 0 4 ≡ 3) × (rows bothFirst 5 0 1 0 ≡ 3) × (rows bothFirst 4 1 0 1 ≡ 3) × (rows bothFirst 1 0 1 4 ≡ 3) × (rows bothFirst 4 0 0 0 ≡ 4)
+before : (rows bothFirst 0 4 0 4 ≡ 3) × (rows bothFirst 5 0 1 0 ≡ 3) × (rows bothFirst 4 1 0 1 ≡ 3) × (rows bothFirst 1 0 1 4 ≡ 3)
+    × (rows bothFirst 4 0 0 0 ≡ 4)
 unfolding bothFirst rowsPastEnd rowPart pastEnd anyTo bitAt bit bothSet
 before = (refl, refl, refl, refl, refl)
 

@@ -132,8 +132,8 @@ pub vector-passes : (v : ℕ → Trit) (m : ℕ) → ((i : ℕ) → m ≤ i → 
     → planesRefusal (onesOf v (wordsFor m)) (twosOf v (wordsFor m)) 1 m ≡ 0
 vector-passes v m z =
     let n = wordsFor m in
-    neither-told (onesOf v n) (twosOf v n) 1 m (one-row-past (onesOf v n) (twosOf v n) m (length-ones v n) (length-twos v n) ∙ written-past v m n z (omega arith))
-    (written-both v n)
+    let ended = one-row-past (onesOf v n) (twosOf v n) m (length-ones v n) (length-twos v n) ∙ written-past v m n z (omega arith) in
+    neither-told (onesOf v n) (twosOf v n) 1 m ended (written-both v n)
 
 -- ---- what is true of each refusal in a chain is true of what the chain tells
 

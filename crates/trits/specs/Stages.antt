@@ -41,7 +41,7 @@ firstHasBoth (contents ones twos rows m ∷ rest) =
 firstHasBoth (other r ∷ rest) = eqb r 0 && firstHasBoth rest
 
 -- "they were 3 and become 4. No others do": two answers to one call are equal, or the old one is 3 and the new one 4; and they
--- differ exactly where that is so
+-- differ exactly where `there` is true
 pub record FourForThree (A : Type 0) (three four old new : A) (there : Bool) : Type 0 where
   pub either : (old ≡ new) ⊎ ((old ≡ three) × (new ≡ four))
   pub differ : there ≡ true → old ≢ new

@@ -1,6 +1,6 @@
 -- What a call of the builder or of the signer that was not refused has passed, and that a draw passes which has all of that. Assumes nothing.
 use mathlib.Core.Path.{_≡_}
-use mathlib.Core.Bool.{true, false, not}
+use mathlib.Core.Bool.{true, false}
 use Prim.Native.Nat.{ℕ, _-_, _+_}
 use borrow.Author.Tests.{eq-eqb}
 use lib.Dec.{lit<}

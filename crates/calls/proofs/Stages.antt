@@ -5,7 +5,7 @@ use Prim.Native.Nat.{ℕ, _+_, _-_}
 use lib.Dec.{lit<}
 use Rattle.trits.specs.Planes.{tritAt}
 use Rattle.trits.specs.Refusal.{refuse, demand, first, PlanesTest}
-use Rattle.trits.specs.Stages.{Stage, other, bothFirst, decided, firstHasBoth, FourForThree}
+use Rattle.trits.specs.Stages.{Stage, otherStage, bothFirst, decided, firstHasBoth, FourForThree}
 use Rattle.trits.proofs.Stages.{refuse-stage, demand-stage, last-stage, decided-append, stages-four-for-three}
 use Rattle.matrix.specs.Orders.{isOrder}
 use Rattle.scheme.specs.declared.sizes.Sizes.{Sizes}
@@ -52,7 +52,7 @@ module _ (test : PlanesTest) where
       let start = isOrder (places z) (i .start) in
       demand-stage (sizesFit z) 1 (lit< tt)
       (refuse-stage (buildLengthsDiffer z i) 2 (lit< tt)
-      (group-stages (secretStages z (i .secret)) (other (demand start 7 0) ∷ other ranks ∷ []) (secret-stages z (i .secret))
+      (group-stages (secretStages z (i .secret)) (otherStage (demand start 7 0) ∷ otherStage ranks ∷ []) (secret-stages z (i .secret))
       (demand-stage start 7 (lit< tt)
       (last-stage ranks))))
 
@@ -62,8 +62,8 @@ module _ (test : PlanesTest) where
       let drawing = drawRefusal z (secretOf z (i .secret)) (i .p) (syndromeOf i) (choicesOf i) in
       demand-stage (sizesFit z) 1 (lit< tt)
       (refuse-stage (drawLengthsDiffer z i) 2 (lit< tt)
-      (group-stages (secretStages z (i .secret)) (choicesStages z i ++ (other drawing ∷ [])) (secret-stages z (i .secret))
-      (group-stages (choicesStages z i) (other drawing ∷ []) (choices-stages z i)
+      (group-stages (secretStages z (i .secret)) (choicesStages z i ++ (otherStage drawing ∷ [])) (secret-stages z (i .secret))
+      (group-stages (choicesStages z i) (otherStage drawing ∷ []) (choices-stages z i)
       (last-stage drawing))))
 
 -- ---- the answers

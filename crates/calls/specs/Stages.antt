@@ -3,7 +3,7 @@ use mathlib.Core.List.{List, [], _∷_, _++_}
 use Prim.Native.Nat.{_+_, _-_}
 use Rattle.trits.specs.Planes.{tritAt}
 use Rattle.trits.specs.Refusal.{refuse, demand}
-use Rattle.trits.specs.Stages.{Stage, contents, other}
+use Rattle.trits.specs.Stages.{Stage, planesStage, otherStage}
 use Rattle.matrix.specs.Orders.{isOrder}
 use Rattle.scheme.specs.declared.sizes.Sizes.{Sizes}
 use Rattle.scheme.specs.Sizes.{half, places, ru, rv, codim, gapU, sizesFit}
@@ -17,41 +17,41 @@ use Rattle.calls.specs.DrawCall.{DrawCall, drawLengthsDiffer, syndromeOf
 -- H_U, H_V, b, c, and 8 for c
 unfoldable pub secretStages : Sizes → Planes → List Stage
 secretStages z i =
-    contents (i .hu .ones) (i .hu .twos) (ru z) (half z)
-    ∷ contents (i .hv .ones) (i .hv .twos) (rv z) (half z)
-    ∷ contents (i .b .ones) (i .b .twos) 1 (half z)
-    ∷ contents (i .c .ones) (i .c .twos) 1 (half z)
-    ∷ other (refuse (hasZero (half z) (tritAt (i .c .ones) (i .c .twos))) 8 0)
+    planesStage (i .hu .ones) (i .hu .twos) (ru z) (half z)
+    ∷ planesStage (i .hv .ones) (i .hv .twos) (rv z) (half z)
+    ∷ planesStage (i .b .ones) (i .b .twos) 1 (half z)
+    ∷ planesStage (i .c .ones) (i .c .twos) 1 (half z)
+    ∷ otherStage (refuse (hasZero (half z) (tritAt (i .c .ones) (i .c .twos))) 8 0)
     ∷ []
 
 -- a build: the secret, the starting order, then 9 and 10
 unfoldable pub buildStages : Sizes → BuildCall → List Stage
 buildStages z i =
-    other (demand (sizesFit z) 1 0)
-    ∷ other (refuse (buildLengthsDiffer z i) 2 0)
+    otherStage (demand (sizesFit z) 1 0)
+    ∷ otherStage (refuse (buildLengthsDiffer z i) 2 0)
     ∷ (secretStages z (i .secret)
-    ++ (other (demand (isOrder (places z) (i .start)) 7 0)
-    ∷ other (buildRefusal z (secretOf z (i .secret)))
+    ++ (otherStage (demand (isOrder (places z) (i .start)) 7 0)
+    ∷ otherStage (buildRefusal z (secretOf z (i .secret)))
     ∷ []))
 
 -- p, y, the V order, the V trits, the U order, the U values, and 8 for these
 unfoldable pub choicesStages : Sizes → DrawCall → List Stage
 choicesStages z i =
-    other (demand (isOrder (places z) (i .p)) 7 0)
-    ∷ contents (i .y .ones) (i .y .twos) 1 (codim z)
-    ∷ other (demand (isOrder (half z) (i .orderV)) 7 0)
-    ∷ contents (i .v .ones) (i .v .twos) 1 (z .kv)
-    ∷ other (demand (isOrder (half z) (i .orderU)) 7 0)
-    ∷ contents (i .u .ones) (i .u .twos) 1 (z .ku)
-    ∷ other (refuse (hasZero (z .ku - gapU z) (λ j. tritAt (i .u .ones) (i .u .twos) (gapU z + j))) 8 0)
+    otherStage (demand (isOrder (places z) (i .p)) 7 0)
+    ∷ planesStage (i .y .ones) (i .y .twos) 1 (codim z)
+    ∷ otherStage (demand (isOrder (half z) (i .orderV)) 7 0)
+    ∷ planesStage (i .v .ones) (i .v .twos) 1 (z .kv)
+    ∷ otherStage (demand (isOrder (half z) (i .orderU)) 7 0)
+    ∷ planesStage (i .u .ones) (i .u .twos) 1 (z .ku)
+    ∷ otherStage (refuse (hasZero (z .ku - gapU z) (λ j. tritAt (i .u .ones) (i .u .twos) (gapU z + j))) 8 0)
     ∷ []
 
 -- a draw: the secret, the choices, then 12, 13 and 14
 unfoldable pub drawStages : Sizes → DrawCall → List Stage
 drawStages z i =
-    other (demand (sizesFit z) 1 0)
-    ∷ other (refuse (drawLengthsDiffer z i) 2 0)
+    otherStage (demand (sizesFit z) 1 0)
+    ∷ otherStage (refuse (drawLengthsDiffer z i) 2 0)
     ∷ (secretStages z (i .secret)
     ++ (choicesStages z i
-    ++ (other (drawRefusal z (secretOf z (i .secret)) (i .p) (syndromeOf i) (choicesOf i))
+    ++ (otherStage (drawRefusal z (secretOf z (i .secret)) (i .p) (syndromeOf i) (choicesOf i))
     ∷ [])))

@@ -3,15 +3,15 @@ use mathlib.Core.List.{List, [], _∷_}
 use lib.Dec.{eqb}
 use lib.ListN.{length}
 use Rattle.trits.specs.Refusal.{demand}
-use Rattle.trits.specs.Stages.{Stage, contents, other}
+use Rattle.trits.specs.Stages.{Stage, planesStage, otherStage}
 use Rattle.held_key.specs.Held.{rowTrits, rowWords}
 use Rattle.held_key.specs.Store.{Store, rowRefusal}
 
 unfoldable pub storeStages : Store → List Stage
 storeStages c =
     let h = c .held in
-    other (rowRefusal h (length (c .ones)) (length (c .twos)))
-    ∷ other (demand (eqb (length (c .rowOnes)) (rowWords h)) 2 0)
-    ∷ other (demand (eqb (length (c .rowTwos)) (rowWords h)) 2 0)
-    ∷ contents (c .rowOnes) (c .rowTwos) 1 (rowTrits h)
+    otherStage (rowRefusal h (length (c .ones)) (length (c .twos)))
+    ∷ otherStage (demand (eqb (length (c .rowOnes)) (rowWords h)) 2 0)
+    ∷ otherStage (demand (eqb (length (c .rowTwos)) (rowWords h)) 2 0)
+    ∷ planesStage (c .rowOnes) (c .rowTwos) 1 (rowTrits h)
     ∷ []

@@ -4,16 +4,16 @@ use lib.Dec.{eqb, ltb}
 use lib.ListN.{length}
 use Rattle.trits.specs.Planes.{wordsFor}
 use Rattle.trits.specs.Refusal.{refuse, demand}
-use Rattle.trits.specs.Stages.{Stage, contents, other}
+use Rattle.trits.specs.Stages.{Stage, planesStage, otherStage}
 use Rattle.packed.specs.Packed.{bytesFor}
 use Rattle.packed.specs.Calls.{mostTrits, Pack}
 
 unfoldable pub packStages : Pack → List Stage
 packStages c =
     let m = c .m in
-    other (refuse (ltb mostTrits m) 1 0)
-    ∷ other (demand (eqb (length (c .ones)) (wordsFor m)) 2 0)
-    ∷ other (demand (eqb (length (c .twos)) (wordsFor m)) 2 0)
-    ∷ other (demand (eqb (length (c .bytes)) (bytesFor m)) 2 0)
-    ∷ contents (c .ones) (c .twos) 1 m
+    otherStage (refuse (ltb mostTrits m) 1 0)
+    ∷ otherStage (demand (eqb (length (c .ones)) (wordsFor m)) 2 0)
+    ∷ otherStage (demand (eqb (length (c .twos)) (wordsFor m)) 2 0)
+    ∷ otherStage (demand (eqb (length (c .bytes)) (bytesFor m)) 2 0)
+    ∷ planesStage (c .ones) (c .twos) 1 m
     ∷ []

@@ -7,7 +7,7 @@ use Rattle.trits.specs.Trit.{anyTo}
 use Rattle.trits.specs.Planes.{bit, bitAt, tabulate, zeroWords, bothSet, pastEnd}
 use Rattle.trits.specs.Rows.{rowPart, rowsPastEnd}
 use Rattle.trits.specs.Refusal.{first, spaceExit, PlanesTest, planesRefusal}
-use Rattle.trits.specs.Stages.{bothFirst, Stage, contents, other, decided, firstHasBoth}
+use Rattle.trits.specs.Stages.{bothFirst, Stage, planesStage, otherStage, decided, firstHasBoth}
 
 -- ---- two rows of two trits each, whose words are these
 
@@ -34,7 +34,7 @@ before = (refl, refl, refl, refl, refl)
 -- ---- a call that tests two rows of two trits, one word each, and then has something else to refuse
 
 abbrev two : ℕ → ℕ → ℕ → ℕ → ℕ → List Stage
-two o1 t1 o2 t2 r = contents (o1 ∷ []) (t1 ∷ []) 1 2 ∷ contents (o2 ∷ []) (t2 ∷ []) 1 2 ∷ other r ∷ []
+two o1 t1 o2 t2 r = planesStage (o1 ∷ []) (t1 ∷ []) 1 2 ∷ planesStage (o2 ∷ []) (t2 ∷ []) 1 2 ∷ otherStage r ∷ []
 
 -- 3 of the first before 4 of the second: nothing changed
 first-decides : (decided bothFirst (two 1 1 5 1 8) ≡ 3) × (decided planesRefusal (two 1 1 5 1 8) ≡ 3) × (firstHasBoth (two 1 1 5 1 8) ≡ false)
@@ -47,8 +47,8 @@ unfolding decided firstHasBoth first bothFirst planesRefusal rowsPastEnd rowPart
 second-has-both = (refl, refl, refl)
 
 -- something else before them decides
-other-decides : (decided bothFirst (other 2 ∷ two 5 1 5 1 0) ≡ 2) × (decided planesRefusal (other 2 ∷ two 5 1 5 1 0) ≡ 2)
-    × (firstHasBoth (other 2 ∷ two 5 1 5 1 0) ≡ false)
+other-decides : (decided bothFirst (otherStage 2 ∷ two 5 1 5 1 0) ≡ 2) × (decided planesRefusal (otherStage 2 ∷ two 5 1 5 1 0) ≡ 2)
+    × (firstHasBoth (otherStage 2 ∷ two 5 1 5 1 0) ≡ false)
 unfolding decided firstHasBoth first bothFirst planesRefusal rowsPastEnd rowPart pastEnd anyTo bitAt bit bothSet
 other-decides = (refl, refl, refl)
 

@@ -11,7 +11,7 @@ use lib.Dec.{eqb}
 use Rattle.trits.specs.Planes.{bothSet}
 use Rattle.trits.specs.Rows.{rowsPastEnd}
 use Rattle.trits.specs.Refusal.{refuse, demand, first, atExit, spaceExit, PlanesTest, planesRefusal}
-use Rattle.trits.specs.Stages.{bothFirst, Stage, contents, other, decided, firstHasBoth, FourForThree}
+use Rattle.trits.specs.Stages.{bothFirst, Stage, planesStage, otherStage, decided, firstHasBoth, FourForThree}
 
 -- ---- a chain of tests in stages
 
@@ -52,9 +52,9 @@ first-nested (suc a) b c = let e = ne-eqb (suc a) 0 (λ z. omega arith) in rw (e
 pub decided-append : (test : PlanesTest) (a b : List Stage) → first (decided test a) (decided test b) ≡ decided test (a ++ b)
 unfolding decided
 decided-append test [] b = first-none (decided test b)
-decided-append test (contents ones twos rows m ∷ a) b =
+decided-append test (planesStage ones twos rows m ∷ a) b =
     sym (first-nested (test ones twos rows m) (decided test a) (decided test b)) ∙ ap (first (test ones twos rows m)) (decided-append test a b)
-decided-append test (other r ∷ a) b = sym (first-nested r (decided test a) (decided test b)) ∙ ap (first r) (decided-append test a b)
+decided-append test (otherStage r ∷ a) b = sym (first-nested r (decided test a) (decided test b)) ∙ ap (first r) (decided-append test a b)
 
 -- ---- the two cases
 
@@ -87,8 +87,8 @@ after-other (suc r) h = rw (ne-eqb (suc r) 0 (λ z. omega arith)) (same-answer r
 decided-four-for-three : (stages : List Stage) → Numbers (decided bothFirst stages) (decided planesRefusal stages) (firstHasBoth stages)
 unfolding decided firstHasBoth bothFirst planesRefusal
 decided-four-for-three [] = same-answer refl
-decided-four-for-three (contents ones twos rows m ∷ rest) = after-planes (rowsPastEnd ones twos rows m) (bothSet ones twos) (decided-four-for-three rest)
-decided-four-for-three (other r ∷ rest) = after-other r (decided-four-for-three rest)
+decided-four-for-three (planesStage ones twos rows m ∷ rest) = after-planes (rowsPastEnd ones twos rows m) (bothSet ones twos) (decided-four-for-three rest)
+decided-four-for-three (otherStage r ∷ rest) = after-other r (decided-four-for-three rest)
 
 -- a call that answers as its stages say, however planes are tested
 pub stages-four-for-three : (answer : PlanesTest → ℕ) (stages : List Stage) → ((test : PlanesTest) → answer test ≡ decided test stages)

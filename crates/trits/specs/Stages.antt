@@ -20,25 +20,25 @@ bothFirst ones twos rows m =
 -- one stage of the tests of a call
 pub data Stage : Type 0 where
   -- the contents of a pair of planes: its ones, its twos, the number of rows, the trits of a row
-  contents : List ℕ → List ℕ → ℕ → ℕ → Stage
+  planesStage : List ℕ → List ℕ → ℕ → ℕ → Stage
   -- any other test, by the number that it refuses with, or 0
-  other : ℕ → Stage
+  otherStage : ℕ → Stage
 
 -- what a call answers: the first stage that refuses decides
 unfoldable pub decided : PlanesTest → List Stage → ℕ
 decided test [] = 0
-decided test (contents ones twos rows m ∷ rest) = first (test ones twos rows m) (decided test rest)
-decided test (other r ∷ rest) = first r (decided test rest)
+decided test (planesStage ones twos rows m ∷ rest) = first (test ones twos rows m) (decided test rest)
+decided test (otherStage r ∷ rest) = first r (decided test rest)
 
 -- "the first buffer refused for its contents has some bit set past the length and some bit set in both planes": they may be two
 -- bits, in different rows; what comes after the first refusal is not looked at
 unfoldable pub firstHasBoth : List Stage → Bool
 firstHasBoth [] = false
-firstHasBoth (contents ones twos rows m ∷ rest) =
+firstHasBoth (planesStage ones twos rows m ∷ rest) =
     let past = rowsPastEnd ones twos rows m in
     let both = bothSet ones twos in
     cond (past || both) (past && both) (firstHasBoth rest)
-firstHasBoth (other r ∷ rest) = eqb r 0 && firstHasBoth rest
+firstHasBoth (otherStage r ∷ rest) = eqb r 0 && firstHasBoth rest
 
 -- "they were 3 and become 4. No others do": two answers to one call are equal, or the old one is 3 and the new one 4; and they
 -- differ exactly where `there` is true

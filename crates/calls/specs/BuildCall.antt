@@ -1,5 +1,6 @@
 -- The call `build`: its refusals in the paper's order, and each lent buffer at exit ("Building a
 -- key", "Turned back by the input", "Turned back by the state"). Assumes nothing.
+-- What depends on the test of a pair of planes is defined with any other in its place, by a name that ends in `Under`.
 use mathlib.Core.Bool.{Bool, _||_}
 use mathlib.Core.List.{List}
 use Prim.Native.Nat.{ℕ, _+_, _*_}

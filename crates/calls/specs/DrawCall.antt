@@ -1,5 +1,6 @@
 -- The call `draw`: its refusals in the paper's order, and each lent buffer at exit ("One draw",
 -- "Turned back by the input", "Turned back by the state"). Assumes nothing.
+-- What depends on the test of a pair of planes is defined with any other in its place, by a name that ends in `Under`.
 use mathlib.Core.Bool.{Bool, not, _||_, cond}
 use mathlib.Core.List.{List}
 use Prim.Native.Nat.{ℕ, _+_, _-_, _*_}

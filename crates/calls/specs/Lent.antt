@@ -1,5 +1,6 @@
 -- What both calls of the editor's half are lent: the secret in planes ("The secret pairs"), its
 -- lengths and its contents ("Turned back by the input"). Assumes nothing.
+-- What depends on the test of a pair of planes is defined with any other in its place, by a name that ends in `Under`.
 use mathlib.Core.Bool.{Bool, not, _||_}
 use mathlib.Core.List.{List}
 use Prim.Native.Nat.{ℕ, _*_}
@@ -52,7 +53,7 @@ secretDiffers z hu1 hu2 hv1 hv2 b1 b2 c1 c2 =
 
 -- ---- 4, 3 and 8: the contents, buffer after buffer
 
--- H_U, H_V, b, c, each 4 before 3, or by any other test of a pair of planes; and 8 for c
+-- H_U, H_V, b, c (4, 3 in each), and 8 for c
 unfoldable pub secretRefusalUnder : PlanesTest → Sizes → Planes → ℕ
 secretRefusalUnder test z i =
     first (test (i .hu .ones) (i .hu .twos) (ru z) (half z))

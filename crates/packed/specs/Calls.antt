@@ -1,4 +1,5 @@
 -- The three calls: the refusals of each in the paper's order ("Turned back by the state", last paragraph), and each lent buffer at exit. Assumes nothing.
+-- What depends on the test of a pair of planes is defined with any other in its place, by a name that ends in `Under`.
 use mathlib.Core.List.{List}
 use Prim.Native.Nat.{ℕ}
 use lib.Dec.{eqb, ltb}
@@ -24,7 +25,7 @@ pub record Pack : Type 0 where
 abbrev pub packOf : ℕ → List ℕ → List ℕ → List ℕ → Pack
 packOf m ones twos bytes = record { m = m; ones = ones; twos = twos; bytes = bytes }
 
--- 1, every length, then the row's contents (4, 3), or any other test of them
+-- 1, every length, then the row's contents: 4, 3
 unfoldable pub packRefusalUnder : PlanesTest → Pack → ℕ
 packRefusalUnder test c =
     let m = c .m in

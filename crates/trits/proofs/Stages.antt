@@ -43,7 +43,7 @@ unfolding first
 first-none b = refl
 
 -- three groups of tests, gathered either way
-pub first-nested : (a b c : ℕ) → first a (first b c) ≡ first (first a b) c
+first-nested : (a b c : ℕ) → first a (first b c) ≡ first (first a b) c
 unfolding first
 first-nested zero b c = refl
 first-nested (suc a) b c = let e = ne-eqb (suc a) 0 (λ z. omega arith) in rw (e, e)
@@ -58,10 +58,10 @@ decided-append test (otherStage r ∷ a) b = sym (first-nested r (decided test a
 
 -- ---- the two cases
 
-pub same-answer : {A : Type 0} {three four old new : A} → old ≡ new → FourForThree A three four old new false
+same-answer : {A : Type 0} {three four old new : A} → old ≡ new → FourForThree A three four old new false
 same-answer e = record { either = inl e; differ = λ t. absurd (true≢false (sym t)); only = λ f. absurd (f e) }
 
-pub four-for-three : {A : Type 0} {three four : A} → three ≢ four → FourForThree A three four three four true
+four-for-three : {A : Type 0} {three four : A} → three ≢ four → FourForThree A three four three four true
 four-for-three f = record { either = inr (refl, refl); differ = λ t. f; only = λ g. refl }
 
 -- ---- any call, by its stages

@@ -35,8 +35,8 @@ buffer-first = (refl, refl, refl)
 abbrev ofChoices : ℕ → ℕ → ℕ → ℕ → ℕ → ℕ → ℕ
 ofChoices yo yt vo vt uo ut =
     choicesRefusal four
-    (drawCall (planes [] [] [] [] [] [] [] []) (0 ∷ 1 ∷ 2 ∷ 3 ∷ []) (yo ∷ []) (yt ∷ []) (0 ∷ 1 ∷ []) (vo ∷ []) (vt ∷ []) (0 ∷ 1 ∷ []) (uo ∷ []) (ut ∷ [])
-    [] [] [] [] [] [])
+    (drawCall (planes [] [] [] [] [] [] [] []) (0 ∷ 1 ∷ 2 ∷ 3 ∷ [])
+    (yo ∷ []) (yt ∷ []) (0 ∷ 1 ∷ []) (vo ∷ []) (vt ∷ []) (0 ∷ 1 ∷ []) (uo ∷ []) (ut ∷ []) [] [] [] [] [] [])
 
 choices-past-first : (ofChoices 5 1 0 1 1 0 ≡ 4) × (ofChoices 1 2 3 1 1 0 ≡ 4) × (ofChoices 1 2 0 1 2 2 ≡ 4) × (ofChoices 1 2 0 1 0 0 ≡ 8)
 unfolding choicesRefusalUnder first planesRefusal rowsPastEnd rowPart pastEnd bothSet anyTo bitAt bit hasZero tritAt isOrder

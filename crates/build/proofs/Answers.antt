@@ -100,7 +100,8 @@ key-same z s p k1 k2 w1 w2 e =
 module _ (z : Sizes) (i : BuildCall) {t : Bool} where
   -- the lengths one after another are those of the record
   pub same-lengths : (differs z (i .secret)
-      || keyDiffers z (length (i .start)) (length (i .p)) (length (i .key .ones)) (length (i .key .twos)) (length (i .work .ones)) (length (i .work .twos))) ≡ t
+      || keyDiffers z (length (i .start)) (length (i .p)) (length (i .key .ones)) (length (i .key .twos))
+      (length (i .work .ones)) (length (i .work .twos))) ≡ t
       → buildLengthsDiffer z i ≡ t
   unfolding buildLengthsDiffer
   same-lengths e = e

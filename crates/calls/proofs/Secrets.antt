@@ -29,7 +29,8 @@ pair-same m o t e =
     let a = or-false-both (not (eqb o m)) (not (eqb t m)) e in
     (eqb-true o m (not-false (eqb o m) (a .0)), eqb-true t m (not-false (eqb t m) (a .1)))
 
-secret-same : (z : Sizes) (hu1 hu2 hv1 hv2 b1 b2 c1 c2 : ℕ) → secretDiffers z hu1 hu2 hv1 hv2 b1 b2 c1 c2 ≡ false → SecretLengths z hu1 hu2 hv1 hv2 b1 b2 c1 c2
+secret-same : (z : Sizes) (hu1 hu2 hv1 hv2 b1 b2 c1 c2 : ℕ) → secretDiffers z hu1 hu2 hv1 hv2 b1 b2 c1 c2 ≡ false
+    → SecretLengths z hu1 hu2 hv1 hv2 b1 b2 c1 c2
 unfolding secretDiffers
 secret-same z hu1 hu2 hv1 hv2 b1 b2 c1 c2 e =
     let A = or-false-both (pairDiffers (ru z * halfWords z) hu1 hu2) _ e in
@@ -120,10 +121,10 @@ secret-leaves z i =
 
 pub readable : (z : Sizes) (i : Planes)
     → Lengths z i → secretRefusal z i ≡ 0
-    → ((j : ℕ) → Fits w64 (getD (i .hu .ones) j 0)) → ((j : ℕ) → Fits w64 (getD (i .hu .twos) j 0)) → ((j : ℕ) → Fits w64 (getD (i .hv .ones) j 0))
-    → ((j : ℕ) → Fits w64 (getD (i .hv .twos) j 0))
-    → ((j : ℕ) → Fits w64 (getD (i .b .ones) j 0)) → ((j : ℕ) → Fits w64 (getD (i .b .twos) j 0)) → ((j : ℕ) → Fits w64 (getD (i .c .ones) j 0))
-    → ((j : ℕ) → Fits w64 (getD (i .c .twos) j 0)) → Readable z i
+    → ((j : ℕ) → Fits w64 (getD (i .hu .ones) j 0)) → ((j : ℕ) → Fits w64 (getD (i .hu .twos) j 0))
+    → ((j : ℕ) → Fits w64 (getD (i .hv .ones) j 0)) → ((j : ℕ) → Fits w64 (getD (i .hv .twos) j 0))
+    → ((j : ℕ) → Fits w64 (getD (i .b .ones) j 0)) → ((j : ℕ) → Fits w64 (getD (i .b .twos) j 0))
+    → ((j : ℕ) → Fits w64 (getD (i .c .ones) j 0)) → ((j : ℕ) → Fits w64 (getD (i .c .twos) j 0)) → Readable z i
 unfolding secretRefusalUnder
 readable z i l e f1 f2 f3 f4 f5 f6 f7 f8 =
     let A = passed-first (refusalHU z i) _ e in

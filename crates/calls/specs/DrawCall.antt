@@ -31,8 +31,8 @@ pub record DrawCall : Type 0 where
   pub s : Pair
   pub work : Pair
 
-abbrev pub drawCall : Planes → List ℕ → List ℕ → List ℕ → List ℕ → List ℕ → List ℕ → List ℕ → List ℕ → List ℕ → List ℕ → List ℕ → List ℕ → List ℕ → List ℕ
-    → List ℕ → DrawCall
+abbrev pub drawCall : Planes → List ℕ → List ℕ → List ℕ → List ℕ → List ℕ → List ℕ → List ℕ
+    → List ℕ → List ℕ → List ℕ → List ℕ → List ℕ → List ℕ → List ℕ → List ℕ → DrawCall
 drawCall s p yo yt ov vo vt ou uo ut eo et so st wo wt = record {
   secret = s;
   p = p;
@@ -64,7 +64,8 @@ abbrev pub drawWorkWords : Sizes → ℕ
 drawWorkWords z = (matrixRows z + 5) * halfWords z
 
 -- the lengths of p, y, the V order, the V trits, the U order, the U values, the word, s and the working space
-unfoldable pub choicesDiffer : Sizes → ℕ → ℕ → ℕ → ℕ → ℕ → ℕ → ℕ → ℕ → ℕ → ℕ → ℕ → ℕ → ℕ → ℕ → ℕ → Bool
+unfoldable pub choicesDiffer : Sizes → ℕ → ℕ → ℕ → ℕ → ℕ → ℕ → ℕ → ℕ → ℕ
+    → ℕ → ℕ → ℕ → ℕ → ℕ → ℕ → Bool
 choicesDiffer z p y1 y2 ov v1 v2 ou u1 u2 e1 e2 s1 s2 w1 w2 =
     not (eqb p (places z))
     || (pairDiffers (wordsFor (codim z)) y1 y2

@@ -72,8 +72,8 @@ module _ (z : Sizes) (i : DrawCall) where
 
 -- the choices are tested alone
 pub same-choices : (z : Sizes) (i : DrawCall)
-    → choicesRefusal z (chosen (i .p) (i .y .ones) (i .y .twos) (i .orderV) (i .v .ones) (i .v .twos) (i .orderU) (i .u .ones) (i .u .twos)) ≡ choicesRefusal z
-    i
+    → choicesRefusal z (chosen (i .p) (i .y .ones) (i .y .twos) (i .orderV) (i .v .ones) (i .v .twos) (i .orderU) (i .u .ones) (i .u .twos))
+    ≡ choicesRefusal z i
 unfolding choicesRefusalUnder
 same-choices z i = refl
 
@@ -90,7 +90,8 @@ contents-leaves z i =
     (leaves-refuse (hasZero (z .ku - gapU z) (λ j. tritAt (i .u .ones) (i .u .twos) (gapU z + j))) 8 0 refl leaves-none)))))))
 
 -- after the word it is 0
-pub work-ended : (z : Sizes) (s : Secret) (p : List ℕ) (y : Vector) (ch : Choices) (w : List ℕ) → zeroWords (length w) ≡ spaceExit (drawRefusal z s p y ch) w
+pub work-ended : (z : Sizes) (s : Secret) (p : List ℕ) (y : Vector) (ch : Choices) (w : List ℕ)
+    → zeroWords (length w) ≡ spaceExit (drawRefusal z s p y ch) w
 unfolding drawRefusal
 work-ended z s p y ch w =
     left-cleared w (clears-demand (eqb (rank (rv z) (half z) (s .hv) (firstV z ch)) (rv z)) 12 _ refl
@@ -172,8 +173,8 @@ module _ (z : Sizes) (i : DrawCall) where
     -- ---- contents that are not refused
 
     pub ready : contents z i ≡ 0 → Readable z (i .secret)
-        → ((j : ℕ) → Fits w64 (getD (i .y .ones) j 0)) → ((j : ℕ) → Fits w64 (getD (i .y .twos) j 0)) → ((j : ℕ) → Fits w64 (getD (i .v .ones) j 0))
-        → ((j : ℕ) → Fits w64 (getD (i .v .twos) j 0))
+        → ((j : ℕ) → Fits w64 (getD (i .y .ones) j 0)) → ((j : ℕ) → Fits w64 (getD (i .y .twos) j 0))
+        → ((j : ℕ) → Fits w64 (getD (i .v .ones) j 0)) → ((j : ℕ) → Fits w64 (getD (i .v .twos) j 0))
         → ((j : ℕ) → Fits w64 (getD (i .u .ones) j 0)) → ((j : ℕ) → Fits w64 (getD (i .u .twos) j 0))
         → Ready z (given (i .secret) (i .p) (i .y .ones) (i .y .twos) (i .orderV) (i .v .ones) (i .v .twos) (i .orderU) (i .u .ones) (i .u .twos))
     unfolding choicesRefusalUnder

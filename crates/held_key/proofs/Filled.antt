@@ -73,8 +73,8 @@ module _ {h : Held} {ones twos : List ℕ} (f : Room h (length ones) (length two
           (sym (put-old f twos newTwos (f .twos-are) lt i (omega arith))) (g .tested i (omega arith))
 
 -- a row in planes
-pub filled-more : (c : Store) (K : Key) → storeRefusal c ≡ 0 → tritAt (c .rowOnes) (c .rowTwos) ≡ K (c .held .rows) → Filled (c .held) (c .ones) (c .twos) K
-    → Filled (nextHeld (c .held)) (storeOnes c) (storeTwos c) K
+pub filled-more : (c : Store) (K : Key) → storeRefusal c ≡ 0 → tritAt (c .rowOnes) (c .rowTwos) ≡ K (c .held .rows)
+    → Filled (c .held) (c .ones) (c .twos) K → Filled (nextHeld (c .held)) (storeOnes c) (storeTwos c) K
 filled-more c K e r g =
     let h = c .held in
     let ro = c .rowOnes in

@@ -38,10 +38,6 @@ unfolding first
 last-stage zero = refl
 last-stage (suc a) = rw (ne-eqb (suc a) 0 (λ z. omega arith))
 
-first-none : (b : ℕ) → first 0 b ≡ b
-unfolding first
-first-none b = refl
-
 -- three groups of tests, gathered either way
 first-nested : (a b c : ℕ) → first a (first b c) ≡ first (first a b) c
 unfolding first
@@ -50,8 +46,8 @@ first-nested (suc a) b c = let e = ne-eqb (suc a) 0 (λ z. omega arith) in rw (e
 
 -- stages after stages
 pub decided-append : (test : PlanesTest) (a b : List Stage) → first (decided test a) (decided test b) ≡ decided test (a ++ b)
-unfolding decided
-decided-append test [] b = first-none (decided test b)
+unfolding decided first
+decided-append test [] b = refl
 decided-append test (planesStage ones twos rows m ∷ a) b =
     sym (first-nested (test ones twos rows m) (decided test a) (decided test b)) ∙ ap (first (test ones twos rows m)) (decided-append test a b)
 decided-append test (otherStage r ∷ a) b = sym (first-nested r (decided test a) (decided test b)) ∙ ap (first r) (decided-append test a b)
@@ -98,17 +94,17 @@ stages-four-for-three answer stages e = rw (e bothFirst, e planesRefusal) (decid
 -- ---- the lent buffers at exit
 
 module _ {old new : ℕ} {there : Bool} (h : FourForThree ℕ 3 4 old new there) where
-  pub exit-as-before : {A : Type 0} (written lent : A) → atExit old written lent ≡ atExit new written lent
-  exit-as-before written lent = by (h .either)
+  -- what is the same for 3 and for 4 is the same for both answers
+  same-for-both : {A : Type 0} (f : ℕ → A) → f 3 ≡ f 4 → f old ≡ f new
+  same-for-both f e = by (h .either)
     where
-      by : (old ≡ new) ⊎ ((old ≡ 3) × (new ≡ 4)) → atExit old written lent ≡ atExit new written lent
-      by (inl e) = rw e
-      by (inr (e, f)) = rw (e, f)
+      by : (old ≡ new) ⊎ ((old ≡ 3) × (new ≡ 4)) → f old ≡ f new
+      by (inl same) = ap f same
+      by (inr (three, four)) = ap f three ∙ (e ∙ sym (ap f four))
+
+  pub exit-as-before : {A : Type 0} (written lent : A) → atExit old written lent ≡ atExit new written lent
+  exit-as-before written lent = same-for-both (λ r. atExit r written lent) refl
 
   pub space-as-before : (plane : List ℕ) → spaceExit old plane ≡ spaceExit new plane
   unfolding spaceExit
-  space-as-before plane = by (h .either)
-    where
-      by : (old ≡ new) ⊎ ((old ≡ 3) × (new ≡ 4)) → spaceExit old plane ≡ spaceExit new plane
-      by (inl e) = rw e
-      by (inr (e, f)) = rw (e, f)
+  space-as-before plane = same-for-both (λ r. spaceExit r plane) refl

@@ -48,6 +48,7 @@ module _ (c : PackedCheck) (r : checkPackedAnswer c .refusal ≡ 0) where
       ↔ HeldFound (c .held) (c .ones) (c .twos) (packedRow (c .y)) (packedRow (c .s))
   packed-says-yes = check-packed-verdict c packed-not-refused
 
-  pub packed-one-word : (y s e f : Vector) → HeldExtending (c .held) (c .ones) (c .twos) y s e → HeldExtending (c .held) (c .ones) (c .twos) y s f → (q : ℕ)
+  pub packed-one-word : (y s e f : Vector) → HeldExtending (c .held) (c .ones) (c .twos) y s e
+      → HeldExtending (c .held) (c .ones) (c .twos) y s f → (q : ℕ)
       → q < c .held .n → e q ≡ f q
   packed-one-word y s e f = found-once (c .held) (c .ones) (c .twos) y s e f (check-packed-passed c packed-not-refused .0 .is-sound)

@@ -108,15 +108,18 @@ under-releases z i g w l e u h =
     (call-releases (sized z g w) l e h))
 
 -- and s lent back is its last k trits
-pub handed-ones : (z : Sizes) (l : DrawCall) → drawAnswer z l ≡ 0 → sExit z l .ones ≡ onesOf (upTo (dim z) (signature z (wordOf z l))) (wordsFor (dim z))
+pub handed-ones : (z : Sizes) (l : DrawCall) → drawAnswer z l ≡ 0
+    → sExit z l .ones ≡ onesOf (upTo (dim z) (signature z (wordOf z l))) (wordsFor (dim z))
 unfolding sExit
 handed-ones z l d = sym (exit-new (onesOf (upTo (dim z) (signature z (wordOf z l))) (wordsFor (dim z))) (l .s .ones) d)
 
-pub handed-twos : (z : Sizes) (l : DrawCall) → drawAnswer z l ≡ 0 → sExit z l .twos ≡ twosOf (upTo (dim z) (signature z (wordOf z l))) (wordsFor (dim z))
+pub handed-twos : (z : Sizes) (l : DrawCall) → drawAnswer z l ≡ 0
+    → sExit z l .twos ≡ twosOf (upTo (dim z) (signature z (wordOf z l))) (wordsFor (dim z))
 unfolding sExit
 handed-twos z l d = sym (exit-new (twosOf (upTo (dim z) (signature z (wordOf z l))) (wordsFor (dim z))) (l .s .twos) d)
 
-pub handed-signature : (z : Sizes) (l : DrawCall) → drawAnswer z l ≡ 0 → tritAt (sExit z l .ones) (sExit z l .twos) ≡ upTo (dim z) (signature z (wordOf z l))
+pub handed-signature : (z : Sizes) (l : DrawCall) → drawAnswer z l ≡ 0
+    → tritAt (sExit z l .ones) (sExit z l .twos) ≡ upTo (dim z) (signature z (wordOf z l))
 handed-signature z l d = ap₂ tritAt (handed-ones z l d) (handed-twos z l d) ∙ written-back (dim z) (signature z (wordOf z l))
 
 -- the terms hold of the word that a draw under a built key made
@@ -126,7 +129,8 @@ drawn-terms z i b g w l u d =
     let e = wordOf (sized z g w) l in
     reach z (secretOf z (i .secret)) (i .start) (orderExit z i) (builtKey z i) (built-released z i b) g w (draw-call (sized z g w) l d .sizes)
     (tritAt (l .y .ones) (l .y .twos)) e .0
-    (under-releases z i g w l e u (record { passed = d; word = λ q h. ap (λ (v : Vector). v q) (handed-word (sized z g w) l d) ∙ upto-in e (places z) q h }))
+    (under-releases z i g w l e u
+    (record { passed = d; word = λ q h. ap (λ (v : Vector). v q) (handed-word (sized z g w) l d) ∙ upto-in e (places z) q h }))
 
 -- ---- from vectors to a call
 
@@ -143,7 +147,8 @@ order-words n ps o h j = by (decLt j (length ps))
     by (yes l) = let b = order-good n ps o .1 (getD ps j 0) (elem-at ps j l) in omega arith
     by (no f) = let e : getD ps j 0 ≡ 0 = List·getD-eq-default ps 0 (omega arith) in rw e (lit< tt)
 
-module _ (z : Sizes) (i : BuildCall) (b : Built z i) (g w : ℕ) (fit : sizesFit (sized z g w) ≡ true) (yOnes yTwos : List ℕ) (ly : LentSyndrome z yOnes yTwos)
+module _ (z : Sizes) (i : BuildCall) (b : Built z i) (g w : ℕ) (fit : sizesFit (sized z g w) ≡ true)
+    (yOnes yTwos : List ℕ) (ly : LentSyndrome z yOnes yTwos)
     (e : Vector)
     (re : Releases (sized z g w) (secretOf z (i .secret)) (orderExit z i) (tritAt yOnes yTwos) e) where
   abbrev Z : Sizes
@@ -264,7 +269,8 @@ syndrome-lent z y =
       back = λ j h. ap (λ (v : Vector). v j) (written-back m y) ∙ upto-in y m j h;
     }
 
-pub reach-calls : (z : Sizes) (i : BuildCall) → Built z i → (g w : ℕ) → sizesFit (sized z g w) ≡ true → (yOnes yTwos : List ℕ) → LentSyndrome z yOnes yTwos
+pub reach-calls : (z : Sizes) (i : BuildCall) → Built z i → (g w : ℕ) → sizesFit (sized z g w) ≡ true
+    → (yOnes yTwos : List ℕ) → LentSyndrome z yOnes yTwos
     → (e : Vector)
     → SomeDraw z i g w yOnes yTwos e ↔ KeyTerms z i g w yOnes yTwos e
 reach-calls z i b g w fit yOnes yTwos ly e = (

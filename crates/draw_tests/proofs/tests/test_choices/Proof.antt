@@ -94,12 +94,14 @@ p-told c =
     let s = start-from-is-order c in
     ap (λ (n : ℕ). isOrder n (now (s .args .p))) (sym (s .pre .1 .order)) ∙ sym (c .is-order .ensures)
 
-v-order-told : (c : tie.After-is-order2) → isOrder (half (start-from-is-order2 c .args .z)) (now (start-from-is-order2 c .args .v-order)) ≡ c .is-order2 .result
+v-order-told : (c : tie.After-is-order2)
+    → isOrder (half (start-from-is-order2 c .args .z)) (now (start-from-is-order2 c .args .v-order)) ≡ c .is-order2 .result
 v-order-told c =
     let s = start-from-is-order2 c in
     ap (λ (n : ℕ). isOrder n (now (s .args .v-order))) (sym (s .pre .1 .orderV)) ∙ sym (c .is-order2 .ensures)
 
-u-order-told : (c : tie.After-is-order3) → isOrder (half (start-from-is-order3 c .args .z)) (now (start-from-is-order3 c .args .u-order)) ≡ c .is-order3 .result
+u-order-told : (c : tie.After-is-order3)
+    → isOrder (half (start-from-is-order3 c .args .z)) (now (start-from-is-order3 c .args .u-order)) ≡ c .is-order3 .result
 u-order-told c =
     let s = start-from-is-order3 c in
     ap (λ (n : ℕ). isOrder n (now (s .args .u-order))) (sym (s .pre .1 .orderU)) ∙ sym (c .is-order3 .ensures)

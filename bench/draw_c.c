@@ -48,24 +48,24 @@ static uint64_t make(wave_sizes z, const uint64_t *hu1, const uint64_t *hu2, con
     mul(to, tt, b1, b2, w);
     add(lo, lt, tt, to, w);
 
-    if (reduce(o, t, hv1, hv2, rv, w, vo, rv + z.g) != rv) return 12;
+    if (reduce(o, t, hv1, hv2, rv, w, vo, rv + z.gv) != rv) return 12;
     for (size_t i = 0, c = 0; i < half; i++) {
         if (c < rv && at(o, t, 64 * c * w + vo[i])) c++;
         else put(Vo, Vt, vo[i], at(v1, v2, i - c));
     }
-    solve(o, t, rv, w, vo, rv + z.g, ro, rt, Vo, Vt);
+    solve(o, t, rv, w, vo, rv + z.gv, ro, rt, Vo, Vt);
 
-    if (reduce(o, t, hu1, hu2, ru, w, uo, ru + z.g) != ru) return 13;
-    for (size_t i = 0, c = 0; i < ru + z.g; i++) {
+    if (reduce(o, t, hu1, hu2, ru, w, uo, ru + z.gu) != ru) return 13;
+    for (size_t i = 0, c = 0; i < ru + z.gu; i++) {
         if (c < ru && at(o, t, 64 * c * w + uo[i])) c++;
         else put(Uo, Ut, uo[i], at(u1, u2, i - c));
     }
-    for (size_t i = ru + z.g; i < half; i++) {
+    for (size_t i = ru + z.gu; i < half; i++) {
         size_t q = uo[i];
         int v = at(Vo, Vt, q);
         put(Uo, Ut, q, v ? (at(c1, c2, q) + 2 * at(b1, b2, q)) * v % 3 : at(u1, u2, i - ru));
     }
-    solve(o, t, ru, w, uo, ru + z.g, lo, lt, Uo, Ut);
+    solve(o, t, ru, w, uo, ru + z.gu, lo, lt, Uo, Ut);
 
     memcpy(to, Vo, 8 * w), memcpy(tt, Vt, 8 * w);
     mul(to, tt, b1, b2, w);

@@ -287,13 +287,13 @@ static void published_size(const input *a, const char *const *published, figures
 static void growth(const figures *largest) {
     static const int grown[] = {BUILD, DRAW, CHECK_PACKED};
     figures f[4][ACTS];
-    printf("\n| %-13s | %6s | %5s | %5s | %3s | %14s | %7s | %14s | %7s | %14s | %7s | %5s | %6s |\n", "call", "n", "k_U", "k_V", "g", "ours, ns", "growth", "gcc -O3, ns", "growth", "native, ns", "growth",
+    printf("\n| %-13s | %6s | %5s | %5s | %3s | %3s | %14s | %7s | %14s | %7s | %14s | %7s | %5s | %6s |\n", "call", "n", "k_U", "k_V", "g_V", "g_U", "ours, ns", "growth", "gcc -O3, ns", "growth", "native, ns", "growth",
            "/ -O3", "/ nat.");
-    printf("|---|---|---|---|---|---|---|---|---|---|---|---|---|\n");
+    printf("|---|---|---|---|---|---|---|---|---|---|---|---|---|---|\n");
     wave_sizes z[4];
     for (int j = 0; j < 4; j++) {
         size_t n = 1072u << j, ku = (2966 * n + 4288) / 8576;
-        z[j] = (wave_sizes){n, ku, n / 2 - ku, 40 * n / 8576, 7668 * n / 8576};
+        z[j] = (wave_sizes){n, ku, n / 2 - ku, 40 * n / 8576, 40 * n / 8576, 7668 * n / 8576};
         if (j == 3) memcpy(f[3], largest, sizeof f[3]);
         else {
             input a = make(z[j]);
@@ -303,7 +303,7 @@ static void growth(const figures *largest) {
     for (int i = 0; i < 3; i++)
         for (int j = 0; j < 4; j++) {
             const figures *x = &f[j][grown[i]];
-            printf("| %-13s | %6s | %5s | %5s | %3s |", acts[grown[i]].name, number(z[j].n), number(z[j].ku), number(z[j].kv), number(z[j].g));
+            printf("| %-13s | %6s | %5s | %5s | %3s | %3s |", acts[grown[i]].name, number(z[j].n), number(z[j].ku), number(z[j].kv), number(z[j].gv), number(z[j].gu));
             for (int s = 0; s < 3; s++) {
                 printf(" %14s |", number(x->ns[s]));
                 if (j) printf(" %7.2f |", x->ns[s] / f[j - 1][grown[i]].ns[s]);
@@ -333,7 +333,7 @@ int main(int count, char **argument) {
     if (count > 1) turns = atoi(argument[1]);
     steps = rate();
     printf("time stamp counter: %.0f MHz; at least %d turns of each call\n", steps * 1000, turns);
-    input a = make((wave_sizes){8576, 2966, 1322, 40, 7668}), b = make((wave_sizes){8492, 3558, 2047, 81, 7980});
+    input a = make((wave_sizes){8576, 2966, 1322, 40, 40, 7668}), b = make((wave_sizes){8492, 3558, 2047, 81, 81, 7980});
     head("n");
     published_size(&a, submission, first);
     published_size(&b, wavelet, second);

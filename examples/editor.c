@@ -8,10 +8,10 @@
 
 #include "wave_signer.h"
 
-enum { N = 4, KU = 1, KV = 1, G = 0, W = 4, K = KU + KV, M = N - K, HALF = N / 2 };
+enum { N = 4, KU = 1, KV = 1, GV = 0, GU = 0, W = 4, K = KU + KV, M = N - K, HALF = N / 2 };
 enum { KEY = 7, FORMULA = 12, TRIES = 1000 };
 
-static const wave_sizes sizes = { N, KU, KV, G, W };
+static const wave_sizes sizes = { N, KU, KV, GV, GU, W };
 
 /* A buffer of trits is two planes; it is lent as both, each with its number of words. */
 #define PLANES(name, words) static uint64_t name##_ones[words], name##_twos[words]
@@ -72,7 +72,8 @@ static void read_secret(void)
     put_digits(c_ones, c_twos, "12");
 }
 
-/* Makes the choices of one draw. An editor takes them from a source of randomness; here they are counted through. */
+/* Makes the choices of one draw: V trits, and U values that are not 0 from index GU on. An editor takes them from a source
+   of randomness; here they are counted through. */
 static void choose(unsigned x)
 {
     put(v_ones, v_twos, 0, x % 3);

@@ -28,8 +28,8 @@
  *
  * Both calls answer 0, or the number of a refusal: 1 a size outside its range, 2 a wrong length, 3 a bit set in both
  * planes, 4 a bit set past a row's length, 7 an order that is no permutation, 8 a zero in c or in the U values from
- * index g on, 9 hu lacks rank, 10 hv lacks rank, 12 the first r_V + g places of the V order lack rank in hv, 13 the
- * first r_U + g places of the U order lack rank in hu, 14 the weight of the word is not w. A call tests in the order
+ * index gu on, 9 hu lacks rank, 10 hv lacks rank, 12 the first r_V + gv places of the V order lack rank in hv, 13 the
+ * first r_U + gu places of the U order lack rank in hu, 14 the weight of the word is not w. A call tests in the order
  * given with it and answers with the first refusal that applies; a refused call leaves every buffer as it was, but for
  * the working space after 9 and above.
  *
@@ -67,8 +67,11 @@ extern "C" {
 #define WAVE_SMALLER(a, b) ((size_t)(a) < (size_t)(b) ? (size_t)(a) : (size_t)(b))
 #define WAVE_DRAW_WORDS(n, ku, kv) (((size_t)(n) / 2 - WAVE_SMALLER(ku, kv) + 5) * WAVE_HALF_WORDS(n))
 
-/* The sizes: n even, 4 to 16,384; ku and kv each 1 to n/2 - 1; g at most ku and at most kv; w from 1 to n. */
-typedef struct { uint64_t n, ku, kv, g, w; } wave_sizes;
+/*
+ * The sizes: n even, 4 to 16,384; ku and kv each 1 to n/2 - 1; the gaps gv from 0 to kv and gu from 0 to ku; w from 1
+ * to n. A gap may be above the k of the other half. Both calls test all of them; a build does not use gv, gu and w.
+ */
+typedef struct { uint64_t n, ku, kv, gv, gu, w; } wave_sizes;
 
 /*
  * Builds the key of the secret (hu, hv, b, c) by the starting order start. p becomes the final order and the key its k
@@ -89,10 +92,10 @@ uint64_t wave_build(wave_sizes sizes, const uint64_t *hu_ones, size_t hu_ones_wo
 
 /*
  * One draw for the syndrome y under a secret and the p of its key, by supplied choices: an order and kv trits for V, an
- * order and ku values for U, those from index g on not 0. word becomes the n trits of the word in public places, and s
+ * order and ku values for U, those from index gu on not 0. word becomes the n trits of the word in public places, and s
  * its last k trits, the signature; bits past their lengths are 0, and what they held before means nothing.
  * Order of refusals: 1, 2, then the contents of hu, hv and b (4, then 3, each over all of the buffer), of c (4, 3, 8),
- * of p (7), of y (4, 3), of v_order (7), of v (4, 3), of u_order (7) and of u (4, 3, then 8 a zero from index g on,
+ * of p (7), of y (4, 3), of v_order (7), of v (4, 3), of u_order (7) and of u (4, 3, then 8 a zero from index gu on,
  * used or not), then 12, 13, 14. word and s stay after a refusal. After 12, 13 and 14 other choices may succeed.
  * The working space may hold anything; it is untouched after 1 to 8, and all zero after 12, 13, 14 and 0.
  * What is only read (the secret, p, y and the choices) stays after every call.

@@ -96,8 +96,8 @@ def times(H, e):
 # ---- what both calls are lent
 
 def sizes_fit(z):
-    n, ku, kv, g, w = z
-    return 4 <= n <= 16384 and n % 2 == 0 and 1 <= ku <= n // 2 - 1 and 1 <= kv <= n // 2 - 1 and g <= min(ku, kv) and 1 <= w <= n
+    n, ku, kv, gv, gu, w = z
+    return 4 <= n <= 16384 and n % 2 == 0 and 1 <= ku <= n // 2 - 1 and 1 <= kv <= n // 2 - 1 and gv <= kv and gu <= ku and 1 <= w <= n
 
 
 def secret_lengths(z):
@@ -152,7 +152,7 @@ def built(z, secret, start):
 
 def build(z, secret, start, p, key, work):
     """The answer, and every buffer that may change as it is then."""
-    n, ku, kv, g, w = z
+    n, ku, kv, gv, gu, w = z
     N, k = n // 2, ku + kv
     r = n - k
     if not sizes_fit(z):
@@ -194,11 +194,11 @@ def solved(H, x, pivot, word):
 
 def drawn(z, secret, p, y, v_order, v, u_order, u):
     """The refusal 12, 13 or 14, or the word in public places."""
-    n, ku, kv, g, w = z
+    n, ku, kv, gv, gu, w = z
     N = n // 2
     hu, hv, b, c = secret_of(z, secret)
     xu, xv = halves(N, b, c, secret_places(p, y))
-    pivot = pivots(hv, v_order[:N - kv + g])
+    pivot = pivots(hv, v_order[:N - kv + gv])
     if len(pivot) < N - kv:
         return 12, None
     ev, left = [0] * N, iter(v)
@@ -206,14 +206,14 @@ def drawn(z, secret, p, y, v_order, v, u_order, u):
         if q not in pivot:
             ev[q] = next(left)
     ev = solved(hv, xv, pivot, ev)
-    pivot = pivots(hu, u_order[:N - ku + g])
+    pivot = pivots(hu, u_order[:N - ku + gu])
     if len(pivot) < N - ku:
         return 13, None
     eu, left = [0] * N, iter(u)
-    for q in u_order[:N - ku + g]:
+    for q in u_order[:N - ku + gu]:
         if q not in pivot:
             eu[q] = next(left)
-    for q in u_order[N - ku + g:]:
+    for q in u_order[N - ku + gu:]:
         value = next(left)
         eu[q] = (c[q] - b[q]) * ev[q] % 3 if ev[q] else value
     eu = solved(hu, xu, pivot, eu)
@@ -229,7 +229,7 @@ def draw_lengths(z):
 
 
 def choices_refusal(z, p, y, v_order, v, u_order, u):
-    n, ku, kv, g, w = z
+    n, ku, kv, gv, gu, w = z
     if no_order(p):
         return 7
     r = planes_refusal(*y, 1, n - ku - kv)
@@ -238,12 +238,12 @@ def choices_refusal(z, p, y, v_order, v, u_order, u):
     r = planes_refusal(*v, 1, kv)
     if r or no_order(u_order):
         return r or 7
-    return planes_refusal(*u, 1, ku) or (8 if 0 in rows_of(*u, 1, ku)[0][g:] else 0)
+    return planes_refusal(*u, 1, ku) or (8 if 0 in rows_of(*u, 1, ku)[0][gu:] else 0)
 
 
 def draw_code(z, secret, p, y, v_order, v, u_order, u, word, s, work):
     """The answer, and the word in public places where there is one."""
-    n, ku, kv, g, w = z
+    n, ku, kv, gv, gu, w = z
     if not sizes_fit(z):
         return 1, None
     if [len(x) for x in secret + [p] + y + [v_order] + v + [u_order] + u + word + s + work] != secret_lengths(z) + draw_lengths(z):
@@ -256,7 +256,7 @@ def draw_code(z, secret, p, y, v_order, v, u_order, u, word, s, work):
 
 def draw(z, secret, p, y, v_order, v, u_order, u, word, s, work):
     """The answer, and every buffer that may change as it is then."""
-    n, ku, kv, g, w = z
+    n, ku, kv, gv, gu, w = z
     code, e = draw_code(z, secret, p, y, v_order, v, u_order, u, word, s, work)
     if code == 0:
         word, s = planes([e]), planes([e[n - ku - kv:]])
@@ -269,7 +269,7 @@ def draw(z, secret, p, y, v_order, v, u_order, u, word, s, work):
 
 def meeting(z, secret, p, R, y):
     """The words that meet the terms, for n = 4, as numbers in base 3, the first place first."""
-    n, ku, kv, g, w = z
+    n, ku, kv, gv, gu, w = z
     N, k = n // 2, ku + kv
     hu = secret_of(z, secret)[0]
     out = []
@@ -280,7 +280,7 @@ def meeting(z, secret, p, R, y):
             continue
         f = secret_places(p, e)
         both = [j for j in range(N) if f[j] and f[j + N]]
-        if any(rank([column(hu, q) for q in range(N) if q not in pairs]) == N - ku for pairs in itertools.combinations(both, ku - g)):
+        if any(rank([column(hu, q) for q in range(N) if q not in pairs]) == N - ku for pairs in itertools.combinations(both, ku - gu)):
             out.append(number)
     return out
 
@@ -288,7 +288,7 @@ def meeting(z, secret, p, R, y):
 # ---- the calls
 
 class Sizes(ctypes.Structure):
-    _fields_ = [(f, ctypes.c_uint64) for f in ("n", "ku", "kv", "g", "w")]
+    _fields_ = [(f, ctypes.c_uint64) for f in ("n", "ku", "kv", "gv", "gu", "w")]
 
 
 GUARD = 4
@@ -352,8 +352,9 @@ def sample_order(n, a, b):
 # ---- the cases
 
 PAPER = [[3], [0], [1], [2], [2], [0], [1], [2]]
-SMALL = (4, 1, 1, 0, 4)
+SMALL = (4, 1, 1, 0, 0, 4)
 FIRST = [0, 1, 2, 3]
+GAPS = [(0, 0), (0, 1), (1, 0), (1, 1)]
 
 
 def four(z, secret, start):
@@ -367,11 +368,14 @@ def altered(secret, at, words):
 def build_cases():
     four(SMALL, PAPER, FIRST)
     four(SMALL, PAPER, [1, 2, 0, 3])
-    four((4, 1, 1, 1, 1), PAPER, [3, 2, 1, 0])
+    four((4, 1, 1, 1, 1, 1), PAPER, [3, 2, 1, 0])
+    four((4, 1, 1, 0, 1, 1), PAPER, [3, 2, 1, 0])
+    four((4, 1, 1, 1, 0, 1), PAPER, [3, 2, 1, 0])
     four(SMALL, [[2], [0], [2], [0], [0], [0], [3], [0]], [0, 1, 3, 2])
-    for z in ((2, 1, 1, 0, 1), (5, 1, 1, 0, 4), (16386, 1, 1, 0, 4), (4, 0, 1, 0, 4), (4, 2, 1, 0, 4), (4, 1, 0, 0, 4), (4, 1, 2, 0, 4), (4, 1, 1, 2, 4), (4, 1, 1, 0, 0), (4, 1, 1, 0, 5)):
+    for z in ((2, 1, 1, 0, 0, 1), (5, 1, 1, 0, 0, 4), (16386, 1, 1, 0, 0, 4), (4, 0, 1, 0, 0, 4), (4, 2, 1, 0, 0, 4), (4, 1, 0, 0, 0, 4), (4, 1, 2, 0, 0, 4),
+              (4, 1, 1, 2, 2, 4), (4, 1, 1, 2, 0, 4), (4, 1, 1, 0, 2, 4), (4, 1, 1, 0, 0, 0), (4, 1, 1, 0, 0, 5)):
         four(z, PAPER, FIRST)
-    four((16384, 8191, 8191, 8191, 16384), PAPER, FIRST)
+    four((16384, 8191, 8191, 8191, 8191, 16384), PAPER, FIRST)
     for at, ws in ((0, [3, 0]), (1, []), (2, []), (3, [2, 0]), (4, [2, 0]), (5, []), (6, []), (7, [2, 0])):
         four(SMALL, altered(PAPER, at, ws), FIRST)
     four(SMALL, PAPER, [0, 1, 2])
@@ -389,14 +393,14 @@ def build_cases():
     four(SMALL, [[1], [1], [4], [0]] + PAPER[4:], FIRST)
     four(SMALL, [[4], [0], [1], [1]] + PAPER[4:], FIRST)
     for hu in ([[1, 8], [1, 0]], [[8, 1], [0, 1]], [[0, 1], [8, 1]], [[1, 0], [1, 8]], [[1, 1], [1, 0]], [[0, 0], [8, 0]]):
-        call_build((6, 1, 1, 0, 3), hu + [[1, 2], [0, 0], [3], [0], [7], [0]], [0, 1, 2, 3, 4, 5], [9] * 6, [[9] * 2, [8] * 2], [[7] * 8, [6] * 8])
+        call_build((6, 1, 1, 0, 0, 3), hu + [[1, 2], [0, 0], [3], [0], [7], [0]], [0, 1, 2, 3, 4, 5], [9] * 6, [[9] * 2, [8] * 2], [[7] * 8, [6] * 8])
     four(SMALL, [[3], [4], [3], [2], [2], [0], [1], [0]], [0, 0, 2, 3])
     four(SMALL, [[0], [0]] + PAPER[2:], FIRST)
     four(SMALL, PAPER[:2] + [[0], [0]] + PAPER[4:], FIRST)
     four(SMALL, [[0], [0], [0], [0]] + PAPER[4:], FIRST)
-    call_build((132, 64, 63, 1, 100), sample_rows(66, 2, 11) + sample_rows(66, 3, 12) + sample_rows(66, 1, 13) + [[6148914691236517205, 1], [12297829382473034410, 2]],
+    call_build((132, 64, 63, 1, 1, 100), sample_rows(66, 2, 11) + sample_rows(66, 3, 12) + sample_rows(66, 1, 13) + [[6148914691236517205, 1], [12297829382473034410, 2]],
           sample_order(132, 25, 7), [9] * 132, [[9] * 127, [8] * 127], [[7] * 20, [6] * 20])
-    call_build((132, 30, 31, 30, 1), sample_rows(66, 36, 21) + sample_rows(66, 35, 22) + sample_rows(66, 1, 23) + [[12297829382473034410, 1], [6148914691236517205, 2]],
+    call_build((132, 30, 31, 30, 30, 1), sample_rows(66, 36, 21) + sample_rows(66, 35, 22) + sample_rows(66, 1, 23) + [[12297829382473034410, 1], [6148914691236517205, 2]],
           sample_order(132, 35, 100), [9] * 132, [[9] * 122, [8] * 122], [[7] * 284, [6] * 284])
 
 
@@ -408,13 +412,13 @@ def digit(t):
     return planes([[t]])
 
 
-def wide_draw(z, first, g, v_order, u_order, weight):
+def wide_draw(z, first, gv, gu, v_order, u_order, weight):
     """A draw at N = 66, with the rows made up from `first` on."""
     n, ku, kv = z
     secret = sample_rows(66, 66 - ku, first) + sample_rows(66, 66 - kv, first + 1) + sample_rows(66, 1, first + 2) + [[6148914691236517205, 1], [12297829382473034410, 2]]
     u = [[0x5A5A5A5A5A5A5A5A & (1 << ku) - 1], [0xA5A5A5A5A5A5A5A5 & (1 << ku) - 1]]
     words, k = (66 - min(ku, kv) + 5) * 2, ku + kv
-    call_draw((n, ku, kv, g, weight), secret, sample_order(n, 25, 7), sample_rows(n - k, 1, first + 3), v_order, sample_rows(kv, 1, first + 4), u_order, u,
+    call_draw((n, ku, kv, gv, gu, weight), secret, sample_order(n, 25, 7), sample_rows(n - k, 1, first + 3), v_order, sample_rows(kv, 1, first + 4), u_order, u,
          [[9] * 3, [8] * 3], [[5] * words_for(k), [4] * words_for(k)], [[7] * words, [6] * words])
 
 
@@ -423,11 +427,14 @@ def draw_cases():
     # the paper's draws, and the same under a p that is not its own inverse
     for p in (FIRST, other):
         for w, v, u in ((4, 2, 1), (4, 0, 2), (4, 1, 1), (2, 0, 1), (4, 2, 2), (3, 1, 2)):
-            small_draw((4, 1, 1, 0, w), PAPER, p, y, up, digit(v), up, digit(u))
-        small_draw((4, 1, 1, 1, 4), PAPER, p, y, down, digit(2), up, digit(0))
-        small_draw((4, 1, 1, 1, 3), PAPER, p, y, up, digit(0), down, digit(0))
+            small_draw((4, 1, 1, 0, 0, w), PAPER, p, y, up, digit(v), up, digit(u))
+        for gv, gu in GAPS:
+            small_draw((4, 1, 1, gv, gu, 4), PAPER, p, y, down, digit(2), up, digit(0))
+            small_draw((4, 1, 1, gv, gu, 3), PAPER, p, y, up, digit(0), down, digit(0))
+            small_draw((4, 1, 1, gv, gu, 2), PAPER, p, y, up, digit(2), up, digit(0))
     # sizes
-    for z in ((2, 1, 1, 0, 1), (16386, 1, 1, 0, 4), (4, 1, 1, 2, 4), (4, 1, 1, 0, 5), (16384, 8191, 8191, 8191, 16384)):
+    for z in ((2, 1, 1, 0, 0, 1), (16386, 1, 1, 0, 0, 4), (4, 1, 1, 2, 2, 4), (4, 1, 1, 2, 1, 4), (4, 1, 1, 1, 2, 4), (4, 1, 1, 0, 0, 5),
+              (16384, 8191, 8191, 8191, 8191, 16384)):
         small_draw(z, PAPER, FIRST, y, up, digit(2), up, digit(1))
     # the contents of each buffer, and two faults at once
     good = [PAPER, FIRST, y, up, digit(2), up, digit(1)]
@@ -446,10 +453,17 @@ def draw_cases():
     small_draw(SMALL, PAPER[:2] + [[2], [0]] + PAPER[4:], *good[1:])
     small_draw(SMALL, [[2], [0]] + PAPER[2:], *good[1:])
     small_draw(SMALL, [[2], [0], [2], [0]] + PAPER[4:], *good[1:])
-    small_draw((4, 1, 1, 1, 3), [[2], [0], [2], [0]] + PAPER[4:], *good[1:])
-    # rows of more than one word, with gaps from 0 to k_U
-    for z, first, g, weight in WIDE:
-        wide_draw(z, first, g, sample_order(66, 5, 3), sample_order(66, 7, 60), weight)
+    for gv, gu in GAPS:
+        small_draw((4, 1, 1, gv, gu, 3), [[2], [0], [2], [0]] + PAPER[4:], *good[1:])
+    # n = 6: g_V up to k_V = 2, above k_U = 1, and with the halves exchanged; each gap one past its range too
+    for ku, kv in ((1, 2), (2, 1)):
+        h = {1: planes([[1, 1, 2], [1, 0, 1]]), 2: planes([[0, 1, 1]])}
+        for gv, gu, w, first in itertools.product(range(4), range(4), range(1, 7), range(3)):
+            call_draw((6, ku, kv, gv, gu, w), h[ku] + h[kv] + planes([[1, 2, 0]]) + planes([[1, 1, 2]]), [5, 3, 1, 0, 4, 2], planes([[2, 1, 2]]),
+                      [0, 2, 1], planes([[1, 2][:kv]]), [0, 2, 1], planes([[first, 1][:ku]]), [[9], [8]], [[5], [4]], [[7] * 7, [6] * 7])
+    # rows of more than one word, with gaps from 0 to k_U and k_V
+    for z, first, gv, gu, weight in WIDE:
+        wide_draw(z, first, gv, gu, sample_order(66, 5, 3), sample_order(66, 7, 60), weight)
     # lengths of the buffers that are not the secret, each one less and one more
     lengths = draw_lengths(SMALL)
     for at in range(len(lengths)):
@@ -472,18 +486,18 @@ def released(z, p, y):
 
 
 def every_word():
-    """Under the paper's two keys at n = 4: every syndrome, gap and weight."""
+    """Under the paper's two keys at n = 4: every syndrome, both gaps and every weight."""
     global compared
     for start in (FIRST, [1, 2, 0, 3]):
         _, p, R = built(SMALL, PAPER, start)
         for y in itertools.product(range(3), repeat=2):
-            for g, w in itertools.product(range(2), range(1, 5)):
-                z = (4, 1, 1, g, w)
+            for (gv, gu), w in itertools.product(GAPS, range(1, 5)):
+                z = (4, 1, 1, gv, gu, w)
                 got, wanted = released(z, p, y), meeting(z, PAPER, p, R, y)
                 compared += 1
                 if got != wanted:
                     sys.exit(f"signer cases: at {z} under {p} for {y} draws release {got}, and the terms hold of {wanted}")
-                print(f"g {g}, w {w}, p {digits(p)}, y {digits(y)}: released {' '.join(map(str, got)) or 'none'}")
+                print(f"g_V {gv}, g_U {gu}, w {w}, p {digits(p)}, y {digits(y)}: released {' '.join(map(str, got)) or 'none'}")
 
 
 # ---- the sample that joins the halves
@@ -499,7 +513,7 @@ def digits(trits):
 
 
 def sign_lines():
-    z = n, ku, kv, g, w = 64, 16, 10, 2, 52
+    z = n, ku, kv, gv, gu, w = 64, 16, 10, 2, 2, 52
     kept = numbers_of(os.path.join(os.path.dirname(__file__), "../crates/sign_lines/src/secret.rt"))
     secret = [kept[name] for name in ("HU_ONES", "HU_TWOS", "HV_ONES", "HV_TWOS", "B_ONES", "B_TWOS", "C_ONES", "C_TWOS")]
     y = rows_of(kept["Y_ONES"], kept["Y_TWOS"], 1, n - ku - kv)[0]
@@ -521,7 +535,8 @@ def sign_lines():
     print("S", 7, 12, digits(y), digits(e[n - ku - kv:]), sep="\t")
 
 
-WIDE = [((132, 64, 63), 41, 0, 132), ((132, 64, 63), 41, 1, 132), ((132, 30, 31), 51, 0, 102), ((132, 30, 31), 51, 7, 102), ((132, 30, 31), 51, 7, 103), ((132, 30, 31), 51, 30, 95)]
+WIDE = [((132, 64, 63), 41, 0, 0, 132), ((132, 64, 63), 41, 1, 1, 132), ((132, 30, 31), 51, 0, 0, 102), ((132, 30, 31), 51, 7, 7, 102), ((132, 30, 31), 51, 7, 7, 103),
+        ((132, 30, 31), 51, 30, 30, 95), ((132, 30, 31), 51, 0, 7, 102), ((132, 30, 31), 51, 31, 7, 102), ((132, 30, 31), 51, 31, 0, 102), ((132, 30, 31), 51, 0, 30, 95)]
 
 if __name__ == "__main__":
     if sys.argv[1] == "sign":

@@ -154,7 +154,7 @@ static int digits_are(const call *c, int plane, size_t m, const char *digits)
 
 /* ---- the build */
 
-static const wave_sizes four = { 4, 1, 1, 0, 4 };
+static const wave_sizes four = { 4, 1, 1, 0, 0, 4 };
 
 static void keys(void)
 {
@@ -173,18 +173,24 @@ static void keys(void)
 static void sizes(call *c, uint64_t (*run)(call *), int work)
 {
     static const wave_sizes bad[] = {
-        { 2, 1, 1, 0, 1 }, { 0, 1, 1, 0, 1 }, { 5, 1, 1, 0, 4 }, { 16386, 1, 1, 0, 4 }, { 4, 0, 1, 0, 4 }, { 4, 2, 1, 0, 4 }, { 4, 1, 0, 0, 4 }, { 4, 1, 2, 0, 4 },
-        { 4, 1, 1, 2, 4 }, { 4, 1, 1, 0, 0 }, { 4, 1, 1, 0, 5 }, { UINT64_MAX, 1, 1, 0, 4 }, { 4, UINT64_MAX, 1, 0, 4 }, { 4, 1, UINT64_MAX, 0, 4 },
-        { 4, 1, 1, UINT64_MAX, 4 }, { 4, 1, 1, 0, UINT64_MAX },
+        { 2, 1, 1, 0, 0, 1 }, { 0, 1, 1, 0, 0, 1 }, { 5, 1, 1, 0, 0, 4 }, { 16386, 1, 1, 0, 0, 4 }, { 4, 0, 1, 0, 0, 4 }, { 4, 2, 1, 0, 0, 4 },
+        { 4, 1, 0, 0, 0, 4 }, { 4, 1, 2, 0, 0, 4 }, { 4, 1, 1, 2, 0, 4 }, { 4, 1, 1, 0, 2, 4 }, { 4, 1, 1, 0, 0, 0 }, { 4, 1, 1, 0, 0, 5 },
+        { UINT64_MAX, 1, 1, 0, 0, 4 }, { 4, UINT64_MAX, 1, 0, 0, 4 }, { 4, 1, UINT64_MAX, 0, 0, 4 }, { 4, 1, 1, UINT64_MAX, 0, 4 },
+        { 4, 1, 1, 0, UINT64_MAX, 4 }, { 4, 1, 1, 0, 0, UINT64_MAX },
+        /* a gap may be above the k of the other half, and not above its own */
+        { 16, 2, 5, 6, 0, 1 }, { 16, 2, 5, 0, 3, 1 }, { 16, 5, 2, 3, 0, 1 }, { 16, 5, 2, 0, 6, 1 },
     };
     wave_sizes z = c->z;
     for (size_t i = 0; i < sizeof bad / sizeof bad[0]; i++) {
         c->z = bad[i];
         refused(c, run, work, 1);
     }
-    /* the largest sizes pass the first test, and the lengths do not fit them */
-    c->z = (wave_sizes){ 16384, 8191, 8191, 8191, 16384 };
-    refused(c, run, work, 2);
+    /* these pass the first test, the largest sizes among them, and the lengths do not fit them */
+    static const wave_sizes other[] = { { 16384, 8191, 8191, 8191, 8191, 16384 }, { 16, 2, 5, 5, 0, 1 }, { 16, 2, 5, 0, 2, 1 }, { 16, 5, 2, 2, 5, 1 } };
+    for (size_t i = 0; i < sizeof other / sizeof other[0]; i++) {
+        c->z = other[i];
+        refused(c, run, work, 2);
+    }
     c->z = z;
 }
 
@@ -270,10 +276,18 @@ static void draws(void)
     static const struct { uint64_t w; const char *v, *u, *word; } paper[] = { { 4, "2", "1", "2111" }, { 4, "0", "2", "2221" }, { 2, "0", "1", "0102" } };
     call c;
     for (size_t i = 0; i < 3; i++) {
-        open_draw(&c, (wave_sizes){ 4, 1, 1, 0, paper[i].w }, "11", "12", "01", "12", "0123", "12", "01", paper[i].v, "01", paper[i].u);
+        open_draw(&c, (wave_sizes){ 4, 1, 1, 0, 0, paper[i].w }, "11", "12", "01", "12", "0123", "12", "01", paper[i].v, "01", paper[i].u);
         answered(&c, draw, E1, DW1);
         EXPECT(digits_are(&c, E1, 4, paper[i].word));
         EXPECT(digits_are(&c, S1, 2, paper[i].word + 2));
+        take_back_all();
+    }
+    /* with a gap of U and none of V, or one of both, U value 0 makes 1200 at w = 2 */
+    for (uint64_t gv = 0; gv < 2; gv++) {
+        open_draw(&c, (wave_sizes){ 4, 1, 1, gv, 1, 2 }, "11", "12", "01", "12", "0123", "12", "01", "2", "01", "0");
+        answered(&c, draw, E1, DW1);
+        EXPECT(digits_are(&c, E1, 4, "1200"));
+        EXPECT(digits_are(&c, S1, 2, "00"));
         take_back_all();
     }
     open_draw(&c, four, "11", "12", "01", "12", "0123", "12", "01", "1", "01", "1");
@@ -323,7 +337,7 @@ static void draws_refused(void)
     c.count[E1]++;
     refused(&c, draw, DW1, 2);
     take_back_all();
-    /* the first part lacks rank in V, then in U; it has it when the order begins with the other place, or when the gap takes both in */
+    /* the first part lacks rank in V, then in U; it has it when the order begins with the other place, or when the half's own gap takes both in */
     open_draw(&c, four, "01", "01", "01", "12", "0123", "12", "01", "2", "01", "1");
     refused(&c, draw, DW1, 12);
     put_places(&c, VO, "10");
@@ -333,13 +347,21 @@ static void draws_refused(void)
     EXPECT(got == 0 || got == 14);
     put_places(&c, VO, "01");
     put_places(&c, UO, "01");
-    c.z.g = 1;
+    /* each gap takes both places of its own order in, and not of the other */
+    c.z.gu = 1;
+    refused(&c, draw, DW1, 12);
+    c.z.gu = 0;
+    c.z.gv = 1;
+    refused(&c, draw, DW1, 13);
+    c.z.gu = 1;
     got = draw(&c);
     EXPECT(got == 0 || got == 14);
-    /* with the gap k_U no U value is bound to be other than 0 */
+    /* with the gap k_U of U, and not with that of V, no U value is bound to be other than 0 */
     put_digits(&c, U1, 1, "0");
     got = draw(&c);
     EXPECT(got == 0 || got == 14);
+    c.z.gu = 0;
+    refused(&c, draw, DW1, 8);
     take_back_all();
 }
 

@@ -7,7 +7,7 @@ use native.Mathlib.Omega.{arith}
 use borrow.Author.Tests.{leb-true}
 use lib.Dec.{leb}
 use Rattle.scheme.specs.declared.sizes.Sizes.{Sizes}
-use Rattle.scheme.specs.Sizes.{half, places, ru, rv, gapV, gapU, sizesFit}
+use Rattle.scheme.specs.Sizes.{half, places, ru, rv, gapV, gapU, sizesFit, sizesFitUnder}
 use Rattle.scheme.proofs.Ranges.{sizes-fit}
 use Rattle.calls.specs.Lent.{halfWords}
 
@@ -21,7 +21,7 @@ pub record Bounds (z : Sizes) : Type 0 where
   pub even : places z ≡ z .n
 
 pub bounds : (z : Sizes) → sizesFit z ≡ true → Bounds z
-unfolding sizesFit
+unfolding sizesFitUnder
 bounds z h =
     let a = and-eq-true-iff (leb 4 (z .n)) _ .0 h in
     let b = and-eq-true-iff (leb (z .n) 16384) _ .0 (a .1) in

@@ -9,7 +9,7 @@ use Rattle.trits.specs.Stages.{Stage, otherStage, bothFirst, decided, firstHasB
 use Rattle.trits.proofs.Stages.{refuse-stage, demand-stage, last-stage, decided-append, stages-four-for-three}
 use Rattle.matrix.specs.Orders.{isOrder}
 use Rattle.scheme.specs.declared.sizes.Sizes.{Sizes}
-use Rattle.scheme.specs.Sizes.{half, places, ru, rv, codim, gapU, sizesFit}
+use Rattle.scheme.specs.Sizes.{half, places, ru, rv, codim, gapU, gapsFit, sizesFit}
 use Rattle.scheme.specs.Secret.{hasZero}
 use Rattle.scheme.specs.Build.{buildRefusal}
 use Rattle.scheme.specs.Draw.{drawRefusal}
@@ -45,7 +45,7 @@ module _ (test : PlanesTest) where
   group-stages : {a b : ℕ} (group rest : List Stage) → a ≡ decided test group → b ≡ decided test rest → first a b ≡ decided test (group ++ rest)
   group-stages group rest e f = ap₂ first e f ∙ decided-append test group rest
 
-  pub build-stages : (z : Sizes) (i : BuildCall) → buildAnswerUnder test z i ≡ decided test (buildStages z i)
+  pub build-stages : (z : Sizes) (i : BuildCall) → buildAnswerUnder gapsFit test z i ≡ decided test (buildStages z i)
   unfolding buildAnswerUnder decided buildStages
   build-stages z i =
       let ranks = buildRefusal z (secretOf z (i .secret)) in
@@ -56,7 +56,7 @@ module _ (test : PlanesTest) where
       (demand-stage start 7 (lit< tt)
       (last-stage ranks))))
 
-  pub draw-stages : (z : Sizes) (i : DrawCall) → drawAnswerUnder test z i ≡ decided test (drawStages z i)
+  pub draw-stages : (z : Sizes) (i : DrawCall) → drawAnswerUnder gapsFit test z i ≡ decided test (drawStages z i)
   unfolding drawAnswerUnder decided drawStages
   draw-stages z i =
       let drawing = drawRefusal z (secretOf z (i .secret)) (i .p) (syndromeOf i) (choicesOf i) in
@@ -69,9 +69,9 @@ module _ (test : PlanesTest) where
 -- ---- the answers
 
 pub build-four-for-three : (z : Sizes) (i : BuildCall)
-    → FourForThree ℕ 3 4 (buildAnswerUnder bothFirst z i) (buildAnswer z i) (firstHasBoth (buildStages z i))
-build-four-for-three z i = stages-four-for-three (λ (test : PlanesTest). buildAnswerUnder test z i) (buildStages z i) (λ test. build-stages test z i)
+    → FourForThree ℕ 3 4 (buildAnswerUnder gapsFit bothFirst z i) (buildAnswer z i) (firstHasBoth (buildStages z i))
+build-four-for-three z i = stages-four-for-three (λ (test : PlanesTest). buildAnswerUnder gapsFit test z i) (buildStages z i) (λ test. build-stages test z i)
 
 pub draw-four-for-three : (z : Sizes) (i : DrawCall)
-    → FourForThree ℕ 3 4 (drawAnswerUnder bothFirst z i) (drawAnswer z i) (firstHasBoth (drawStages z i))
-draw-four-for-three z i = stages-four-for-three (λ (test : PlanesTest). drawAnswerUnder test z i) (drawStages z i) (λ test. draw-stages test z i)
+    → FourForThree ℕ 3 4 (drawAnswerUnder gapsFit bothFirst z i) (drawAnswer z i) (firstHasBoth (drawStages z i))
+draw-four-for-three z i = stages-four-for-three (λ (test : PlanesTest). drawAnswerUnder gapsFit test z i) (drawStages z i) (λ test. draw-stages test z i)

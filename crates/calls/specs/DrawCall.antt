@@ -1,6 +1,6 @@
 -- The call `draw`: its refusals in the paper's order, and each lent buffer at exit ("One draw",
 -- "Turned back by the input", "Turned back by the state"). Assumes nothing.
--- What depends on the test of a pair of planes is defined with any other in its place, by a name that ends in `Under`.
+-- What depends on the test of the gaps, or of a pair of planes, is defined with any other in its place, by a name that ends in `Under`.
 use mathlib.Core.Bool.{Bool, not, _||_, cond}
 use mathlib.Core.List.{List}
 use Prim.Native.Nat.{ℕ, _+_, _-_, _*_}
@@ -11,7 +11,7 @@ use Rattle.trits.specs.Refusal.{refuse, demand, first, pairAtExit, spacePairExi
 use Rattle.matrix.specs.Linear.{Vector}
 use Rattle.matrix.specs.Orders.{isOrder}
 use Rattle.scheme.specs.declared.sizes.Sizes.{Sizes}
-use Rattle.scheme.specs.Sizes.{half, places, dim, ru, rv, codim, gapU, sizesFit}
+use Rattle.scheme.specs.Sizes.{half, places, dim, ru, rv, codim, gapU, GapsTest, gapsFit, sizesFitUnder}
 use Rattle.scheme.specs.Draw.{Choices, drawn, drawRefusal, signature}
 use Rattle.calls.specs.Lent.{Planes, halfWords, secretOf, pairDiffers, secretDiffers, secretRefusalUnder}
 use Rattle.scheme.specs.Secret.{hasZero}
@@ -88,7 +88,7 @@ drawLengthsDiffer z i =
 
 -- ---- 4, 3, 7 and 8: the contents, buffer after buffer
 
--- after the secret: p, y, the V order, the V trits, the U order, the U values, of which those from g on may not be 0, used or not
+-- after the secret: p, y, the V order, the V trits, the U order, the U values, of which those from g_U on may not be 0, used or not
 unfoldable pub choicesRefusalUnder : PlanesTest → Sizes → DrawCall → ℕ
 choicesRefusalUnder test z i =
     demand (isOrder (places z) (i .p)) 7
@@ -104,16 +104,16 @@ abbrev pub choicesRefusal : Sizes → DrawCall → ℕ
 choicesRefusal z i = choicesRefusalUnder planesRefusal z i
 
 -- ---- the answer: 1, every length, the contents, then 12, 13 and 14
-unfoldable pub drawAnswerUnder : PlanesTest → Sizes → DrawCall → ℕ
-drawAnswerUnder test z i =
-    demand (sizesFit z) 1
+unfoldable pub drawAnswerUnder : GapsTest → PlanesTest → Sizes → DrawCall → ℕ
+drawAnswerUnder gaps test z i =
+    demand (sizesFitUnder gaps z) 1
     (refuse (drawLengthsDiffer z i) 2
     (first (secretRefusalUnder test z (i .secret))
     (first (choicesRefusalUnder test z i)
     (drawRefusal z (secretOf z (i .secret)) (i .p) (syndromeOf i) (choicesOf i)))))
 
 abbrev pub drawAnswer : Sizes → DrawCall → ℕ
-drawAnswer z i = drawAnswerUnder planesRefusal z i
+drawAnswer z i = drawAnswerUnder gapsFit planesRefusal z i
 
 -- ---- each lent buffer at exit
 
@@ -122,13 +122,22 @@ unfoldable pub wordOf : Sizes → DrawCall → Vector
 wordOf z i = drawn z (secretOf z (i .secret)) (i .p) (syndromeOf i) (choicesOf i)
 
 -- its n trits, in public places
-unfoldable pub wordExit : Sizes → DrawCall → Pair
-wordExit z i = pairAtExit (drawAnswer z i) (rowPair (places z) (wordOf z i)) (i .word)
+unfoldable pub wordExitUnder : GapsTest → Sizes → DrawCall → Pair
+wordExitUnder gaps z i = pairAtExit (drawAnswerUnder gaps planesRefusal z i) (rowPair (places z) (wordOf z i)) (i .word)
+
+abbrev pub wordExit : Sizes → DrawCall → Pair
+wordExit z i = wordExitUnder gapsFit z i
 
 -- its last k trits
-unfoldable pub sExit : Sizes → DrawCall → Pair
-sExit z i = pairAtExit (drawAnswer z i) (rowPair (dim z) (signature z (wordOf z i))) (i .s)
+unfoldable pub sExitUnder : GapsTest → Sizes → DrawCall → Pair
+sExitUnder gaps z i = pairAtExit (drawAnswerUnder gaps planesRefusal z i) (rowPair (dim z) (signature z (wordOf z i))) (i .s)
+
+abbrev pub sExit : Sizes → DrawCall → Pair
+sExit z i = sExitUnder gapsFit z i
 
 -- the working space
-unfoldable pub drawWorkExit : Sizes → DrawCall → Pair
-drawWorkExit z i = spacePairExit (drawAnswer z i) (i .work)
+unfoldable pub drawWorkExitUnder : GapsTest → Sizes → DrawCall → Pair
+drawWorkExitUnder gaps z i = spacePairExit (drawAnswerUnder gaps planesRefusal z i) (i .work)
+
+abbrev pub drawWorkExit : Sizes → DrawCall → Pair
+drawWorkExit z i = drawWorkExitUnder gapsFit z i

@@ -144,9 +144,9 @@ pub fn test_choices(
     if trits::refusal::code(u) != 0 {
         return u;
     }
-    let g = z.g as usize;
-    let last = ku - g;
-    if tests::has_zero(u_ones, u_twos, g, last) {
+    let gu = z.gu as usize;
+    let last = ku - gu;
+    if tests::has_zero(u_ones, u_twos, gu, last) {
         return Outcome::Refused(Refusal::ZeroTrit);
     }
     Outcome::Done
@@ -174,8 +174,8 @@ pub fn test_contents(
     u_twos: &[u64],
 ) -> Outcome
     requires { ⌜ ForTestContentsDraw z (now «hu_ones») (now «hu_twos») (now «hv_ones») (now «hv_twos») (now «b_ones») (now «b_twos»)
-        (now «c_ones») (now «c_twos») (now p) (now «y_ones») (now «y_twos») (now «v_order») (now «v_ones») (now «v_twos») (now «u_order») (now «u_ones»)
-        (now «u_twos») ⌝ }
+        (now «c_ones») (now «c_twos») (now p) (now «y_ones») (now «y_twos») (now «v_order») (now «v_ones») (now «v_twos»)
+        (now «u_order») (now «u_ones») (now «u_twos») ⌝ }
     ensures { λ r. ⌜ codeOf r ≡ first (secretRefusal z (planes (now («hu_ones» .entry)) (now («hu_twos» .entry)) (now («hv_ones» .entry))
         (now («hv_twos» .entry))
         (now («b_ones» .entry)) (now («b_twos» .entry)) (now («c_ones» .entry)) (now («c_twos» .entry))))

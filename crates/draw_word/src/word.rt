@@ -30,8 +30,8 @@ pub fn part_word(
     work_ones: &mut [u64],
     work_twos: &mut [u64],
 )
-    requires { ⌜ ForPartWord z l (now «b_ones») (now «b_twos») (now «c_ones») (now «c_twos») (now p) (now «y_ones») (now «y_twos») (now «work_ones»)
-        (now «work_twos») ⌝ }
+    requires { ⌜ ForPartWord z l (now «b_ones») (now «b_twos») (now «c_ones») (now «c_twos») (now p) (now «y_ones») (now «y_twos»)
+        (now «work_ones») (now «work_twos») ⌝ }
     ensures { λ _. ⌜ Rows (now («work_ones» .exit)) (now («work_twos» .exit)) (l + 5) (halfWords z) ⌝ }
     ensures { λ _. ⌜ Parted z l (pairsOf (now («b_ones» .entry)) (now («b_twos» .entry)) (now («c_ones» .entry)) (now («c_twos» .entry)))
         (startWord z (now (p .entry)) (tritAt (now («y_ones» .entry)) (now («y_twos» .entry))))
@@ -87,8 +87,8 @@ pub fn solve_halves(
     work_ones: &mut [u64],
     work_twos: &mut [u64],
 ) -> Outcome
-    requires { ⌜ ForSolveHalves z l (now «hu_ones») (now «hu_twos») (now «hv_ones») (now «hv_twos») (now «b_ones») (now «b_twos») (now «c_ones») (now «c_twos»)
-        (now «v_order») (now «v_ones») (now «v_twos») (now «u_order») (now «u_ones») (now «u_twos») (now «work_ones») (now «work_twos») ⌝ }
+    requires { ⌜ ForSolveHalves z l (now «hu_ones») (now «hu_twos») (now «hv_ones») (now «hv_twos») (now «b_ones») (now «b_twos»)
+        (now «c_ones») (now «c_twos») (now «v_order») (now «v_ones») (now «v_twos») (now «u_order») (now «u_ones») (now «u_twos») (now «work_ones») (now «work_twos») ⌝ }
     ensures { λ r. ⌜ (let s = secretOf z (planes (now («hu_ones» .entry)) (now («hu_twos» .entry)) (now («hv_ones» .entry)) (now («hv_twos» .entry))
         (now («b_ones» .entry)) (now («b_twos» .entry)) (now («c_ones» .entry)) (now («c_twos» .entry))) in
         let ch = choices (now («v_order» .entry)) (now («v_ones» .entry)) (now («v_twos» .entry)) (now («u_order» .entry)) (now («u_ones» .entry))
@@ -98,8 +98,8 @@ pub fn solve_halves(
         × SolvedHalves (codeOf r) z l s ch (A l) (A (l + 1)) (matrixAt (halfWords z) (now («work_ones» .exit)) (now («work_twos» .exit)))) ⌝ }
 {
     let s = sizes::shape_of(z);
-    let gv = z.g as usize;
-    let gu = z.g as usize;
+    let gv = z.gv as usize;
+    let gu = z.gu as usize;
     let rows = l + 5;
     let v = l + 3;
     let u = l + 4;
@@ -207,9 +207,9 @@ pub fn make_word(
     work_ones: &mut [u64],
     work_twos: &mut [u64],
 ) -> Outcome
-    requires { ⌜ ForMakeWord z l (now «hu_ones») (now «hu_twos») (now «hv_ones») (now «hv_twos») (now «b_ones») (now «b_twos») (now «c_ones») (now «c_twos»)
-        (now p) (now «y_ones») (now «y_twos») (now «v_order») (now «v_ones») (now «v_twos») (now «u_order») (now «u_ones») (now «u_twos») (now «work_ones»)
-        (now «work_twos») ⌝ }
+    requires { ⌜ ForMakeWord z l (now «hu_ones») (now «hu_twos») (now «hv_ones») (now «hv_twos») (now «b_ones») (now «b_twos»)
+        (now «c_ones») (now «c_twos») (now p) (now «y_ones») (now «y_twos») (now «v_order») (now «v_ones») (now «v_twos»)
+        (now «u_order») (now «u_ones») (now «u_twos») (now «work_ones») (now «work_twos») ⌝ }
     ensures { λ r. ⌜ (let i = given (planes (now («hu_ones» .entry)) (now («hu_twos» .entry)) (now («hv_ones» .entry)) (now («hv_twos» .entry))
         (now («b_ones» .entry)) (now («b_twos» .entry)) (now («c_ones» .entry)) (now («c_twos» .entry)))
         (now (p .entry)) (now («y_ones» .entry)) (now («y_twos» .entry)) (now («v_order» .entry)) (now («v_ones» .entry)) (now («v_twos» .entry))

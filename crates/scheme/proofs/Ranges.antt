@@ -5,7 +5,7 @@ use Prim.Native.Nat.{_+_, _-_, _%_, _≤_, _<_}
 use native.Mathlib.Omega.{arith}
 use borrow.Author.Tests.{eqb-true, leb-true}
 use lib.Dec.{eqb, leb}
-use Rattle.scheme.specs.Sizes.{Sizes, half, places, dim, codim, gapV, gapU, sizesFit}
+use Rattle.scheme.specs.Sizes.{Sizes, half, places, dim, codim, gapV, gapU, gapsFit, sizesFit, sizesFitUnder}
 
 pub record Ranges (z : Sizes) : Type 0 where
   pub even : places z ≡ z .n
@@ -15,7 +15,7 @@ pub record Ranges (z : Sizes) : Type 0 where
   pub gv-low : gapV z ≤ z .kv
 
 pub sizes-fit : (z : Sizes) → sizesFit z ≡ true → Ranges z
-unfolding sizesFit
+unfolding sizesFitUnder gapsFit
 sizes-fit z h =
     let a = and-eq-true-iff (leb 4 (z .n)) _ .0 h in
     let b = and-eq-true-iff (leb (z .n) 16384) _ .0 (a .1) in
@@ -24,14 +24,14 @@ sizes-fit z h =
     let e = and-eq-true-iff (leb (z .ku) (half z - 1)) _ .0 (d .1) in
     let f = and-eq-true-iff (leb 1 (z .kv)) _ .0 (e .1) in
     let g = and-eq-true-iff (leb (z .kv) (half z - 1)) _ .0 (f .1) in
-    let i = and-eq-true-iff (leb (gapU z) (z .ku)) _ .0 (g .1) in
-    let j = and-eq-true-iff (leb (gapV z) (z .kv)) _ .0 (i .1) in
+    let i = and-eq-true-iff (gapsFit z) _ .0 (g .1) in
+    let j = and-eq-true-iff (leb (gapU z) (z .ku)) _ .0 (i .0) in
     record {
       even = omega (arith, eqb-true (z .n % 2) 0 (c .0));
       ku-low = omega (arith, leb-true 4 (z .n) (a .0), leb-true (z .ku) (half z - 1) (e .0));
       kv-low = omega (arith, leb-true 4 (z .n) (a .0), leb-true (z .kv) (half z - 1) (g .0));
-      gu-low = leb-true (gapU z) (z .ku) (i .0);
-      gv-low = leb-true (gapV z) (z .kv) (j .0);
+      gu-low = leb-true (gapU z) (z .ku) (j .0);
+      gv-low = leb-true (gapV z) (z .kv) (j .1);
     }
 
 -- n-k and k make n

@@ -18,7 +18,7 @@ pub record Choices : Type 0 where
   pub orderU : List ℕ
   pub valuesU : Vector
 
--- what is supplied in order: two orders of N places, and no 0 among the last k_U - g U values
+-- what is supplied in order: two orders of N places, and no 0 among the last k_U - g_U U values
 unfoldable pub choicesFit : Sizes → Choices → Bool
 choicesFit z ch = isOrder (half z) (ch .orderV) && (isOrder (half z) (ch .orderU) && noZero (z .ku - gapU z) (λ j. ch .valuesU (gapU z + j)))
 
@@ -26,7 +26,7 @@ choicesFit z ch = isOrder (half z) (ch .orderV) && (isOrder (half z) (ch .orderU
 abbrev pub placed : List ℕ → Vector → Vector
 placed p e = fill p e zeros
 
--- V: the first part is the first r_V + g places of the order
+-- V: the first part is the first r_V + g_V places of the order
 abbrev pub firstV : Sizes → Choices → List ℕ
 firstV z ch = take (rv z + gapV z) (ch .orderV)
 
@@ -42,7 +42,7 @@ suppliedV z s ch = fill (without (pivotsV z s ch) (ch .orderV)) (ch .tritsV) zer
 unfoldable pub drawV : Sizes → Secret → Vector → Choices → Vector
 drawV z s x ch = orZeros (solve (rv z) (half z) (s .hv) (times (half z) (s .hv) x) (pivotsV z s ch) (suppliedV z s ch))
 
--- U: the first part likewise, with r_U + g places
+-- U: the first part likewise, with r_U + g_U places
 abbrev pub firstU : Sizes → Choices → List ℕ
 firstU z ch = take (ru z + gapU z) (ch .orderU)
 
@@ -50,7 +50,7 @@ firstU z ch = take (ru z + gapU z) (ch .orderU)
 unfoldable pub pivotsU : Sizes → Secret → Choices → List ℕ
 pivotsU z s ch = pivots (ru z) (half z) (s .hu) (firstU z ch)
 
--- the last k_U - g places
+-- the last k_U - g_U places
 abbrev pub lastU : Sizes → Choices → List ℕ
 lastU z ch = drop (ru z + gapU z) (ch .orderU)
 
@@ -61,7 +61,7 @@ forcedBy b c eV q x = cond (isSet (eV q)) (mulT (subT (c q) (b q)) (eV q)) x
 abbrev pub forced : Secret → Vector → ℕ → Trit → Trit
 forced s = forcedBy (s .b) (s .c)
 
--- the g places of the first part that are no pivot take the first g values, the last part the others, each in draw order
+-- the g_U places of the first part that are no pivot take the first g_U values, the last part the others, each in draw order
 unfoldable pub suppliedU : Sizes → Secret → Vector → Choices → Vector
 suppliedU z s eV ch =
     fill (lastU z ch) (λ j. forced s eV (getD (lastU z ch) j 0) (ch .valuesU (gapU z + j)))

@@ -1,4 +1,4 @@
--- The sizes ("The two halves"). Assumes nothing.
+-- The sizes ("The two halves"; the gaps by request C-18). Assumes nothing.
 use mathlib.Core.Bool.{Bool, _&&_}
 use Prim.Native.Nat.{ℕ, _+_, _-_, _/_, _%_}
 use lib.Dec.{eqb, leb}
@@ -30,19 +30,30 @@ rv z = half z - z .kv
 abbrev pub codim : Sizes → ℕ
 codim z = ru z + rv z
 
--- the gap of V, read here alone
+-- g_V, the gap of V, read here alone
 abbrev pub gapV : Sizes → ℕ
-gapV z = z .g
+gapV z = z .gv
 
--- the gap of U, read here alone
+-- g_U, the gap of U, read here alone
 abbrev pub gapU : Sizes → ℕ
-gapU z = z .g
+gapU z = z .gu
 
--- whether n is even and from 4 to 16,384, k_U and k_V are from 1 to N-1, no gap is above its k, and w is from 1 to n
-unfoldable pub sizesFit : Sizes → Bool
-sizesFit z =
+-- a test of the gaps: the one below, or the one of before (request C-18)
+abbrev pub GapsTest : Type 0
+GapsTest = Sizes → Bool
+
+-- whether g_U is from 0 to k_U, and g_V from 0 to k_V
+unfoldable pub gapsFit : GapsTest
+gapsFit z = leb (gapU z) (z .ku) && leb (gapV z) (z .kv)
+
+-- whether n is even and from 4 to 16,384, k_U and k_V are from 1 to N-1, the gaps pass their test, and w is from 1 to n
+unfoldable pub sizesFitUnder : GapsTest → Sizes → Bool
+sizesFitUnder gaps z =
     leb 4 (z .n) && (leb (z .n) 16384 && (eqb (z .n % 2) 0 && (leb 1 (z .ku) && (leb (z .ku) (half z - 1) && (leb 1 (z .kv) && (leb (z .kv) (half z - 1)
-    && (leb (gapU z) (z .ku) && (leb (gapV z) (z .kv) && (leb 1 (z .w) && leb (z .w) (z .n))))))))))
+    && (gaps z && (leb 1 (z .w) && leb (z .w) (z .n)))))))))
+
+abbrev pub sizesFit : Sizes → Bool
+sizesFit z = sizesFitUnder gapsFit z
 
 -- N, the words of a row of N trits, r_U and r_V, taken together
 abbrev pub shapeOf : Sizes → Shape

@@ -3,17 +3,18 @@ ghost use mathlib.Core.Path.{_≡_};
 ghost use mathlib.Core.Bool.{true};
 ghost use Rattle.scheme.specs.Sizes.{sizesFit, shapeOf};
 
-// n places, k_U and k_V, the gap g, the weight w.
+// n places, k_U and k_V, the gaps g_V and g_U, the weight w.
 #[repr(C)]
 pub struct Sizes {
     pub n: u64,
     pub ku: u64,
     pub kv: u64,
-    pub g: u64,
+    pub gv: u64,
+    pub gu: u64,
     pub w: u64,
 }
 
-// Whether n is even and from 4 to 16,384, k_U and k_V are from 1 to n/2 - 1, the gap is above neither, and w is from 1 to n.
+// Whether n is even and from 4 to 16,384, k_U and k_V are from 1 to n/2 - 1, g_U is at most k_U, g_V at most k_V, and w is from 1 to n.
 pub fn sizes_fit(z: Sizes) -> bool
     ensures { λ r. ⌜ r ≡ sizesFit z ⌝ }
 {
@@ -38,10 +39,10 @@ pub fn sizes_fit(z: Sizes) -> bool
     if z.kv > z.n / 2 - 1 {
         return false;
     }
-    if z.g > z.ku {
+    if z.gu > z.ku {
         return false;
     }
-    if z.g > z.kv {
+    if z.gv > z.kv {
         return false;
     }
     if z.w < 1 {

@@ -8,13 +8,14 @@ ghost use lib.ListN.{length};
 use libc::STDOUT_FILENO;
 use scheme::sizes::Sizes;
 
-// The sizes of the secret, with a gap and a weight.
+// The sizes of the secret, with two gaps and a weight.
 fn sizes() -> Sizes {
     Sizes {
         n: 64,
         ku: 16,
         kv: 10,
-        g: 2,
+        gv: 2,
+        gu: 2,
         w: 52,
     }
 }

@@ -23,13 +23,14 @@ use Rattle.held_key.specs.Store.{beginRefusalUnder, begunHeld, beginHeld, rowRe
 use Rattle.held_key.specs.Load.{offer, offerAll}
 use Rattle.check_tests.specs.Check.{callRefusalUnder, packedLengths, packedContentsUnder, checkPackedRefusalUnder, heldCountsUnder, answered}
 use Rattle.check_tests.specs.Check.{checkPackedAnswerUnder}
-use Rattle.scheme.specs.Sizes.{sizesFit}
+use Rattle.scheme.specs.Sizes.{gapsFit, sizesFitUnder}
 use Rattle.scheme.specs.Secret.{noZero, secretMatrix, hasZero}
 use Rattle.scheme.specs.Build.{arrange, arranged, rowOfR, buildRefusal}
 use Rattle.scheme.specs.Draw.{choicesFit, placed, pivotsV, suppliedV, drawV, pivotsU, suppliedU, drawU, drawn, drawRefusal}
 use Rattle.calls.specs.Lent.{secretDiffers, secretRefusalUnder}
-use Rattle.calls.specs.BuildCall.{keyDiffers, buildLengthsDiffer, buildAnswerUnder, orderExit, keyOnesOf, keyTwosOf, keyExit, buildWorkExit}
-use Rattle.calls.specs.DrawCall.{choicesDiffer, drawLengthsDiffer, choicesRefusalUnder, drawAnswerUnder, wordOf, wordExit, sExit, drawWorkExit}
+use Rattle.calls.specs.BuildCall.{keyDiffers, buildLengthsDiffer, buildAnswerUnder, orderExitUnder, keyOnesOf, keyTwosOf, keyExitUnder, buildWorkExitUnder}
+use Rattle.calls.specs.DrawCall.{choicesDiffer, drawLengthsDiffer, choicesRefusalUnder, drawAnswerUnder, wordOf, wordExit, wordExitUnder, sExitUnder}
+use Rattle.calls.specs.DrawCall.{drawWorkExitUnder}
 use Rattle.wave.specs.Terms.{Terms, builtKey, LentSyndrome, HandsOut}
 use Rattle.wave.specs.Examples.{sizes4, secret4, start1, key1, p2, key2, y4, draw4}
 use Rattle.wave.specs.Beside.{Beside, secretR, keyR}
@@ -47,7 +48,7 @@ only-zero (suc q) e = absurd (true≢false (sym (rw (ne-eqb (suc q) 0 (λ z. abs
 
 -- ---- words that meet the terms
 
-meets-2111 : Terms (sizes4 0 4) secret4 start1 key1 y4 (vector (2 ∷ 1 ∷ 1 ∷ 1 ∷ []))
+meets-2111 : Terms (sizes4 0 0 4) 0 4 secret4 start1 key1 y4 (vector (2 ∷ 1 ∷ 1 ∷ 1 ∷ []))
 unfolding dotV anyTo sumTo agree find solve inSpan keep pivots rank without fill range timesKey syndrome
 meets-2111 = record {
   weighs = refl;
@@ -61,7 +62,7 @@ meets-2111 = record {
     by j (inl z) = rw z refl
     by j (inr z) = rw z refl
 
-meets-0011 : Terms (sizes4 0 2) secret4 p2 key2 y4 (vector (0 ∷ 0 ∷ 1 ∷ 1 ∷ []))
+meets-0011 : Terms (sizes4 0 0 4) 0 2 secret4 p2 key2 y4 (vector (0 ∷ 0 ∷ 1 ∷ 1 ∷ []))
 unfolding dotV anyTo sumTo agree find solve inSpan keep pivots rank without fill range timesKey syndrome
 meets-0011 = record {
   weighs = refl;
@@ -75,7 +76,7 @@ meets-0011 = record {
     by j (inl z) = rw z refl
     by j (inr z) = rw z refl
 
-meets-1200 : Terms (sizes4 1 2) secret4 start1 key1 y4 (vector (1 ∷ 2 ∷ 0 ∷ 0 ∷ []))
+meets-1200 : Terms (sizes4 0 0 4) 1 2 secret4 start1 key1 y4 (vector (1 ∷ 2 ∷ 0 ∷ 0 ∷ []))
 unfolding dotV anyTo sumTo agree find solve inSpan keep pivots rank without fill range timesKey syndrome
 meets-1200 = record {
   weighs = refl;
@@ -91,16 +92,16 @@ meets-1200 = record {
 
 -- ---- words that miss one of them
 
-weight-0212 : Terms (sizes4 0 4) secret4 start1 key1 y4 (vector (0 ∷ 2 ∷ 1 ∷ 2 ∷ [])) → ⊥
+weight-0212 : Terms (sizes4 0 0 4) 0 4 secret4 start1 key1 y4 (vector (0 ∷ 2 ∷ 1 ∷ 2 ∷ [])) → ⊥
 unfolding sumTo
 weight-0212 t = let three : _≡_ {A = ℕ} 3 4 = t .weighs in absurd (omega arith)
 
-syndrome-1111 : Terms (sizes4 0 4) secret4 start1 key1 y4 (vector (1 ∷ 1 ∷ 1 ∷ 1 ∷ [])) → ⊥
+syndrome-1111 : Terms (sizes4 0 0 4) 0 4 secret4 start1 key1 y4 (vector (1 ∷ 1 ∷ 1 ∷ 1 ∷ [])) → ⊥
 unfolding dotV timesKey syndrome
 syndrome-1111 t = let other : _≡_ {A = ℕ} 0 1 = ap number (t .has-syndrome 0 (omega arith)) in absurd (omega arith)
 
 -- the pair that is asked for is 0 or 1
-right-1200 : Terms (sizes4 0 2) secret4 start1 key1 y4 (vector (1 ∷ 2 ∷ 0 ∷ 0 ∷ [])) → ⊥
+right-1200 : Terms (sizes4 0 0 4) 0 2 secret4 start1 key1 y4 (vector (1 ∷ 2 ∷ 0 ∷ 0 ∷ [])) → ⊥
 unfolding fill
 right-1200 t = at (getD (t .chosen .pairs) 0 0) (elem-at (t .chosen .pairs) 0 (omega (arith, t .chosen .size)))
   where
@@ -111,7 +112,7 @@ right-1200 t = at (getD (t .chosen .pairs) 0 0) (elem-at (t .chosen .pairs) 0 (o
     at : (q : ℕ) → elem q (t .chosen .pairs) ≡ true → ⊥
     at q m = by q m (zero-or-one q (t .chosen .below q m))
 
-left-0022 : Terms (sizes4 0 2) secret4 start1 key1 y4 (vector (0 ∷ 0 ∷ 2 ∷ 2 ∷ [])) → ⊥
+left-0022 : Terms (sizes4 0 0 4) 0 2 secret4 start1 key1 y4 (vector (0 ∷ 0 ∷ 2 ∷ 2 ∷ [])) → ⊥
 unfolding fill
 left-0022 t = at (getD (t .chosen .pairs) 0 0) (elem-at (t .chosen .pairs) 0 (omega (arith, t .chosen .size)))
   where
@@ -123,7 +124,7 @@ left-0022 t = at (getD (t .chosen .pairs) 0 0) (elem-at (t .chosen .pairs) 0 (om
     at q m = by q m (zero-or-one q (t .chosen .below q m))
 
 -- the pair is 0, since pair 1 has no left trit; and the other column of H_U is 0
-rank-1010 : Terms (sizes4 0 2) secretR start1 keyR y4 (vector (1 ∷ 0 ∷ 1 ∷ 0 ∷ [])) → ⊥
+rank-1010 : Terms (sizes4 0 0 4) 0 2 secretR start1 keyR y4 (vector (1 ∷ 0 ∷ 1 ∷ 0 ∷ [])) → ⊥
 unfolding dotV anyTo agree find solve inSpan keep pivots rank without fill range
 rank-1010 t = by (t .chosen .pairs) (t .chosen .size) (t .chosen .below) (λ q m. t .both-nonzero q m .0) (t .keeps-rank)
   where
@@ -138,34 +139,34 @@ rank-1010 t = by (t .chosen .pairs) (t .chosen .size) (t .chosen .below) (λ q m
 
 -- ---- a syndrome and a release
 
-lent-12 : LentSyndrome (sizes4 0 4) (1 ∷ []) (2 ∷ [])
+lent-12 : LentSyndrome (sizes4 0 0 4) (1 ∷ []) (2 ∷ [])
 unfolding anyTo bit bitAt bothSet pastEnd rowPart rowsPastEnd planesRefusal
 lent-12 = record { ones-size = refl; twos-size = refl; contents = refl }
 
-refused-both : LentSyndrome (sizes4 0 4) (1 ∷ []) (1 ∷ []) → ⊥
+refused-both : LentSyndrome (sizes4 0 0 4) (1 ∷ []) (1 ∷ []) → ⊥
 unfolding anyTo bit bitAt bothSet pastEnd rowPart rowsPastEnd planesRefusal
 refused-both t = let three : _≡_ {A = ℕ} 3 0 = t .contents in absurd (omega arith)
 
-not-2221 : HandsOut (sizes4 0 4) (draw4 start1 0 1 1 0) (vector (2 ∷ 2 ∷ 2 ∷ 1 ∷ [])) → ⊥
+not-2221 : HandsOut (sizes4 0 0 4) (draw4 start1 0 1 1 0) (vector (2 ∷ 2 ∷ 2 ∷ 1 ∷ [])) → ⊥
 unfolding dotV anyTo sumTo upTo bit fromBits bitAt tritAt tabulate onesOf twosOf bothSet pastEnd rowPart matrixAt rowsPastEnd first planesRefusal agree find
-    solve inSpan keep pivots rank without fill range isOrder sizesFit pivotsV suppliedV drawV pivotsU suppliedU drawU drawn drawRefusal secretDiffers hasZero
-    secretRefusalUnder choicesDiffer drawLengthsDiffer choicesRefusalUnder drawAnswerUnder wordOf wordExit
+    solve inSpan keep pivots rank without fill range isOrder gapsFit sizesFitUnder pivotsV suppliedV drawV pivotsU suppliedU drawU drawn drawRefusal
+    secretDiffers hasZero secretRefusalUnder choicesDiffer drawLengthsDiffer choicesRefusalUnder drawAnswerUnder wordOf wordExitUnder
 not-2221 h = let other : _≡_ {A = ℕ} 1 2 = ap number (h .word 1 (omega arith)) in absurd (omega arith)
 
-none-0212 : (e : Vector) → HandsOut (sizes4 0 4) (draw4 start1 1 0 1 0) e → ⊥
-unfolding dotV anyTo sumTo upTo bit fromBits bitAt tritAt tabulate bothSet pastEnd rowPart matrixAt rowsPastEnd first planesRefusal agree find solve inSpan keep
-    pivots rank without fill range isOrder sizesFit pivotsV suppliedV drawV pivotsU suppliedU drawU drawn drawRefusal secretDiffers hasZero secretRefusalUnder
-    choicesDiffer drawLengthsDiffer choicesRefusalUnder drawAnswerUnder
+none-0212 : (e : Vector) → HandsOut (sizes4 0 0 4) (draw4 start1 1 0 1 0) e → ⊥
+unfolding dotV anyTo sumTo upTo bit fromBits bitAt tritAt tabulate bothSet pastEnd rowPart matrixAt rowsPastEnd first planesRefusal agree find solve inSpan
+    keep pivots rank without fill range isOrder gapsFit sizesFitUnder pivotsV suppliedV drawV pivotsU suppliedU drawU drawn drawRefusal secretDiffers
+    hasZero secretRefusalUnder choicesDiffer drawLengthsDiffer choicesRefusalUnder drawAnswerUnder
 none-0212 e h = let fourteen : _≡_ {A = ℕ} 14 0 = h .passed in absurd (omega arith)
 
-hands-2111 : HandsOut (sizes4 0 4) (draw4 start1 0 1 1 0) (vector (2 ∷ 1 ∷ 1 ∷ 1 ∷ []))
+hands-2111 : HandsOut (sizes4 0 0 4) (draw4 start1 0 1 1 0) (vector (2 ∷ 1 ∷ 1 ∷ 1 ∷ []))
 unfolding dotV anyTo sumTo upTo bit fromBits bitAt tritAt tabulate onesOf twosOf bothSet pastEnd rowPart matrixAt rowsPastEnd first planesRefusal agree find
-    solve inSpan keep pivots rank without fill range isOrder sizesFit pivotsV suppliedV drawV pivotsU suppliedU drawU drawn drawRefusal secretDiffers hasZero
-    secretRefusalUnder choicesDiffer drawLengthsDiffer choicesRefusalUnder drawAnswerUnder wordOf wordExit
+    solve inSpan keep pivots rank without fill range isOrder gapsFit sizesFitUnder pivotsV suppliedV drawV pivotsU suppliedU drawU drawn drawRefusal
+    secretDiffers hasZero secretRefusalUnder choicesDiffer drawLengthsDiffer choicesRefusalUnder drawAnswerUnder wordOf wordExitUnder
 hands-2111 = record { passed = refl; word = λ q h. by q (places-below q h) }
   where
     by : (q : ℕ) → (q ≡ 0) ⊎ (q ≡ 1) ⊎ (q ≡ 2) ⊎ (q ≡ 3)
-        → tritAt (wordExit (sizes4 0 4) (draw4 start1 0 1 1 0) .ones) (wordExit (sizes4 0 4) (draw4 start1 0 1 1 0) .twos) q
+        → tritAt (wordExit (sizes4 0 0 4) (draw4 start1 0 1 1 0) .ones) (wordExit (sizes4 0 0 4) (draw4 start1 0 1 1 0) .twos) q
         ≡ vector (2 ∷ 1 ∷ 1 ∷ 1 ∷ []) q
     by q (inl z) = rw z refl
     by q (inr (inl z)) = rw z refl
@@ -183,17 +184,21 @@ hands-2111 = record { passed = refl; word = λ q h. by q (places-below q h) }
 
 pub beside : Beside
 unfolding dotV anyTo sumTo upTo bit fromBits bitAt tritAt tabulate onesOf twosOf zeroWords bothSet pastEnd rowsOf rowPart matrixAt putWords rowsPastEnd
-    first planesRefusal byteOf digitOf packedRow packedBytes badByte packedPastEnd packedRefusal packRefusalUnder packExit agree find solve inSpan keep pivots
-    rank without fill range isOrder digitRows timesKey fullWord fullCounts numbersFitUnder soundUnder heldRowUnder heldKeyUnder beginRefusalUnder begunHeld
-    beginHeld rowRefusalUnder storePackedRefusal nextHeld storedHeld storedPlane offer offerAll callRefusalUnder packedLengths packedContentsUnder
-    checkPackedRefusalUnder heldCountsUnder answered checkPackedAnswerUnder sizesFit noZero secretMatrix arrange arranged rowOfR buildRefusal choicesFit pivotsV
-    suppliedV drawV pivotsU suppliedU drawU drawn drawRefusal secretDiffers hasZero secretRefusalUnder spaceExit keyDiffers buildLengthsDiffer buildAnswerUnder
-    orderExit keyOnesOf keyTwosOf keyExit buildWorkExit choicesDiffer drawLengthsDiffer choicesRefusalUnder drawAnswerUnder wordOf wordExit sExit drawWorkExit
-    builtKey
+    first planesRefusal byteOf digitOf packedRow packedBytes badByte packedPastEnd packedRefusal packRefusalUnder packExit agree find solve inSpan keep
+    pivots rank without fill range isOrder digitRows timesKey fullWord fullCounts numbersFitUnder soundUnder heldRowUnder heldKeyUnder beginRefusalUnder
+    begunHeld beginHeld rowRefusalUnder storePackedRefusal nextHeld storedHeld storedPlane offer offerAll callRefusalUnder packedLengths packedContentsUnder
+    checkPackedRefusalUnder heldCountsUnder answered checkPackedAnswerUnder gapsFit sizesFitUnder noZero secretMatrix arrange arranged rowOfR buildRefusal
+    choicesFit pivotsV suppliedV drawV pivotsU suppliedU drawU drawn drawRefusal secretDiffers hasZero secretRefusalUnder spaceExit keyDiffers
+    buildLengthsDiffer buildAnswerUnder orderExitUnder keyOnesOf keyTwosOf keyExitUnder buildWorkExitUnder choicesDiffer drawLengthsDiffer
+    choicesRefusalUnder drawAnswerUnder wordOf wordExitUnder sExitUnder drawWorkExitUnder builtKey
 beside = record {
   word-1200 = refl;
   released-1200 = refl;
   given-1200 = refl;
+  word-1200-equal = refl;
+  released-1200-equal = refl;
+  refused-1200 = refl;
+  answer-1200 = refl;
   word-1121 = refl;
   answer-1121 = refl;
   ones-1121 = refl;
@@ -224,4 +229,5 @@ beside = record {
   carried-2111 = refl;
   carried-2221 = refl;
   carried-0102 = refl;
+  carried-1200 = refl;
 }

@@ -1,6 +1,6 @@
 -- Demand 3 holds, whole. Assumes nothing.
 use Rattle.wave.specs.DemandThree.{DemandThree}
-use Rattle.wave.proofs.ReachCalls.{syndrome-lent, reach-calls}
+use Rattle.wave.proofs.ReachCalls.{syndrome-lent, reach-calls, any-gap-of-v}
 use Rattle.wave.proofs.Checks.{check-says-yes, packed-says-yes, one-word, packed-one-word}
 use Rattle.wave.proofs.EndToEnd.{end-to-end, end-to-end-planes}
 
@@ -11,6 +11,8 @@ demand-three =
       every-syndrome = syndrome-lent;
       -- from a call to its choices as vectors, and back: lent planes and the vectors that they hold; `reach` of Reach between
       reach = reach-calls;
+      -- the terms are those of g_U and w alone
+      any-gap-of-v = any-gap-of-v;
       -- the full word of y and s is the one word that has the syndrome and extends s
       verifier = check-says-yes;
       packed-verifier = packed-says-yes;

@@ -32,12 +32,13 @@ use Rattle.check_tests.specs.declared.Checked.{Checked}
 use Rattle.held_key.specs.Held.{rowTrits}
 use Rattle.held_key.specs.Load.{Holding, offerAll}
 use Rattle.check_tests.specs.Check.{callRefusal, planesLengths, planesContents, planesContentsUnder, answered}
-use Rattle.check_tests.specs.Check.{checkRefusal, checkRefusalUnder, checkAnswer, packedCheckOf, checkPackedRefusal, checkPackedRefusalUnder, checkPackedAnswer}
+use Rattle.check_tests.specs.Check.{checkRefusal, checkRefusalUnder, checkAnswer, packedCheckOf, checkPackedRefusal, checkPackedRefusalUnder}
+use Rattle.check_tests.specs.Check.{checkPackedAnswer}
 use Rattle.check_tests.proofs.Passed.{check-packed-passed, packed-contents}
 use Rattle.checker.proofs.EndToEnd.{begun, offered, loaded}
 use Rattle.checker.proofs.Verdicts.{packed-agrees}
 use Rattle.scheme.specs.declared.sizes.Sizes.{Sizes}
-use Rattle.scheme.specs.Sizes.{half, places, dim, codim, gapV, gapU, sizesFit}
+use Rattle.scheme.specs.Sizes.{half, places, dim, codim, gapsFit, sizesFit, sizesFitUnder}
 use Rattle.scheme.specs.Build.{keyRow}
 use Rattle.scheme.specs.Draw.{signature}
 use Rattle.scheme.proofs.Ranges.{sizes-fit, codim-dim}
@@ -73,7 +74,7 @@ ended ones twos m e lo lt =
 
 -- those of a draw are those of a key
 fits-held : (z : Sizes) (number : ℕ) → sizesFit z ≡ true → number ≤ mostKeyNumber → numbersFit number (z .n) (dim z) (z .w) ≡ true
-unfolding sizesFit numbersFitUnder
+unfolding sizesFitUnder numbersFitUnder
 fits-held z number h l =
     let a = and-eq-true-iff (leb 4 (z .n)) _ .0 h in
     let b = and-eq-true-iff (leb (z .n) 16384) _ .0 (a .1) in
@@ -82,9 +83,8 @@ fits-held z number h l =
     let e = and-eq-true-iff (leb (z .ku) (half z - 1)) _ .0 (d .1) in
     let f = and-eq-true-iff (leb 1 (z .kv)) _ .0 (e .1) in
     let g = and-eq-true-iff (leb (z .kv) (half z - 1)) _ .0 (f .1) in
-    let i = and-eq-true-iff (leb (gapU z) (z .ku)) _ .0 (g .1) in
-    let j = and-eq-true-iff (leb (gapV z) (z .kv)) _ .0 (i .1) in
-    let k = and-eq-true-iff (leb 1 (z .w)) _ .0 (j .1) in
+    let i = and-eq-true-iff (gapsFit z) _ .0 (g .1) in
+    let k = and-eq-true-iff (leb 1 (z .w)) _ .0 (i .1) in
     let ku = leb-true 1 (z .ku) (d .0) in
     let kv = leb-true 1 (z .kv) (f .0) in
     let low = leb-true (z .ku) (half z - 1) (e .0) in
@@ -101,9 +101,10 @@ y-lengths z l e =
     pair-same (wordsFor (codim z)) (length (l .y .ones)) (length (l .y .twos))
     (or-false-left (pairDiffers (wordsFor (codim z)) (length (l .y .ones)) (length (l .y .twos))) _ b)
 
-module _ (z : Sizes) (i : BuildCall) (b : Built z i) (g w : ℕ) (l : DrawCall) (u : Under z i l) (d : drawAnswer (sized z g w) l ≡ 0) (m : Host z) where
+module _ (z : Sizes) (i : BuildCall) (b : Built z i) (gv gu w : ℕ) (l : DrawCall) (u : Under z i l)
+    (d : drawAnswer (sized z gv gu w) l ≡ 0) (m : Host z) where
   abbrev Z : Sizes
-  Z = sized z g w
+  Z = sized z gv gu w
 
   passed : DrawPassed Z l
   passed = draw-call Z l d
@@ -192,8 +193,8 @@ module _ (z : Sizes) (i : BuildCall) (b : Built z i) (g w : ℕ) (l : DrawCall) 
   abbrev e : Vector
   e = wordOf Z l
 
-  terms : KeyTerms z i g w (l .y .ones) (l .y .twos) e
-  terms = drawn-terms z i b g w l u d
+  terms : KeyTerms z i gu w (l .y .ones) (l .y .twos) e
+  terms = drawn-terms z i b gv gu w l u d
 
   counts-are : fullCounts (codim z) (dim z) (λ j. packedRow (packedKeyRow z i m j)) (packedRow yPacked) (packedRow sPacked)
       ≡ countsV e (places z)
@@ -209,7 +210,7 @@ module _ (z : Sizes) (i : BuildCall) (b : Built z i) (g w : ℕ) (l : DrawCall) 
   sum-is = counts-weight e (places z) ∙ terms .weighs
 
   -- the answer
-  packed-answer : checkPackedAnswer (carriedCheck z i g w l m) ≡ yes (onesV e (places z)) (twosV e (places z))
+  packed-answer : checkPackedAnswer (carriedCheck z i gv gu w l m) ≡ yes (onesV e (places z)) (twosV e (places z))
   unfolding answered
   packed-answer =
       loaded (m .number) (z .n) (dim z) w (fits-held Z (m .number) (passed .sizes) (m .number-fits)) (packedKeyRow z i m) row-size row-good (m .before)
@@ -239,8 +240,8 @@ module _ (z : Sizes) (i : BuildCall) (b : Built z i) (g w : ℕ) (l : DrawCall) 
       (m .ones-size ∙ ap (λ (x : ℕ). dim z * wordsFor x) (sym size)) (m .twos-size ∙ ap (λ (x : ℕ). dim z * wordsFor x) (sym size)) (dim z)
       (le-refl (dim z)) .held-is
 
-  packed-passed : checkPackedRefusal (carriedCheck z i g w l m) ≡ 0
-  packed-passed = packed-not-refused (carriedCheck z i g w l m) (ap (λ (x : Checked). x .refusal) packed-answer)
+  packed-passed : checkPackedRefusal (carriedCheck z i gv gu w l m) ≡ 0
+  packed-passed = packed-not-refused (carriedCheck z i gv gu w l m) (ap (λ (x : Checked). x .refusal) packed-answer)
 
   call-passes : callRefusal (key .held) (m .number) (length (key .ones)) (length (key .twos)) (length (m .workOnes)) (length (m .workTwos)) ≡ 0
   unfolding checkPackedRefusalUnder
@@ -250,7 +251,7 @@ module _ (z : Sizes) (i : BuildCall) (b : Built z i) (g w : ℕ) (l : DrawCall) 
   rows-pass : planesRefusal (key .ones) (key .twos) (key .held .k) (rowTrits (key .held)) ≡ 0
   rows-pass =
       packed-contents (key .held) (key .ones) (key .twos) yPacked sPacked
-      (check-packed-passed (carriedCheck z i g w l m) packed-passed .2) .0
+      (check-packed-passed (carriedCheck z i gv gu w l m) packed-passed .2) .0
 
   lengths-pass : planesLengths (key .held) (length (l .y .ones)) (length (l .y .twos)) (length (sExit Z l .ones)) (length (sExit Z l .twos)) ≡ 0
   unfolding planesLengths
@@ -277,39 +278,40 @@ module _ (z : Sizes) (i : BuildCall) (b : Built z i) (g w : ℕ) (l : DrawCall) 
       (first-goes (sym (ap (planesRefusal (l .y .ones) (l .y .twos) 1) f ∙ passed .syndrome)) refl
       (sym (ap (planesRefusal (sExit Z l .ones) (sExit Z l .twos) 1) k ∙ s-passes))))
 
-  planes-passed-all : checkRefusal (carriedPlanes z i g w l m) ≡ 0
+  planes-passed-all : checkRefusal (carriedPlanes z i gv gu w l m) ≡ 0
   unfolding checkRefusalUnder
   planes-passed-all = sym (first-goes (sym call-passes) refl (first-goes (sym lengths-pass) refl (sym contents-pass)))
 
-  planes-answer : checkAnswer (carriedPlanes z i g w l m) ≡ yes (onesV e (places z)) (twosV e (places z))
+  planes-answer : checkAnswer (carriedPlanes z i gv gu w l m) ≡ yes (onesV e (places z)) (twosV e (places z))
   planes-answer =
       let f : rowTrits (key .held) ≡ codim z = ap (λ (h : Held). rowTrits h) held-is ∙ size in
       let k : key .held .k ≡ dim z = ap (λ (h : Held). h .k) held-is in
       let t : tritAt (sExit Z l .ones) (sExit Z l .twos) ≡ s = handed-signature Z l d in
-      sym (packed-agrees (carriedPlanes z i g w l m) planes-passed-all)
+      sym (packed-agrees (carriedPlanes z i gv gu w l m) planes-passed-all)
       ∙ ap₂ (λ (a b : List ℕ). checkPackedAnswer (packedCheckOf (key .held) (m .number) (key .ones) (key .twos) a b (m .workOnes) (m .workTwos)))
       (ap (λ (x : ℕ). packedBytes x y) f ∙ sym y-is) (ap₂ packedBytes k t ∙ sym s-is)
       ∙ packed-answer
 
 -- ---- the word handed out is the word drawn, and so are its ones and twos
 
-module _ (z : Sizes) (i : BuildCall) (b : Built z i) (g w : ℕ) (l : DrawCall) (e : Vector) (u : Under z i l)
-    (h : HandsOut (sized z g w) l e) (m : Host z) where
-  handed : countsV (wordOf (sized z g w) l) (places z) ≡ countsV e (places z)
+module _ (z : Sizes) (i : BuildCall) (b : Built z i) (gv gu w : ℕ) (l : DrawCall) (e : Vector) (u : Under z i l)
+    (h : HandsOut (sized z gv gu w) l e) (m : Host z) where
+  handed : countsV (wordOf (sized z gv gu w) l) (places z) ≡ countsV e (places z)
   handed =
-      counts-same (places z) (wordOf (sized z g w) l) e
-      (λ q k. sym (ap (λ (v : Vector). v q) (handed-word (sized z g w) l (h .passed)) ∙ upto-in (wordOf (sized z g w) l) (places z) q k) ∙ h .word q k)
+      counts-same (places z) (wordOf (sized z gv gu w) l) e
+      (λ q k. sym (ap (λ (v : Vector). v q) (handed-word (sized z gv gu w) l (h .passed)) ∙ upto-in (wordOf (sized z gv gu w) l) (places z) q k)
+      ∙ h .word q k)
 
-  accepts : {answer : Checked} → answer ≡ yes (onesV (wordOf (sized z g w) l) (places z)) (twosV (wordOf (sized z g w) l) (places z))
+  accepts : {answer : Checked} → answer ≡ yes (onesV (wordOf (sized z gv gu w) l) (places z)) (twosV (wordOf (sized z gv gu w) l) (places z))
       → Accepts z w e answer
   accepts a =
       let f = a ∙ ap (λ (c : Counts). yes (c .ones) (c .twos)) handed in record {
         says = f;
-        adds-up = ap (λ (x : Checked). x .ones + x .twos) a ∙ sum-is z i b g w l u (h .passed) m;
+        adds-up = ap (λ (x : Checked). x .ones + x .twos) a ∙ sum-is z i b gv gu w l u (h .passed) m;
       }
 
-  pub end-to-end : Accepts z w e (checkPackedAnswer (carriedCheck z i g w l m))
-  end-to-end = accepts (packed-answer z i b g w l u (h .passed) m)
+  pub end-to-end : Accepts z w e (checkPackedAnswer (carriedCheck z i gv gu w l m))
+  end-to-end = accepts (packed-answer z i b gv gu w l u (h .passed) m)
 
-  pub end-to-end-planes : Accepts z w e (checkAnswer (carriedPlanes z i g w l m))
-  end-to-end-planes = accepts (planes-answer z i b g w l u (h .passed) m)
+  pub end-to-end-planes : Accepts z w e (checkAnswer (carriedPlanes z i gv gu w l m))
+  end-to-end-planes = accepts (planes-answer z i b gv gu w l u (h .passed) m)

@@ -22,7 +22,7 @@ use Rattle.calls.specs.DrawCall.{DrawCall, syndromeOf, choicesOf, drawWorkWords
 use Rattle.calls.specs.DrawCall.{drawAnswer, drawAnswerUnder}
 use Rattle.calls.proofs.Secrets.{differs}
 
--- ---- the secret, whatever g and w are
+-- ---- the secret, whatever the gaps and w are
 
 -- c is nowhere 0
 pub secret-unit : (z : Sizes) (k : Planes) → secretRefusal z k ≡ 0 → noZero (half z) (tritAt (k .c .ones) (k .c .twos)) ≡ true

@@ -118,7 +118,7 @@ module _ (z : Sizes) (s : Secret) (order : List ℕ) (y e : Vector) (bu : Builds
       low-first : Below (half z) (firstU z ch)
       low-first = first-below (half z) (ru z + gapU z) (ch .orderU) (valid .orderU)
 
-  released-terms : Terms z s (keyOrder z s order) (keyRow z s order) y e
+  released-terms : Terms z (gapU z) (z .w) s (keyOrder z s order) (keyRow z s order) y e
   released-terms =
       record {
         weighs = weight-same (places z) e (drawn z s (keyOrder z s order) y ch) (λ i h. sym (re .word i h)) ∙ passes .weighs;
@@ -176,7 +176,8 @@ module _ (n : ℕ) (qs : List ℕ) (d : Distinct qs) (b : Below n qs) where
 
 -- ---- from the terms to a draw
 
-module _ (z : Sizes) (s : Secret) (order : List ℕ) (y e : Vector) (bu : Builds z s order) (f : Terms z s (keyOrder z s order) (keyRow z s order) y e) where
+module _ (z : Sizes) (s : Secret) (order : List ℕ) (y e : Vector) (bu : Builds z s order)
+    (f : Terms z (gapU z) (z .w) s (keyOrder z s order) (keyRow z s order) y e) where
   -- the word in secret places, and its parts, 0 from N on
   abbrev eF : Vector
   eF = placed (keyOrder z s order) e
@@ -360,13 +361,14 @@ module _ (z : Sizes) (s : Secret) (order : List ℕ) (y e : Vector) (bu : Builds
             without-length (pivotsU z s chF) firstF (pa .0) (keptU z s chF validF .distinct) (λ q m. pivots-elem (ru z) (half z) (s .hu) firstF q m),
           )
 
-      last-value : (j : ℕ) → j < length (lastU z chF) → forced s eVF (getD (lastU z chF) j 0) (chF .valuesU (gapU z + j)) ≡ eUF (getD (lastU z chF) j 0)
+      last-value : (j : ℕ) → j < length (lastU z chF)
+          → forced s eVF (getD (lastU z chF) j 0) (chF .valuesU (gapU z + j)) ≡ eUF (getD (lastU z chF) j 0)
       last-value j h =
           ap (forced s eVF (getD (lastU z chF) j 0)) (pair-value j ∙ ap (λ (l : List ℕ). pairF (getD l j 0)) (sym last-is))
           ∙ pair-takes (getD (lastU z chF) j 0) (subst (λ (l : List ℕ). elem (getD (lastU z chF) j 0) l ≡ true) last-is (elem-at (lastU z chF) j h))
 
-      off : (q : ℕ) → elem q (pivotsU z s chF) ≡ false → (elem q (lastU z chF) ≡ true) ⊎ (elem q (lastU z chF) ≡ false) → (elem q free ≡ true)
-          ⊎ (elem q free ≡ false)
+      off : (q : ℕ) → elem q (pivotsU z s chF) ≡ false → (elem q (lastU z chF) ≡ true) ⊎ (elem q (lastU z chF) ≡ false)
+          → (elem q free ≡ true) ⊎ (elem q free ≡ false)
           → eUF q ≡ suppliedU z s eVF chF q
       off q m (inl a) b = sym (fill-own (lastU z chF) eUF _ (fill free (chF .valuesU) zeros) q (pa .1) last-value a)
       off q m (inr a) (inl b) =
@@ -407,38 +409,53 @@ module _ (z : Sizes) (s : Secret) (order : List ℕ) (y e : Vector) (bu : Builds
 
 -- ---- for a key that a build released, and its rows as they were released
 
--- the build passed its tests, and they do not speak of g and w
-pub released-builds : (z : Sizes) (s : Secret) (start p : List ℕ) (R : Key) → Released z s start p R → (g w : ℕ) → sizesFit (sized z g w) ≡ true
-    → Builds (sized z g w) s start
-released-builds z s start p R re g w h =
+-- the build passed its tests, and they do not speak of the gaps and w
+pub released-builds : (z : Sizes) (s : Secret) (start p : List ℕ) (R : Key) → Released z s start p R → (gv gu w : ℕ)
+    → sizesFit (sized z gv gu w) ≡ true → Builds (sized z gv gu w) s start
+released-builds z s start p R re gv gu w h =
     let b = build-passed z s start (re .given) (re .passed) in
-    record { ranges = sizes-fit (sized z g w) h; unit = b .unit; order = b .order; full-u = b .full-u; full-v = b .full-v }
+    record { ranges = sizes-fit (sized z gv gu w) h; unit = b .unit; order = b .order; full-u = b .full-u; full-v = b .full-v }
 
-terms-key : (z : Sizes) (s : Secret) (p : List ℕ) (R Q : Key) (y e : Vector) → ((i j : ℕ) → i < dim z → j < codim z → R i j ≡ Q i j) → Terms z s p R y e
-    → Terms z s p Q y e
-terms-key z s p R Q y e h f =
-    record {
-      weighs = f .weighs;
-      has-syndrome = λ j l. syndrome-cong (codim z) (dim z) Q R e e (λ q b. refl) (λ i j a b. sym (h i j a b)) j l ∙ f .has-syndrome j l;
-      chosen = f .chosen;
-      both-nonzero = f .both-nonzero;
-      keeps-rank = f .keeps-rank;
-    }
+-- the terms at the sizes of a draw are those at the sizes of the build, and under a key with the same rows
+module _ (z : Sizes) (gv gu w : ℕ) (s : Secret) (p : List ℕ) (R Q : Key) (y e : Vector)
+    (same : (i j : ℕ) → i < dim z → j < codim z → R i j ≡ Q i j) where
+  terms-built : Terms (sized z gv gu w) gu w s p R y e → Terms z gu w s p Q y e
+  terms-built f =
+      record {
+        weighs = f .weighs;
+        has-syndrome = λ j l. syndrome-cong (codim z) (dim z) Q R e e (λ q b. refl) (λ i j a b. sym (same i j a b)) j l ∙ f .has-syndrome j l;
+        chosen = f .chosen;
+        both-nonzero = f .both-nonzero;
+        keeps-rank = f .keeps-rank;
+      }
 
--- demand 3: for any key that a build released, any g and w allowed, any y and any word, some draw releases the word exactly when the terms hold
+  terms-drawn : Terms z gu w s p Q y e → Terms (sized z gv gu w) gu w s p R y e
+  terms-drawn f =
+      record {
+        weighs = f .weighs;
+        has-syndrome = λ j l. syndrome-cong (codim z) (dim z) R Q e e (λ q b. refl) same j l ∙ f .has-syndrome j l;
+        chosen = f .chosen;
+        both-nonzero = f .both-nonzero;
+        keeps-rank = f .keeps-rank;
+      }
+
+-- demand 3: for any key that a build released, any gaps and w allowed, any y and any word, some draw releases the word exactly when the terms hold
 pub reach : (z : Sizes) (s : Secret) (start p : List ℕ) (R : Key) → Released z s start p R
-    → (g w : ℕ) → sizesFit (sized z g w) ≡ true → (y e : Vector)
-    → Releases (sized z g w) s p y e ↔ Terms (sized z g w) s p R y e
+    → (gv gu w : ℕ) → sizesFit (sized z gv gu w) ≡ true → (y e : Vector)
+    → Releases (sized z gv gu w) s p y e ↔ Terms z gu w s p R y e
 unfolding secretMatrix
-reach z s start p R re g w h y e = (
-  (λ r. subst (λ (p : List ℕ). Terms (sized z g w) s p R y e) (sym (re .order))
-      (terms-key (sized z g w) s (keyOrder z s start) (keyRow z s start) R y e (λ i j a b. sym (re .rows i j a b))
-      (released-terms (sized z g w) s start y e bu (subst (λ (p : List ℕ). Releases (sized z g w) s p y e) (re .order) r)))),
-  λ t. subst (λ (p : List ℕ). Releases (sized z g w) s p y e) (sym (re .order))
-      (terms-released (sized z g w) s start y e bu
-      (terms-key (sized z g w) s (keyOrder z s start) R (keyRow z s start) y e (re .rows)
-      (subst (λ (p : List ℕ). Terms (sized z g w) s p R y e) (re .order) t))),
+reach z s start p R re gv gu w h y e = (
+  (λ r. subst (λ (p : List ℕ). Terms z gu w s p R y e) (sym (re .order))
+      (terms-built z gv gu w s (keyOrder z s start) (keyRow z s start) R y e rows
+      (released-terms (sized z gv gu w) s start y e bu (subst (λ (p : List ℕ). Releases (sized z gv gu w) s p y e) (re .order) r)))),
+  λ t. subst (λ (p : List ℕ). Releases (sized z gv gu w) s p y e) (sym (re .order))
+      (terms-released (sized z gv gu w) s start y e bu
+      (terms-drawn z gv gu w s (keyOrder z s start) (keyRow z s start) R y e rows
+      (subst (λ (p : List ℕ). Terms z gu w s p R y e) (re .order) t))),
 )
   where
-    bu : Builds (sized z g w) s start
-    bu = released-builds z s start p R re g w h
+    bu : Builds (sized z gv gu w) s start
+    bu = released-builds z s start p R re gv gu w h
+
+    rows : (i j : ℕ) → i < dim z → j < codim z → keyRow z s start i j ≡ R i j
+    rows i j a b = sym (re .rows i j a b)

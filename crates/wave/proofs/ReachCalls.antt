@@ -21,7 +21,7 @@ use Rattle.matrix.specs.Orders.{Order}
 use Rattle.matrix.proofs.Places.{elem-at}
 use Rattle.matrix.proofs.Orders.{order-good, test-order}
 use Rattle.scheme.specs.declared.sizes.Sizes.{Sizes}
-use Rattle.scheme.specs.Sizes.{half, places, dim, codim, gapU, sizesFit}
+use Rattle.scheme.specs.Sizes.{half, places, dim, codim, gapU, sizesFit, sizesFitUnder}
 use Rattle.scheme.specs.Secret.{Secret, noZero}
 use Rattle.scheme.specs.Build.{keyOrder, keyRow}
 use Rattle.scheme.specs.Draw.{Choices, drawn, drawRefusal, signature}
@@ -30,8 +30,8 @@ use Rattle.scheme.proofs.Ranges.{sizes-fit}
 use Rattle.scheme.proofs.Zeros.{hasZero-of}
 use Rattle.scheme_laws.proofs.Draws.{Valid}
 use Rattle.calls.specs.Lent.{secretOf, secretDiffers, secretRefusal, secretRefusalUnder}
-use Rattle.calls.specs.BuildCall.{BuildCall, keyRowWords, orderExit, keyOnesOf, keyTwosOf, keyExit}
-use Rattle.calls.specs.DrawCall.{DrawCall, choicesOf, drawWorkWords, drawLengthsDiffer, drawAnswer, wordOf, wordExit, sExit}
+use Rattle.calls.specs.BuildCall.{BuildCall, keyRowWords, orderExit, orderExitUnder, keyOnesOf, keyTwosOf, keyExit, keyExitUnder}
+use Rattle.calls.specs.DrawCall.{DrawCall, choicesOf, drawWorkWords, drawLengthsDiffer, drawAnswer, wordOf, wordExit, wordExitUnder, sExit, sExitUnder}
 use Rattle.wave.specs.Terms.{Built, builtKey, sized, LentSyndrome, LentAs, Under, HandsOut, Bits, SomeDraw, KeyTerms}
 use Rattle.wave.specs.Vectors.{Released, Releases}
 use Rattle.wave.proofs.Written.{written-back, written-passes, ones-words, twos-words, zero-words, rows-part}
@@ -48,7 +48,7 @@ module _ (z : Sizes) (i : BuildCall) (b : Built z i) where
 
   pub built-ones : (j : ℕ) → j < dim z
       → onesOf (upTo (codim z) (keyRow z (secretOf z (i .secret)) (i .start) j)) (keyRowWords z) ≡ rowPart (keyExit z i .ones) (dim z) (keyRowWords z) j
-  unfolding keyExit keyOnesOf
+  unfolding keyExitUnder keyOnesOf
   built-ones j l =
       sym (ap (λ (x : List ℕ). rowPart x (dim z) (keyRowWords z) j) (sym (exit-new (keyOnesOf z s (i .start)) (i .key .ones) b))
       ∙ rows-part (λ k. onesOf (upTo (codim z) (keyRow z s (i .start) k)) (keyRowWords z)) (keyRowWords z)
@@ -56,7 +56,7 @@ module _ (z : Sizes) (i : BuildCall) (b : Built z i) where
 
   pub built-twos : (j : ℕ) → j < dim z
       → twosOf (upTo (codim z) (keyRow z (secretOf z (i .secret)) (i .start) j)) (keyRowWords z) ≡ rowPart (keyExit z i .twos) (dim z) (keyRowWords z) j
-  unfolding keyExit keyTwosOf
+  unfolding keyExitUnder keyTwosOf
   built-twos j l =
       sym (ap (λ (x : List ℕ). rowPart x (dim z) (keyRowWords z) j) (sym (exit-new (keyTwosOf z s (i .start)) (i .key .twos) b))
       ∙ rows-part (λ k. twosOf (upTo (codim z) (keyRow z s (i .start) k)) (keyRowWords z)) (keyRowWords z)
@@ -68,7 +68,7 @@ module _ (z : Sizes) (i : BuildCall) (b : Built z i) where
   built-row j l = ap₂ tritAt (sym (built-ones j l)) (sym (built-twos j l)) ∙ written-back (codim z) (keyRow z s (i .start) j)
 
   pub built-released : Released z (secretOf z (i .secret)) (i .start) (orderExit z i) (builtKey z i)
-  unfolding orderExit
+  unfolding orderExitUnder
   built-released =
       let p = build-call z i b in
       record {
@@ -82,7 +82,7 @@ module _ (z : Sizes) (i : BuildCall) (b : Built z i) where
 
 -- the word lent back is the word drawn
 pub handed-word : (z : Sizes) (l : DrawCall) → drawAnswer z l ≡ 0 → tritAt (wordExit z l .ones) (wordExit z l .twos) ≡ upTo (places z) (wordOf z l)
-unfolding wordExit
+unfolding wordExitUnder
 handed-word z l d =
     ap₂ tritAt (sym (exit-new (onesOf (upTo (places z) (wordOf z l)) (wordsFor (places z))) (l .word .ones) d))
     (sym (exit-new (twosOf (upTo (places z) (wordOf z l)) (wordsFor (places z))) (l .word .twos) d))
@@ -100,22 +100,22 @@ call-releases z l e h =
     }
 
 -- under a build's secret and p
-pub under-releases : (z : Sizes) (i : BuildCall) (g w : ℕ) (l : DrawCall) (e : Vector) → Under z i l → HandsOut (sized z g w) l e
-    → Releases (sized z g w) (secretOf z (i .secret)) (orderExit z i) (tritAt (l .y .ones) (l .y .twos)) e
-under-releases z i g w l e u h =
-    subst (λ k. Releases (sized z g w) (secretOf z k) (orderExit z i) (tritAt (l .y .ones) (l .y .twos)) e) (u .secret-is)
-    (subst (λ (p : List ℕ). Releases (sized z g w) (secretOf z (l .secret)) p (tritAt (l .y .ones) (l .y .twos)) e) (u .order-is)
-    (call-releases (sized z g w) l e h))
+pub under-releases : (z : Sizes) (i : BuildCall) (gv gu w : ℕ) (l : DrawCall) (e : Vector) → Under z i l → HandsOut (sized z gv gu w) l e
+    → Releases (sized z gv gu w) (secretOf z (i .secret)) (orderExit z i) (tritAt (l .y .ones) (l .y .twos)) e
+under-releases z i gv gu w l e u h =
+    subst (λ k. Releases (sized z gv gu w) (secretOf z k) (orderExit z i) (tritAt (l .y .ones) (l .y .twos)) e) (u .secret-is)
+    (subst (λ (p : List ℕ). Releases (sized z gv gu w) (secretOf z (l .secret)) p (tritAt (l .y .ones) (l .y .twos)) e) (u .order-is)
+    (call-releases (sized z gv gu w) l e h))
 
 -- and s lent back is its last k trits
 pub handed-ones : (z : Sizes) (l : DrawCall) → drawAnswer z l ≡ 0
     → sExit z l .ones ≡ onesOf (upTo (dim z) (signature z (wordOf z l))) (wordsFor (dim z))
-unfolding sExit
+unfolding sExitUnder
 handed-ones z l d = sym (exit-new (onesOf (upTo (dim z) (signature z (wordOf z l))) (wordsFor (dim z))) (l .s .ones) d)
 
 pub handed-twos : (z : Sizes) (l : DrawCall) → drawAnswer z l ≡ 0
     → sExit z l .twos ≡ twosOf (upTo (dim z) (signature z (wordOf z l))) (wordsFor (dim z))
-unfolding sExit
+unfolding sExitUnder
 handed-twos z l d = sym (exit-new (twosOf (upTo (dim z) (signature z (wordOf z l))) (wordsFor (dim z))) (l .s .twos) d)
 
 pub handed-signature : (z : Sizes) (l : DrawCall) → drawAnswer z l ≡ 0
@@ -123,20 +123,20 @@ pub handed-signature : (z : Sizes) (l : DrawCall) → drawAnswer z l ≡ 0
 handed-signature z l d = ap₂ tritAt (handed-ones z l d) (handed-twos z l d) ∙ written-back (dim z) (signature z (wordOf z l))
 
 -- the terms hold of the word that a draw under a built key made
-pub drawn-terms : (z : Sizes) (i : BuildCall) → Built z i → (g w : ℕ) (l : DrawCall) → Under z i l → drawAnswer (sized z g w) l ≡ 0
-    → KeyTerms z i g w (l .y .ones) (l .y .twos) (wordOf (sized z g w) l)
-drawn-terms z i b g w l u d =
-    let e = wordOf (sized z g w) l in
-    reach z (secretOf z (i .secret)) (i .start) (orderExit z i) (builtKey z i) (built-released z i b) g w (draw-call (sized z g w) l d .sizes)
+pub drawn-terms : (z : Sizes) (i : BuildCall) → Built z i → (gv gu w : ℕ) (l : DrawCall) → Under z i l → drawAnswer (sized z gv gu w) l ≡ 0
+    → KeyTerms z i gu w (l .y .ones) (l .y .twos) (wordOf (sized z gv gu w) l)
+drawn-terms z i b gv gu w l u d =
+    let e = wordOf (sized z gv gu w) l in
+    reach z (secretOf z (i .secret)) (i .start) (orderExit z i) (builtKey z i) (built-released z i b) gv gu w (draw-call (sized z gv gu w) l d .sizes)
     (tritAt (l .y .ones) (l .y .twos)) e .0
-    (under-releases z i g w l e u
-    (record { passed = d; word = λ q h. ap (λ (v : Vector). v q) (handed-word (sized z g w) l d) ∙ upto-in e (places z) q h }))
+    (under-releases z i gv gu w l e u
+    (record { passed = d; word = λ q h. ap (λ (v : Vector). v q) (handed-word (sized z gv gu w) l d) ∙ upto-in e (places z) q h }))
 
 -- ---- from vectors to a call
 
 -- no size is large
 pub few : (z : Sizes) → sizesFit z ≡ true → z .n ≤ 16384
-unfolding sizesFit
+unfolding sizesFitUnder
 few z h = leb-true (z .n) 16384 (and-eq-true-iff (leb (z .n) 16384) _ .0 (and-eq-true-iff (leb 4 (z .n)) _ .0 h .1) .0)
 
 -- the numbers of an order of so few places have 16 bits
@@ -147,12 +147,12 @@ order-words n ps o h j = by (decLt j (length ps))
     by (yes l) = let b = order-good n ps o .1 (getD ps j 0) (elem-at ps j l) in omega arith
     by (no f) = let e : getD ps j 0 ≡ 0 = List·getD-eq-default ps 0 (omega arith) in rw e (lit< tt)
 
-module _ (z : Sizes) (i : BuildCall) (b : Built z i) (g w : ℕ) (fit : sizesFit (sized z g w) ≡ true)
+module _ (z : Sizes) (i : BuildCall) (b : Built z i) (gv gu w : ℕ) (fit : sizesFit (sized z gv gu w) ≡ true)
     (yOnes yTwos : List ℕ) (ly : LentSyndrome z yOnes yTwos)
     (e : Vector)
-    (re : Releases (sized z g w) (secretOf z (i .secret)) (orderExit z i) (tritAt yOnes yTwos) e) where
+    (re : Releases (sized z gv gu w) (secretOf z (i .secret)) (orderExit z i) (tritAt yOnes yTwos) e) where
   abbrev Z : Sizes
-  Z = sized z g w
+  Z = sized z gv gu w
 
   abbrev ch : Choices
   ch = cut Z (re .choices)
@@ -228,7 +228,7 @@ module _ (z : Sizes) (i : BuildCall) (b : Built z i) (g w : ℕ) (fit : sizesFit
       ∙ ap (λ (c : Choices). drawn Z (s z i b) (orderExit z i) (tritAt yOnes yTwos) c q) choices-are
       ∙ cut-word Z (s z i b) (orderExit z i) (tritAt yOnes yTwos) e (sizes-fit Z fit) re q l
 
-  some-draw : SomeDraw z i g w yOnes yTwos e
+  some-draw : SomeDraw z i gv gu w yOnes yTwos e
   some-draw =
       let n = few Z fit in
       record {
@@ -269,19 +269,28 @@ syndrome-lent z y =
       back = λ j h. ap (λ (v : Vector). v j) (written-back m y) ∙ upto-in y m j h;
     }
 
-pub reach-calls : (z : Sizes) (i : BuildCall) → Built z i → (g w : ℕ) → sizesFit (sized z g w) ≡ true
+pub reach-calls : (z : Sizes) (i : BuildCall) → Built z i → (gv gu w : ℕ) → sizesFit (sized z gv gu w) ≡ true
     → (yOnes yTwos : List ℕ) → LentSyndrome z yOnes yTwos
     → (e : Vector)
-    → SomeDraw z i g w yOnes yTwos e ↔ KeyTerms z i g w yOnes yTwos e
-reach-calls z i b g w fit yOnes yTwos ly e = (
+    → SomeDraw z i gv gu w yOnes yTwos e ↔ KeyTerms z i gu w yOnes yTwos e
+reach-calls z i b gv gu w fit yOnes yTwos ly e = (
   (λ d. iff .0 (by d)),
-  λ t. some-draw z i b g w fit yOnes yTwos ly e (iff .1 t),
+  λ t. some-draw z i b gv gu w fit yOnes yTwos ly e (iff .1 t),
 )
   where
-    iff : Releases (sized z g w) (secretOf z (i .secret)) (orderExit z i) (tritAt yOnes yTwos) e ↔ KeyTerms z i g w yOnes yTwos e
-    iff = reach z (secretOf z (i .secret)) (i .start) (orderExit z i) (builtKey z i) (built-released z i b) g w fit (tritAt yOnes yTwos) e
+    iff : Releases (sized z gv gu w) (secretOf z (i .secret)) (orderExit z i) (tritAt yOnes yTwos) e ↔ KeyTerms z i gu w yOnes yTwos e
+    iff = reach z (secretOf z (i .secret)) (i .start) (orderExit z i) (builtKey z i) (built-released z i b) gv gu w fit (tritAt yOnes yTwos) e
 
-    by : SomeDraw z i g w yOnes yTwos e → Releases (sized z g w) (secretOf z (i .secret)) (orderExit z i) (tritAt yOnes yTwos) e
+    by : SomeDraw z i gv gu w yOnes yTwos e → Releases (sized z gv gu w) (secretOf z (i .secret)) (orderExit z i) (tritAt yOnes yTwos) e
     by d =
-        subst (λ (y : Vector). Releases (sized z g w) (secretOf z (i .secret)) (orderExit z i) y e) (ap₂ tritAt (d .y-ones) (d .y-twos))
-        (under-releases z i g w (d .call) e (d .under) (d .releases))
+        subst (λ (y : Vector). Releases (sized z gv gu w) (secretOf z (i .secret)) (orderExit z i) y e) (ap₂ tritAt (d .y-ones) (d .y-twos))
+        (under-releases z i gv gu w (d .call) e (d .under) (d .releases))
+
+-- at two gaps of V the terms are the same, and so are the words that some draw releases
+pub any-gap-of-v : (z : Sizes) (i : BuildCall) → Built z i → (gv other gu w : ℕ) → sizesFit (sized z gv gu w) ≡ true
+    → sizesFit (sized z other gu w) ≡ true → (yOnes yTwos : List ℕ) → LentSyndrome z yOnes yTwos → (e : Vector)
+    → SomeDraw z i gv gu w yOnes yTwos e ↔ SomeDraw z i other gu w yOnes yTwos e
+any-gap-of-v z i b gv other gu w fit fits yOnes yTwos ly e =
+    let here = reach-calls z i b gv gu w fit yOnes yTwos ly e in
+    let there = reach-calls z i b other gu w fits yOnes yTwos ly e in
+    ((λ d. there .1 (here .0 d)), λ d. here .1 (there .0 d))

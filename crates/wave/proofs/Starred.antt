@@ -21,27 +21,30 @@ use Rattle.verdict.specs.Verdict.{timesKey, fullWord, fullCounts, saysYes}
 use Rattle.held_key.specs.Held.{numbersFitUnder, soundUnder, heldRowUnder, heldKeyUnder}
 use Rattle.check_tests.specs.Check.{callRefusalUnder, packedLengths, packedContentsUnder, checkPackedRefusalUnder, heldCountsUnder, answered}
 use Rattle.check_tests.specs.Check.{checkPackedAnswerUnder}
-use Rattle.scheme.specs.Sizes.{sizesFit}
+use Rattle.scheme.specs.Sizes.{gapsFit, sizesFitUnder}
 use Rattle.scheme.specs.Secret.{secretMatrix, hasZero}
 use Rattle.scheme.specs.Build.{arrange, arranged, rowOfR, buildRefusal}
 use Rattle.scheme.specs.Draw.{placed, signature, pivotsV, suppliedV, drawV, pivotsU, suppliedU, drawU, drawn, drawRefusal}
 use Rattle.calls.specs.Lent.{secretDiffers, secretRefusalUnder}
-use Rattle.calls.specs.BuildCall.{keyDiffers, buildLengthsDiffer, buildAnswer, buildAnswerUnder, orderExit, keyOnesOf, keyTwosOf, keyExit, buildWorkExit}
-use Rattle.calls.specs.DrawCall.{choicesDiffer, drawLengthsDiffer, choicesRefusalUnder, drawAnswerUnder, wordOf, wordExit, sExit, drawWorkExit}
+use Rattle.calls.specs.BuildCall.{keyDiffers, buildLengthsDiffer, buildAnswer, buildAnswerUnder, orderExit, orderExitUnder, keyOnesOf, keyTwosOf}
+use Rattle.calls.specs.BuildCall.{keyExitUnder, buildWorkExitUnder}
+use Rattle.calls.specs.DrawCall.{choicesDiffer, drawLengthsDiffer, choicesRefusalUnder, drawAnswerUnder, wordOf, wordExitUnder, sExitUnder}
+use Rattle.calls.specs.DrawCall.{drawWorkExitUnder}
 use Rattle.wave.specs.Examples.{sizes4, start1, build4}
 use Rattle.wave.specs.Starred.{NoDrawMakes1200, gap4, Starred}
 use Rattle.wave.proofs.ReachCalls.{handed-signature, drawn-terms}
 
 -- ---- the first key as a call, by computation
 
-first-built : buildAnswer (sizes4 0 4) (build4 start1) ≡ 0
-unfolding dotV anyTo bit bitAt tritAt bothSet pastEnd rowPart matrixAt rowsPastEnd first planesRefusal agree find solve inSpan keep pivots rank range isOrder
-    sizesFit buildRefusal secretDiffers hasZero secretRefusalUnder keyDiffers buildLengthsDiffer buildAnswerUnder
+first-built : buildAnswer (sizes4 0 0 4) (build4 start1) ≡ 0
+unfolding dotV anyTo bit bitAt tritAt bothSet pastEnd rowPart matrixAt rowsPastEnd first planesRefusal agree find solve inSpan keep pivots rank range
+    isOrder gapsFit sizesFitUnder buildRefusal secretDiffers hasZero secretRefusalUnder keyDiffers buildLengthsDiffer buildAnswerUnder
 first-built = refl
 
-first-order : orderExit (sizes4 0 4) (build4 start1) ≡ start1
-unfolding dotV anyTo bit bitAt tritAt bothSet pastEnd rowPart matrixAt rowsPastEnd first planesRefusal agree find solve inSpan keep pivots rank range isOrder
-    sizesFit secretMatrix arrange arranged buildRefusal secretDiffers hasZero secretRefusalUnder keyDiffers buildLengthsDiffer buildAnswerUnder orderExit
+first-order : orderExit (sizes4 0 0 4) (build4 start1) ≡ start1
+unfolding dotV anyTo bit bitAt tritAt bothSet pastEnd rowPart matrixAt rowsPastEnd first planesRefusal agree find solve inSpan keep pivots rank range
+    isOrder gapsFit sizesFitUnder secretMatrix arrange arranged buildRefusal secretDiffers hasZero secretRefusalUnder keyDiffers buildLengthsDiffer
+    buildAnswerUnder orderExitUnder
 first-order = refl
 
 -- ---- the star over every call
@@ -52,21 +55,21 @@ zeros-at zero h = refl
 zeros-at (suc zero) h = refl
 zeros-at (suc (suc i)) h = absurd (omega arith)
 
--- where k_U - g is 1, the word of a draw has a pair with both trits not 0, and its right trit is one of s
-never : (g : ℕ) → 1 - g ≡ 1 → NoDrawMakes1200 g
+-- where k_U - g_U is 1, the word of a draw has a pair with both trits not 0, and its right trit is one of s
+never : (gu : ℕ) → 1 - gu ≡ 1 → NoDrawMakes1200 gu
 unfolding fill
-never g one l u d s1 s2 =
-    let t = drawn-terms (sizes4 0 4) (build4 start1) first-built g 2 l u d in
+never gu one gv l u d s1 s2 =
+    let t = drawn-terms (sizes4 0 0 4) (build4 start1) first-built gv gu 2 l u d in
     let q = getD (t .chosen .pairs) 0 0 in
     let m = elem-at (t .chosen .pairs) 0 (omega (arith, t .chosen .size, one)) in
     right q (t .chosen .below q m) (subst (λ (p : List ℕ). isSet (placed p e (2 + q)) ≡ true) first-order (t .both-nonzero q m .1))
   where
     e : Vector
-    e = wordOf (sizes4 g 2) l
+    e = wordOf (sizes4 gv gu 2) l
 
     none : (i : ℕ) → i < 2 → e (2 + i) ≡ t0
     none i h =
-        sym (upto-in (signature (sizes4 g 2) e) 2 i h) ∙ sym (ap (λ (v : Vector). v i) (handed-signature (sizes4 g 2) l d))
+        sym (upto-in (signature (sizes4 gv gu 2) e) 2 i h) ∙ sym (ap (λ (v : Vector). v i) (handed-signature (sizes4 gv gu 2) l d))
         ∙ ap₂ (λ (a b : List ℕ). tritAt a b i) s1 s2 ∙ zeros-at i h
 
     right : (q : ℕ) → q < 2 → isSet (placed start1 e (2 + q)) ≡ true → ⊥
@@ -81,9 +84,9 @@ unfolding dotV anyTo sumTo upTo bit fromBits bitAt tritAt tabulate onesOf twosOf
     planesRefusal byteOf digitOf packedRow packedBytes badByte packedPastEnd packedRefusal packRefusalUnder packExit unpackRefusal unpackOnes unpackTwos
     agree find solve inSpan keep pivots rank without fill range isOrder digitRows timesKey fullWord fullCounts saysYes numbersFitUnder soundUnder
     heldRowUnder heldKeyUnder callRefusalUnder packedLengths packedContentsUnder checkPackedRefusalUnder heldCountsUnder answered checkPackedAnswerUnder
-    sizesFit secretMatrix arrange arranged rowOfR buildRefusal pivotsV suppliedV drawV pivotsU suppliedU drawU drawn drawRefusal secretDiffers hasZero
-    secretRefusalUnder spaceExit keyDiffers buildLengthsDiffer buildAnswerUnder orderExit keyOnesOf keyTwosOf keyExit buildWorkExit choicesDiffer
-    drawLengthsDiffer choicesRefusalUnder drawAnswerUnder wordOf wordExit sExit drawWorkExit
+    gapsFit sizesFitUnder secretMatrix arrange arranged rowOfR buildRefusal pivotsV suppliedV drawV pivotsU suppliedU drawU drawn drawRefusal secretDiffers
+    hasZero secretRefusalUnder spaceExit keyDiffers buildLengthsDiffer buildAnswerUnder orderExitUnder keyOnesOf keyTwosOf keyExitUnder buildWorkExitUnder
+    choicesDiffer drawLengthsDiffer choicesRefusalUnder drawAnswerUnder wordOf wordExitUnder sExitUnder drawWorkExitUnder
 starred = record {
   packs-88 = refl;
   packed-88 = refl;

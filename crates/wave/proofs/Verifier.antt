@@ -24,10 +24,10 @@ use Rattle.wave.proofs.Reach.{reach}
 
 module _ (z : Sizes) (s : Secret) (start p : List ℕ) (R : Key) (re : Released z s start p R) where
   -- the signature of a word that a draw releases is accepted, with the ones and twos of that word
-  pub released-accepted : (g w : ℕ) → sizesFit (sized z g w) ≡ true → (y e : Vector) → Releases (sized z g w) s p y e
+  pub released-accepted : (gv gu w : ℕ) → sizesFit (sized z gv gu w) ≡ true → (y e : Vector) → Releases (sized z gv gu w) s p y e
       → (fullCounts (codim z) (dim z) R y (signature z e) ≡ countsV e (places z)) × (saysYes (codim z) (dim z) w R y (signature z e) ≡ true)
-  released-accepted g w h y e r =
-      let t = reach z s start p R re g w h y e .0 r in
+  released-accepted gv gu w h y e r =
+      let t = reach z s start p R re gv gu w h y e .0 r in
       let c : fullCounts (codim z) (dim z) R y (signature z e) ≡ countsV e (places z) =
       counts-of (codim z) (dim z) R y (signature z e) e (t .has-syndrome) (λ i l. refl)
       ∙ ap (countsV e) (codim-dim z (build-passed z s start (re .given) (re .passed) .ranges)) in

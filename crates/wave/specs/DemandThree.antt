@@ -19,10 +19,15 @@ use Rattle.wave.specs.Verifier.{HeldExtending, HeldFound, Host, carriedC
 pub record DemandThree : Type 0 where
   -- every syndrome: each y of n-k trits can be lent
   pub every-syndrome : (z : Sizes) (y : Vector) → LentAs z y
-  -- reach: under any key that our builder released, at any g and w allowed, for any y, some draw releases a word exactly when the word meets the terms
-  pub reach : (z : Sizes) (i : BuildCall) → Built z i → (g w : ℕ) → sizesFit (sized z g w) ≡ true → (yOnes yTwos : List ℕ)
+  -- reach: under any key that our builder released, at any g_V, g_U and w allowed, for any y, some draw releases a word exactly when the word meets the
+  -- terms of that g_U and w
+  pub reach : (z : Sizes) (i : BuildCall) → Built z i → (gv gu w : ℕ) → sizesFit (sized z gv gu w) ≡ true → (yOnes yTwos : List ℕ)
       → LentSyndrome z yOnes yTwos → (e : Vector)
-      → SomeDraw z i g w yOnes yTwos e ↔ KeyTerms z i g w yOnes yTwos e
+      → SomeDraw z i gv gu w yOnes yTwos e ↔ KeyTerms z i gu w yOnes yTwos e
+  -- so the gap of V decides nothing here: draws at another one release the same words
+  pub any-gap-of-v : (z : Sizes) (i : BuildCall) → Built z i → (gv other gu w : ℕ) → sizesFit (sized z gv gu w) ≡ true
+      → sizesFit (sized z other gu w) ≡ true → (yOnes yTwos : List ℕ) → LentSyndrome z yOnes yTwos → (e : Vector)
+      → SomeDraw z i gv gu w yOnes yTwos e ↔ SomeDraw z i other gu w yOnes yTwos e
   -- the verifier: a check that is not refused says yes exactly when some word of weight w that has the syndrome y under the held key extends s
   pub verifier : (c : Check) → checkAnswer c .refusal ≡ 0
       → (checkAnswer c .yes ≡ 1) ↔ HeldFound (c .held) (c .ones) (c .twos) (tritAt (c .yOnes) (c .yTwos)) (tritAt (c .sOnes) (c .sTwos))
@@ -38,10 +43,10 @@ pub record DemandThree : Type 0 where
       → (q : ℕ) → q < c .held .n → e q ≡ f q
   -- end to end: pack the rows of a built key, begin, store them, pack y and the s of a release, check: yes, with the ones and
   -- twos of the released word e, which add up to w
-  pub end-to-end : (z : Sizes) (i : BuildCall) → Built z i → (g w : ℕ) (l : DrawCall) (e : Vector) → Under z i l → HandsOut (sized z g w) l e
-      → (m : Host z)
-      → Accepts z w e (checkPackedAnswer (carriedCheck z i g w l m))
+  pub end-to-end : (z : Sizes) (i : BuildCall) → Built z i → (gv gu w : ℕ) (l : DrawCall) (e : Vector) → Under z i l
+      → HandsOut (sized z gv gu w) l e → (m : Host z)
+      → Accepts z w e (checkPackedAnswer (carriedCheck z i gv gu w l m))
   -- and with y and s in planes
-  pub end-to-end-planes : (z : Sizes) (i : BuildCall) → Built z i → (g w : ℕ) (l : DrawCall) (e : Vector) → Under z i l → HandsOut (sized z g w) l e
-      → (m : Host z)
-      → Accepts z w e (checkAnswer (carriedPlanes z i g w l m))
+  pub end-to-end-planes : (z : Sizes) (i : BuildCall) → Built z i → (gv gu w : ℕ) (l : DrawCall) (e : Vector) → Under z i l
+      → HandsOut (sized z gv gu w) l e → (m : Host z)
+      → Accepts z w e (checkAnswer (carriedPlanes z i gv gu w l m))

@@ -18,9 +18,9 @@ use Rattle.wave.specs.Verifier.{Host}
 
 -- ---- over vectors
 
--- n = 4 and k_U = k_V = 1, at a gap and a weight
-abbrev pub sizes4 : ℕ → ℕ → Sizes
-sizes4 g w = record { n = 4; ku = 1; kv = 1; g = g; w = w }
+-- n = 4 and k_U = k_V = 1, at gaps g_V and g_U and a weight
+abbrev pub sizes4 : ℕ → ℕ → ℕ → Sizes
+sizes4 gv gu w = record { n = 4; ku = 1; kv = 1; gv = gv; gu = gu; w = w }
 
 -- H_U = (1 1), H_V = (1 2), b = (0,1), c = (1,2)
 abbrev pub secret4 : Secret
@@ -51,12 +51,12 @@ y4 = vector (1 ∷ 2 ∷ [])
 abbrev pub choose : ℕ → ℕ → Choices
 choose v u = record { orderV = 0 ∷ 1 ∷ []; tritsV = vector (v ∷ []); orderU = 0 ∷ 1 ∷ []; valuesU = vector (u ∷ []) }
 
--- its word and its refusal under the first key, at a gap and a weight
-abbrev pub word4 : ℕ → ℕ → ℕ → ℕ → List ℕ
-word4 g w v u = digits 4 (drawn (sizes4 g w) secret4 start1 y4 (choose v u))
+-- its word and its refusal under the first key, at gaps g_V and g_U and a weight
+abbrev pub word4 : ℕ → ℕ → ℕ → ℕ → ℕ → List ℕ
+word4 gv gu w v u = digits 4 (drawn (sizes4 gv gu w) secret4 start1 y4 (choose v u))
 
-abbrev pub refusal4 : ℕ → ℕ → ℕ → ℕ → ℕ
-refusal4 g w v u = drawRefusal (sizes4 g w) secret4 start1 y4 (choose v u)
+abbrev pub refusal4 : ℕ → ℕ → ℕ → ℕ → ℕ → ℕ
+refusal4 gv gu w v u = drawRefusal (sizes4 gv gu w) secret4 start1 y4 (choose v u)
 
 -- ---- as calls
 
@@ -90,7 +90,7 @@ draw4 p v1 v2 u1 u2 = record {
 }
 
 -- a module's host with key number 7, which never held a key
-abbrev pub host4 : Host (sizes4 0 4)
+abbrev pub host4 : Host (sizes4 0 0 4)
 host4 = record {
   number = 7;
   before = record { begun = 0; number = 0; n = 0; k = 0; w = 0; rows = 0 };

@@ -13,7 +13,7 @@ use Rattle.matrix.specs.Linear.{Vector, elem, without, range, rank}
 use Rattle.matrix.specs.Orders.{Distinct}
 use Rattle.verdict.specs.Verdict.{Key, HasSyndrome}
 use Rattle.scheme.specs.declared.sizes.Sizes.{Sizes}
-use Rattle.scheme.specs.Sizes.{half, places, dim, ru, codim, gapU}
+use Rattle.scheme.specs.Sizes.{half, places, dim, ru, codim}
 use Rattle.scheme.specs.Secret.{Secret}
 use Rattle.scheme.specs.Draw.{placed}
 use Rattle.calls.specs.Lent.{secretOf}
@@ -29,13 +29,14 @@ pub record PairSet (N count : ℕ) : Type 0 where
   pub size : length pairs ≡ count
   pub below : (q : ℕ) → elem q pairs ≡ true → q < N
 
--- the five terms: weight w; the syndrome y; k_U - g distinct secret pairs; both trits of each not 0; H_U keeps rank r_U on the other pairs
+-- the five terms, at a gap g_U and a weight w: weight w; the syndrome y; k_U - g_U distinct secret pairs; both trits of each not 0; H_U keeps rank
+-- r_U on the other pairs. The gap of V is none of them
 -- (the word e is in public places, and `placed p e` is the same word in secret places: public
 -- trit i stands at secret place p(i), pair j is secret places j and N + j)
-pub record Terms (z : Sizes) (s : Secret) (p : List ℕ) (R : Key) (y e : Vector) : Type 0 where
-  pub weighs : weightV e (places z) ≡ z .w
+pub record Terms (z : Sizes) (gu w : ℕ) (s : Secret) (p : List ℕ) (R : Key) (y e : Vector) : Type 0 where
+  pub weighs : weightV e (places z) ≡ w
   pub has-syndrome : HasSyndrome (codim z) (dim z) R e y
-  pub chosen : PairSet (half z) (z .ku - gapU z)
+  pub chosen : PairSet (half z) (z .ku - gu)
   pub both-nonzero : (q : ℕ) → elem q (chosen .pairs) ≡ true → (isSet (placed p e q) ≡ true) × (isSet (placed p e (half z + q)) ≡ true)
   pub keeps-rank : rank (ru z) (half z) (s .hu) (without (chosen .pairs) (range (half z))) ≡ ru z
 
@@ -51,9 +52,9 @@ builtKey z i j = tritAt (rowPart (keyExit z i .ones) (dim z) (keyRowWords z) j) 
 
 -- ---- a draw under it
 
--- the same sizes, but g and w may be others
-abbrev pub sized : Sizes → ℕ → ℕ → Sizes
-sized z g w = record { n = z .n; ku = z .ku; kv = z .kv; g = g; w = w }
+-- the same sizes, but g_V, g_U and w may be others
+abbrev pub sized : Sizes → ℕ → ℕ → ℕ → Sizes
+sized z gv gu w = record { n = z .n; ku = z .ku; kv = z .kv; gv = gv; gu = gu; w = w }
 
 -- y as it is lent: n-k trits in two planes
 pub record LentSyndrome (z : Sizes) (ones twos : List ℕ) : Type 0 where
@@ -100,14 +101,14 @@ pub record Lendable (l : DrawCall) : Type 0 where
   pub work-twos : Bits 64 (l .work .twos)
 
 -- some draw under the key releases e for y, with any V order, V trits, U order and U values
-pub record SomeDraw (z : Sizes) (i : BuildCall) (g w : ℕ) (yOnes yTwos : List ℕ) (e : Vector) : Type 0 where
+pub record SomeDraw (z : Sizes) (i : BuildCall) (gv gu w : ℕ) (yOnes yTwos : List ℕ) (e : Vector) : Type 0 where
   pub call : DrawCall
   pub lendable : Lendable call
   pub under : Under z i call
   pub y-ones : call .y .ones ≡ yOnes
   pub y-twos : call .y .twos ≡ yTwos
-  pub releases : HandsOut (sized z g w) call e
+  pub releases : HandsOut (sized z gv gu w) call e
 
--- the terms of the word e for y under that key, at that g and w
+-- the terms of the word e for y under that key, at that g_U and w
 abbrev pub KeyTerms : Sizes → BuildCall → ℕ → ℕ → List ℕ → List ℕ → Vector → Type 0
-KeyTerms z i g w yOnes yTwos e = Terms (sized z g w) (secretOf z (i .secret)) (orderExit z i) (builtKey z i) (tritAt yOnes yTwos) e
+KeyTerms z i gu w yOnes yTwos e = Terms z gu w (secretOf z (i .secret)) (orderExit z i) (builtKey z i) (tritAt yOnes yTwos) e

@@ -67,29 +67,29 @@ abbrev pub carried : (z : Sizes) → BuildCall → ℕ → Host z → Holding
 carried z i w m = offerAll (packedKeyRow z i m) (dim z) (record { held = beginHeld (m .before) (m .number) (z .n) (dim z) w; ones = m .ones; twos = m .twos })
 
 -- then it checks y and the s that the draw handed out, each packed by a call of `pack`
-abbrev pub carriedCheck : (z : Sizes) → BuildCall → ℕ → ℕ → DrawCall → Host z → PackedCheck
-carriedCheck z i g w l m = record {
+abbrev pub carriedCheck : (z : Sizes) → BuildCall → ℕ → ℕ → ℕ → DrawCall → Host z → PackedCheck
+carriedCheck z i gv gu w l m = record {
   held = carried z i w m .held;
   number = m .number;
   ones = carried z i w m .ones;
   twos = carried z i w m .twos;
   y = packExit (packOf (codim z) (l .y .ones) (l .y .twos) (m .yBytes));
-  s = packExit (packOf (dim z) (sExit (sized z g w) l .ones) (sExit (sized z g w) l .twos) (m .sBytes));
+  s = packExit (packOf (dim z) (sExit (sized z gv gu w) l .ones) (sExit (sized z gv gu w) l .twos) (m .sBytes));
   workOnes = m .workOnes;
   workTwos = m .workTwos;
 }
 
 -- or y and that s in planes, as they are lent
-abbrev pub carriedPlanes : (z : Sizes) → BuildCall → ℕ → ℕ → DrawCall → Host z → Check
-carriedPlanes z i g w l m = record {
+abbrev pub carriedPlanes : (z : Sizes) → BuildCall → ℕ → ℕ → ℕ → DrawCall → Host z → Check
+carriedPlanes z i gv gu w l m = record {
   held = carried z i w m .held;
   number = m .number;
   ones = carried z i w m .ones;
   twos = carried z i w m .twos;
   yOnes = l .y .ones;
   yTwos = l .y .twos;
-  sOnes = sExit (sized z g w) l .ones;
-  sTwos = sExit (sized z g w) l .twos;
+  sOnes = sExit (sized z gv gu w) l .ones;
+  sTwos = sExit (sized z gv gu w) l .twos;
   workOnes = m .workOnes;
   workTwos = m .workTwos;
 }

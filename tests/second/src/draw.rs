@@ -26,13 +26,13 @@ pub fn split(secret: &Secret, p: &[usize], y: &[u8]) -> (Vec<u8>, Vec<u8>) {
     (x_u, x_v)
 }
 
-/// The word that a draw makes, in public places, whatever its weight; or 12 or 13.
-pub fn drawn_word(g: usize, secret: &Secret, p: &[usize], y: &[u8], choices: &Choices) -> Result<Vec<u8>, u64> {
+/// The word that a draw at gaps g_V and g_U makes, in public places, whatever its weight; or 12 or 13.
+pub fn drawn_word(gv: usize, gu: usize, secret: &Secret, p: &[usize], y: &[u8], choices: &Choices) -> Result<Vec<u8>, u64> {
     let half = p.len() / 2;
     let (x_u, x_v) = split(secret, p, y);
 
     let rv = secret.hv.len();
-    let pivots = first_independent(&secret.hv, &choices.v_order[..rv + g]);
+    let pivots = first_independent(&secret.hv, &choices.v_order[..rv + gv]);
     if pivots.len() != rv {
         return Err(12);
     }
@@ -44,12 +44,12 @@ pub fn drawn_word(g: usize, secret: &Secret, p: &[usize], y: &[u8], choices: &Ch
     let e_v = solve(&secret.hv, &pivots, &known, &apply(&secret.hv, &x_v));
 
     let ru = secret.hu.len();
-    let (first, last) = choices.u_order.split_at(ru + g);
+    let (first, last) = choices.u_order.split_at(ru + gu);
     let pivots = first_independent(&secret.hu, first);
     if pivots.len() != ru {
         return Err(13);
     }
-    let (free, others) = choices.u_values.split_at(g);
+    let (free, others) = choices.u_values.split_at(gu);
     let mut known = vec![0; half];
     for (q, t) in first.iter().filter(|q| !pivots.contains(q)).zip(free) {
         known[*q] = *t;
@@ -67,8 +67,8 @@ pub fn drawn_word(g: usize, secret: &Secret, p: &[usize], y: &[u8], choices: &Ch
 }
 
 /// The word released, or 12, 13 or 14.
-pub fn draw_word(g: usize, w: usize, secret: &Secret, p: &[usize], y: &[u8], choices: &Choices) -> Result<Vec<u8>, u64> {
-    let word = drawn_word(g, secret, p, y, choices)?;
+pub fn draw_word(gv: usize, gu: usize, w: usize, secret: &Secret, p: &[usize], y: &[u8], choices: &Choices) -> Result<Vec<u8>, u64> {
+    let word = drawn_word(gv, gu, secret, p, y, choices)?;
     if weight(&word) == w {
         Ok(word)
     } else {
@@ -135,14 +135,14 @@ pub fn draw(z: Sizes, secret: SecretWords, given: DrawWords, word: [&mut [u64]; 
         u_order: places(given.u_order),
         u_values: read_row(given.u_values[0], given.u_values[1], z.ku()),
     };
-    if choices.u_values[z.g()..].contains(&0) {
+    if choices.u_values[z.gu()..].contains(&0) {
         return 8;
     }
     for plane in work {
         plane.fill(0);
     }
     let y = read_row(given.y[0], given.y[1], m);
-    match draw_word(z.g(), z.w as usize, &secret, &places(given.p), &y, &choices) {
+    match draw_word(z.gv(), z.gu(), z.w as usize, &secret, &places(given.p), &y, &choices) {
         Err(found) => found,
         Ok(drawn) => {
             let [ones, twos] = word;

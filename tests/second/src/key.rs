@@ -10,7 +10,8 @@ pub struct Sizes {
     pub n: u64,
     pub ku: u64,
     pub kv: u64,
-    pub g: u64,
+    pub gv: u64,
+    pub gu: u64,
     pub w: u64,
 }
 
@@ -20,7 +21,8 @@ impl Sizes {
             return false;
         }
         let most = self.n / 2 - 1;
-        (1..=most).contains(&self.ku) && (1..=most).contains(&self.kv) && self.g <= self.ku.min(self.kv) && (1..=self.n).contains(&self.w)
+        let dimensions = (1..=most).contains(&self.ku) && (1..=most).contains(&self.kv);
+        dimensions && self.gv <= self.kv && self.gu <= self.ku && (1..=self.n).contains(&self.w)
     }
 
     pub fn n(&self) -> usize {
@@ -52,8 +54,12 @@ impl Sizes {
         self.half() - self.kv()
     }
 
-    pub fn g(&self) -> usize {
-        self.g as usize
+    pub fn gv(&self) -> usize {
+        self.gv as usize
+    }
+
+    pub fn gu(&self) -> usize {
+        self.gu as usize
     }
 
     /// Words of one working plane of a build, by the header.

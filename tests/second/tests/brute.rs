@@ -192,13 +192,13 @@ fn build_is_right(s: &Secret, start: &[usize]) -> Option<Key> {
 }
 
 /// One draw by the paper's words, trying every e_V and every e_U: the public word, or 12 or 13.
-fn draw_by_definition(g: usize, s: &Secret, key: &Key, y: &[u8], c: &Choices) -> Result<Vec<u8>, u64> {
+fn draw_by_definition(gv: usize, gu: usize, s: &Secret, key: &Key, y: &[u8], c: &Choices) -> Result<Vec<u8>, u64> {
     let half = s.b.len();
     let mut public = y.to_vec();
     public.resize(2 * half, 0);
     let (x_u, x_v) = parts(s, &in_secret_places(&key.p, &public));
 
-    let first = &c.v_order[..s.hv.len() + g];
+    let first = &c.v_order[..s.hv.len() + gv];
     if rank_on(&s.hv, first) != s.hv.len() {
         return Err(12);
     }
@@ -209,19 +209,19 @@ fn draw_by_definition(g: usize, s: &Secret, key: &Key, y: &[u8], c: &Choices) ->
     assert_eq!((found.len(), others.len()), (1, c.v_trits.len()));
     let e_v = &found[0];
 
-    let (first, last) = c.u_order.split_at(s.hu.len() + g);
+    let (first, last) = c.u_order.split_at(s.hu.len() + gu);
     if rank_on(&s.hu, first) != s.hu.len() {
         return Err(13);
     }
     let pivots = first_ones(&s.hu, first);
     let free: Vec<usize> = first.iter().copied().filter(|q| !pivots.contains(q)).collect();
-    assert_eq!((free.len(), last.len()), (g, c.u_values.len() - g));
+    assert_eq!((free.len(), last.len()), (gu, c.u_values.len() - gu));
     let value = |i: usize| {
         let q = last[i];
         if e_v[q] != 0 {
             m3((s.c[q] as i32 - s.b[q] as i32) * e_v[q] as i32)
         } else {
-            c.u_values[g + i]
+            c.u_values[gu + i]
         }
     };
     let found: Vec<Vec<u8>> = all(half)
@@ -240,11 +240,11 @@ fn draw_by_definition(g: usize, s: &Secret, key: &Key, y: &[u8], c: &Choices) ->
     Ok(key.p.iter().map(|q| words[0][*q]).collect())
 }
 
-/// Whether some k_U - g distinct pairs have both trits nonzero, and the columns of H_U off them have rank r_U.
-fn pairs_stand(g: usize, s: &Secret, key: &Key, word: &[u8]) -> bool {
+/// Whether some k_U - g_U distinct pairs have both trits nonzero, and the columns of H_U off them have rank r_U.
+fn pairs_stand(gu: usize, s: &Secret, key: &Key, word: &[u8]) -> bool {
     let half = s.b.len();
     let secret = in_secret_places(&key.p, word);
-    let wanted = half - s.hu.len() - g;
+    let wanted = half - s.hu.len() - gu;
     (0..1usize << half).any(|set| {
         let chosen = |q: usize| set >> q & 1 == 1;
         let off: Vec<usize> = (0..half).filter(|q| !chosen(*q)).collect();
@@ -252,13 +252,13 @@ fn pairs_stand(g: usize, s: &Secret, key: &Key, word: &[u8]) -> bool {
     })
 }
 
-/// All choices at this gap.
-fn all_choices(half: usize, ku: usize, kv: usize, g: usize) -> Vec<Choices> {
+/// All choices at this gap of U.
+fn all_choices(half: usize, ku: usize, kv: usize, gu: usize) -> Vec<Choices> {
     let mut out = vec![];
     for v_order in orders(half) {
         for u_order in orders(half) {
             for v_trits in all(kv) {
-                for u_values in all(ku).into_iter().filter(|v| v[g..].iter().all(|t| *t != 0)) {
+                for u_values in all(ku).into_iter().filter(|v| v[gu..].iter().all(|t| *t != 0)) {
                     out.push(Choices { v_order: v_order.clone(), v_trits: v_trits.clone(), u_order: u_order.clone(), u_values });
                 }
             }
@@ -267,24 +267,25 @@ fn all_choices(half: usize, ku: usize, kv: usize, g: usize) -> Vec<Choices> {
     out
 }
 
-/// For this key and every g, w and y: the words released by any draw are those that meet the terms. `sampled`: of how many draws one is held to the definition.
+/// For this key and every g_U, w and y: the words that meet the terms are those released by any draw, whatever g_V is. `sampled`: of how many draws one is held
+/// to the definition.
 fn releases_are_right(s: &Secret, key: &Key, sampled: usize, rng: &mut Rng) -> usize {
     let half = s.b.len();
     let (ku, kv) = (half - s.hu.len(), half - s.hv.len());
     let mut draws = 0;
-    for g in 0..=ku.min(kv) {
-        let choices = all_choices(half, ku, kv, g);
+    for gu in 0..=ku {
+        let choices = all_choices(half, ku, kv, gu);
         for y in all(2 * half - ku - kv) {
             let with_syndrome: Vec<Vec<u8>> = all(2 * half).into_iter().filter(|e| public_syndrome(key, e) == y).collect();
             assert_eq!(with_syndrome.len(), 3usize.pow((ku + kv) as u32));
-            let meets: Vec<Vec<u8>> = with_syndrome.into_iter().filter(|e| pairs_stand(g, s, key, e)).collect();
-            for w in 1..=2 * half {
+            let meets: Vec<Vec<u8>> = with_syndrome.into_iter().filter(|e| pairs_stand(gu, s, key, e)).collect();
+            for (gv, w) in (0..=kv).flat_map(|gv| (1..=2 * half).map(move |w| (gv, w))) {
                 let mut released = HashSet::new();
                 for c in &choices {
-                    let made = draw_word(g, w, s, &key.p, &y, c);
+                    let made = draw_word(gv, gu, w, s, &key.p, &y, c);
                     draws += 1;
                     if rng.below(sampled) == 0 {
-                        let defined = draw_by_definition(g, s, key, &y, c).and_then(|e| if nonzero(&e) == w { Ok(e) } else { Err(14) });
+                        let defined = draw_by_definition(gv, gu, s, key, &y, c).and_then(|e| if nonzero(&e) == w { Ok(e) } else { Err(14) });
                         assert_eq!(made, defined);
                     }
                     if let Ok(word) = made {
@@ -292,7 +293,7 @@ fn releases_are_right(s: &Secret, key: &Key, sampled: usize, rng: &mut Rng) -> u
                     }
                 }
                 let wanted: HashSet<Vec<u8>> = meets.iter().filter(|e| nonzero(e) == w).cloned().collect();
-                assert_eq!(released, wanted, "g = {g}, w = {w}, y = {y:?}, {s:?}, {key:?}");
+                assert_eq!(released, wanted, "g_V = {gv}, g_U = {gu}, w = {w}, y = {y:?}, {s:?}, {key:?}");
             }
         }
     }

@@ -127,45 +127,49 @@ fn worked_draws() {
     let (s, p, y) = (secret(), [0, 1, 2, 3], row("12"));
     // the U value is unused where the V trit is not 0
     for value in [1, 2] {
-        assert_eq!(draw_word(0, 4, &s, &p, &y, &choices(2, value)), Ok(row("2111")));
-        assert_eq!(drawn_word(0, &s, &p, &y, &choices(1, value)), Ok(row("0212")));
-        assert_eq!(draw_word(0, 4, &s, &p, &y, &choices(1, value)), Err(14));
+        assert_eq!(draw_word(0, 0, 4, &s, &p, &y, &choices(2, value)), Ok(row("2111")));
+        assert_eq!(drawn_word(0, 0, &s, &p, &y, &choices(1, value)), Ok(row("0212")));
+        assert_eq!(draw_word(0, 0, 4, &s, &p, &y, &choices(1, value)), Err(14));
     }
-    assert_eq!(draw_word(0, 4, &s, &p, &y, &choices(0, 2)), Ok(row("2221")));
-    assert_eq!(draw_word(0, 2, &s, &p, &y, &choices(0, 1)), Ok(row("0102")));
+    assert_eq!(draw_word(0, 0, 4, &s, &p, &y, &choices(0, 2)), Ok(row("2221")));
+    assert_eq!(draw_word(0, 0, 2, &s, &p, &y, &choices(0, 1)), Ok(row("0102")));
 }
 
 #[test]
 fn accepted_yet_never_drawn() {
     let key = rows(&["02", "22"]);
     assert_eq!(full_word(&key, &row("12"), &row("00")), row("1200"));
-    let mut made_with_a_gap = false;
+    let mut made_with_a_gap = [false; 2];
     for orders in 0..4 {
         for v_trit in 0..3 {
             for u_value in 0..3 {
                 let order = |flip: bool| if flip { vec![1, 0] } else { vec![0, 1] };
                 let c = Choices { v_order: order(orders % 2 == 1), v_trits: vec![v_trit], u_order: order(orders > 1), u_values: vec![u_value] };
-                if u_value != 0 {
-                    assert_ne!(draw_word(0, 2, &secret(), &[0, 1, 2, 3], &row("12"), &c), Ok(row("1200")));
+                for gv in [0, 1] {
+                    if u_value != 0 {
+                        assert_ne!(draw_word(gv, 0, 2, &secret(), &[0, 1, 2, 3], &row("12"), &c), Ok(row("1200")));
+                    }
+                    made_with_a_gap[gv] |= draw_word(gv, 1, 2, &secret(), &[0, 1, 2, 3], &row("12"), &c) == Ok(row("1200"));
                 }
-                made_with_a_gap |= draw_word(1, 2, &secret(), &[0, 1, 2, 3], &row("12"), &c) == Ok(row("1200"));
             }
         }
     }
-    assert!(made_with_a_gap, "at g = 1 a draw does make it");
+    assert_eq!(made_with_a_gap, [true; 2], "at g_U = 1 a draw does make it, whatever g_V is");
 }
 
 /// The worked key through the lent words: build, rows stored packed, checks.
 #[test]
 fn through_the_border() {
-    let z = Sizes { n: 4, ku: 1, kv: 1, g: 0, w: 4 };
+    let z = Sizes { n: 4, ku: 1, kv: 1, gv: 0, gu: 0, w: 4 };
     let s = secret();
     let (hu, hv, b, c) = (planes(&s.hu), planes(&s.hv), planes(std::slice::from_ref(&s.b)), planes(std::slice::from_ref(&s.c)));
     let lent = SecretWords { hu: [&hu.0, &hu.1], hv: [&hv.0, &hv.1], b: [&b.0, &b.1], c: [&c.0, &c.1] };
     let (mut p, mut ones, mut twos, mut w1, mut w2) = ([9; 4], [7; 2], [8; 2], [5; 4], [6; 4]);
     assert_eq!(build(z, lent, &[0, 1, 2, 3], &mut p, [&mut ones, &mut twos], [&mut w1, &mut w2]), 0);
     assert_eq!((p, ones, twos, w1, w2), ([0, 1, 2, 3], [0, 0], [2, 3], [0; 4], [0; 4]));
-    assert_eq!(build(Sizes { g: 2, ..z }, lent, &[0, 1, 2, 3], &mut p, [&mut ones, &mut twos], [&mut w1, &mut w2]), 1);
+    for z in [Sizes { gv: 2, ..z }, Sizes { gu: 2, ..z }] {
+        assert_eq!(build(z, lent, &[0, 1, 2, 3], &mut p, [&mut ones, &mut twos], [&mut w1, &mut w2]), 1);
+    }
     assert_eq!(build(z, lent, &[0, 1, 2, 2], &mut p, [&mut ones, &mut twos], [&mut w1, &mut w2]), 7);
 
     let (y, vt, uv) = (planes(&rows(&["12"])), planes(&rows(&["2"])), planes(&rows(&["1"])));
@@ -200,7 +204,7 @@ fn sizes_at_the_edges() {
         assert_eq!(begin(Held::default(), 0, n, 2, 1).refusal, refusal, "n = {n}");
     }
     for (n, good) in [(4, true), (16384, true), (2, false), (16386, false)] {
-        assert_eq!(Sizes { n, ku: 1, kv: 1, g: 0, w: 1 }.in_range(), good, "n = {n}");
+        assert_eq!(Sizes { n, ku: 1, kv: 1, gv: 0, gu: 0, w: 1 }.in_range(), good, "n = {n}");
     }
     for (number, refusal) in [(0, 0), (255, 0), (256, 0), (65535, 0), (65536, 0), (4294967295, 0), (4294967296, 1), (u64::MAX, 1)] {
         assert_eq!(begin(Held::default(), number, 4, 2, 4).refusal, refusal, "key number {number}");
@@ -209,11 +213,45 @@ fn sizes_at_the_edges() {
     assert_eq!(words(65), 2);
 }
 
-/// g = k_U leaves the last part empty: no value need be other than 0.
+/// g_U = k_U leaves the last part empty: no value need be other than 0.
 #[test]
 fn gap_of_all() {
-    let made = drawn_word(1, &secret(), &[0, 1, 2, 3], &row("12"), &choices(0, 0));
-    assert!(made.is_ok());
+    for gv in [0, 1] {
+        assert!(drawn_word(gv, 1, &secret(), &[0, 1, 2, 3], &row("12"), &choices(0, 0)).is_ok());
+    }
+}
+
+/// Each gap is bounded by the k of its own half alone.
+#[test]
+fn gaps_at_the_edges() {
+    let z = Sizes { n: 16, ku: 2, kv: 5, gv: 0, gu: 0, w: 1 };
+    for (gv, gu, good) in
+        [(0, 0, true), (5, 0, true), (6, 0, false), (0, 2, true), (0, 3, false), (5, 2, true), (3, 3, false), (u64::MAX, 0, false), (0, u64::MAX, false)]
+    {
+        assert_eq!(Sizes { gv, gu, ..z }.in_range(), good, "g_V = {gv}, g_U = {gu}");
+        assert_eq!(Sizes { gv: gu, gu: gv, ku: 5, kv: 2, ..z }.in_range(), good, "g_V = {gu}, g_U = {gv}");
+    }
+}
+
+/// A draw at n = 8 (k_U = 2, k_V = 1) whose V order lacks rank without a gap of V, and whose U order lacks it without a gap of U.
+#[test]
+fn each_gap_widens_its_own_part() {
+    let s = Secret { hu: rows(&["1122", "1010"]), hv: rows(&["1220", "1122", "1101"]), b: row("0002"), c: row("2111") };
+    let p = [6, 3, 7, 0, 2, 4, 1, 5];
+    let drawn = |gv, gu, v_order: &[usize], u_order: &[usize]| {
+        let c = Choices { v_order: v_order.to_vec(), v_trits: vec![2], u_order: u_order.to_vec(), u_values: vec![1, 2] };
+        drawn_word(gv, gu, &s, &p, &row("10221"), &c)
+    };
+    let (narrow_v, narrow_u) = ([1, 2, 3, 0], [1, 3, 0, 2]);
+    for other in [0, 1, 2] {
+        assert_eq!(drawn(0, other, &narrow_v, &[2, 0, 3, 1]), Err(12));
+        assert_eq!(drawn(1, other, &narrow_v, &[2, 0, 3, 1]), Ok(row("12121022")));
+    }
+    for other in [0, 1] {
+        assert_eq!(drawn(other, 0, &[3, 1, 0, 2], &narrow_u), Err(13));
+        assert_eq!(drawn(other, 1, &[3, 1, 0, 2], &narrow_u), Ok(row("10112112")));
+        assert_eq!(drawn(other, 2, &[3, 1, 0, 2], &[2, 0, 3, 1]), Ok(row("00121020")));
+    }
 }
 
 #[test]

@@ -14,7 +14,8 @@ use Rattle.scheme.specs.Sizes.{sizesFit}
 use Rattle.scheme.specs.Build.{buildRefusal, keyOrder}
 use Rattle.calls.specs.Lent.{planes, secretOf}
 use Rattle.calls.specs.Steps.{Readable}
-use Rattle.calls.specs.BuildCall.{BuildCall, buildCall, buildLengthsDiffer, buildAnswer, orderExit, keyOnesOf, keyTwosOf, keyExit, buildWorkExit}
+use Rattle.calls.specs.BuildCall.{BuildCall, buildCall, buildLengthsDiffer, buildAnswer, orderExit, orderExitUnder, keyOnesOf, keyTwosOf, keyExit}
+use Rattle.calls.specs.BuildCall.{keyExitUnder, buildWorkExit, buildWorkExitUnder}
 use Rattle.calls.proofs.Secrets.{readable}
 use Rattle.build.proofs.Answers.{contents, contents-leaves, contents-passed, answer-size, answer-length, answer-contents, answer-ranks}
 use Rattle.build.proofs.Answers.{same-lengths, lengths-secret, lengths-key, work-ended}
@@ -29,7 +30,7 @@ start-from-shared-slice-known8 c = c .before .before .before .before .before .be
 -- a refusal that leaves the working space is the whole answer: every buffer stays
 refused : (z : Sizes) (i : BuildCall) {r : ℕ} → r ≡ buildAnswer z i → 0 < r → spaceStays r ≡ true
     → (r ≡ buildAnswer z i) × (i .p ≡ orderExit z i) × (i .key ≡ keyExit z i) × (i .work ≡ buildWorkExit z i)
-unfolding orderExit keyExit buildWorkExit
+unfolding orderExitUnder keyExitUnder buildWorkExitUnder
 refused z i e h g = (
   e,
   exit-kept _ _ e h,
@@ -187,7 +188,7 @@ same-length-5 : tie.Need-same-length-5
 same-length-5 c = search needs
 
 returns-4 : tie.Need-returns-4
-unfolding orderExit keyExit buildWorkExit
+unfolding orderExitUnder keyExitUnder buildWorkExitUnder
 returns-4 c =
     let after-finish = finish-from-slice-known10 c in
     let else3 = else3-from-finish after-finish in

@@ -14,7 +14,8 @@ use Rattle.scheme.specs.Sizes.{places, dim, sizesFit}
 use Rattle.scheme.specs.Draw.{signature}
 use Rattle.calls.specs.Lent.{planes, secretOf, secretRefusal}
 use Rattle.calls.specs.Steps.{Readable}
-use Rattle.calls.specs.DrawCall.{DrawCall, drawCall, syndromeOf, choicesOf, drawLengthsDiffer, drawAnswer, wordOf, wordExit, sExit, drawWorkExit}
+use Rattle.calls.specs.DrawCall.{DrawCall, drawCall, syndromeOf, choicesOf, drawLengthsDiffer, drawAnswer, wordOf, wordExit, wordExitUnder, sExit}
+use Rattle.calls.specs.DrawCall.{sExitUnder, drawWorkExit, drawWorkExitUnder}
 use Rattle.calls.proofs.Secrets.{readable}
 use Rattle.draw_tests.specs.Steps.{given, ending, Ready}
 use Rattle.draw_tests.proofs.Answers.{contents, same-choices, contents-leaves, contents-secret, answer-size, answer-length, answer-contents, answer-ending}
@@ -36,7 +37,7 @@ start-from-shared-slice-known17 c = start-from-shared-slice-known8 (shared-slice
 -- a refusal that leaves the working space is the whole answer: every buffer stays
 refused : (z : Sizes) (i : DrawCall) {r : ℕ} → r ≡ drawAnswer z i → 0 < r → spaceStays r ≡ true
     → (r ≡ drawAnswer z i) × (i .word ≡ wordExit z i) × (i .s ≡ sExit z i) × (i .work ≡ drawWorkExit z i)
-unfolding wordExit sExit drawWorkExit
+unfolding wordExitUnder sExitUnder drawWorkExitUnder
 refused z i e h g = (
   e,
   ap₂ pairOf (exit-kept _ _ e h) (exit-kept _ _ e h),
@@ -231,7 +232,7 @@ same-length-6 : tie.Need-same-length-6
 same-length-6 c = search needs
 
 returns-4 : tie.Need-returns-4
-unfolding wordOf wordExit sExit drawWorkExit
+unfolding wordOf wordExitUnder sExitUnder drawWorkExitUnder
 returns-4 c =
     let after-finish = finish-from-slice-known12 c in
     let else3 = else3-from-finish after-finish in
@@ -243,7 +244,8 @@ returns-4 c =
     let t : Pair = rowPair (dim z) (signature z (wordOf z i)) in
     let zero = work-ended z (secretOf z (i .secret)) (i .p) (syndromeOf i) (choicesOf i) in (
       told-answer ∙ g,
-      ap₂ pairOf (word-ones ∙ ap (λ (r : ℕ). atExit r (w .ones) (i .word .ones)) g) (word-twos ∙ ap (λ (r : ℕ). atExit r (w .twos) (i .word .twos)) g),
+      ap₂ pairOf (word-ones ∙ ap (λ (r : ℕ). atExit r (w .ones) (i .word .ones)) g)
+          (word-twos ∙ ap (λ (r : ℕ). atExit r (w .twos) (i .word .twos)) g),
       ap₂ pairOf (s-ones ∙ ap (λ (r : ℕ). atExit r (t .ones) (i .s .ones)) g) (s-twos ∙ ap (λ (r : ℕ). atExit r (t .twos) (i .s .twos)) g),
       ap₂ pairOf (ones-zero ∙ zero (i .work .ones) ∙ ap (λ (r : ℕ). spaceExit r (i .work .ones)) g)
           (twos-zero ∙ zero (i .work .twos) ∙ ap (λ (r : ℕ). spaceExit r (i .work .twos)) g),

@@ -5,7 +5,7 @@ use mathlib.Core.Bool.{_&&_}
 use Prim.Native.Nat.{_-_}
 use lib.Dec.{leb}
 use borrow.Author.Tests.{eq-eqb, ne-eqb, le-leb, lt-leb}
-use Rattle.scheme.specs.Sizes.{half, gapU, gapV, sizesFit}
+use Rattle.scheme.specs.Sizes.{half, gapsFit, sizesFit, sizesFitUnder}
 use borrow.Author.Needs.{needs}
 use Rattle.scheme.proofs.sizes.sizes_fit.Statement.{statement}
 use Rattle.scheme.proofs.sizes.sizes_fit.Tie as tie
@@ -23,21 +23,21 @@ else5-from-else7 c = c .before .before .before .before .before
 -- what is left of the chain once n is in its range: k_U, k_V, the gaps and w
 ku-left : (c : tie.Else3) → let z = start-from-else3 c .args .z in
     sizesFit z ≡ (leb 1 (z .ku) && (leb (z .ku) (half z - 1) && (leb 1 (z .kv) && (leb (z .kv) (half z - 1)
-    && (leb (gapU z) (z .ku) && (leb (gapV z) (z .kv) && (leb 1 (z .w) && leb (z .w) (z .n))))))))
-unfolding sizesFit
+    && (gapsFit z && (leb 1 (z .w) && leb (z .w) (z .n)))))))
+unfolding sizesFitUnder
 ku-left c =
     let else2 = c .before .before in
     rw (le-leb _ _ (else2 .before .before .if1 .left), le-leb _ _ (else2 .if2 .left), eq-eqb _ _ (c .if3 .left))
 
 -- once k_U is: k_V, the gaps and w
 kv-left : (c : tie.Else5) → let z = start-from-else3 (else3-from-else5 c) .args .z in
-    sizesFit z ≡ (leb 1 (z .kv) && (leb (z .kv) (half z - 1) && (leb (gapU z) (z .ku) && (leb (gapV z) (z .kv) && (leb 1 (z .w) && leb (z .w) (z .n))))))
+    sizesFit z ≡ (leb 1 (z .kv) && (leb (z .kv) (half z - 1) && (gapsFit z && (leb 1 (z .w) && leb (z .w) (z .n)))))
 kv-left c =
     rw (ku-left (else3-from-else5 c), le-leb _ _ (c .before .before .before .if4 .left), le-leb _ _ (c .if5 .left))
 
 -- once k_V is: the gaps and w
 gaps-left : (c : tie.Else7) → let z = start-from-else3 (else3-from-else5 (else5-from-else7 c)) .args .z in
-    sizesFit z ≡ (leb (gapU z) (z .ku) && (leb (gapV z) (z .kv) && (leb 1 (z .w) && leb (z .w) (z .n))))
+    sizesFit z ≡ (gapsFit z && (leb 1 (z .w) && leb (z .w) (z .n)))
 gaps-left c =
     rw (kv-left (else5-from-else7 c), le-leb _ _ (c .before .before .before .if6 .left), le-leb _ _ (c .if7 .left))
 
@@ -45,21 +45,22 @@ gaps-left c =
 w-left : (c : tie.Else9) → let else7 = c .before .before .before .before in
     let z = start-from-else3 (else3-from-else5 (else5-from-else7 else7)) .args .z in
     sizesFit z ≡ (leb 1 (z .w) && leb (z .w) (z .n))
+unfolding gapsFit
 w-left c =
     rw (gaps-left (c .before .before .before .before), le-leb _ _ (c .before .before .if8 .left), le-leb _ _ (c .if9 .left))
 
 returns : tie.Need-returns
-unfolding sizesFit
+unfolding sizesFitUnder
 returns c =
     rw (lt-leb _ _ (c .if1 .taken))
 
 returns-2 : tie.Need-returns-2
-unfolding sizesFit
+unfolding sizesFitUnder
 returns-2 c =
     rw (le-leb _ _ (c .before .before .if1 .left), lt-leb _ _ (c .if2 .taken))
 
 returns-3 : tie.Need-returns-3
-unfolding sizesFit
+unfolding sizesFitUnder
 returns-3 c =
     rw (le-leb _ _ (c .before .before .before .before .if1 .left), le-leb _ _ (c .before .before .if2 .left), ne-eqb _ _ (c .if3 .taken))
 
@@ -88,10 +89,12 @@ returns-7 c =
     rw (kv-left (else6 .before .before), le-leb _ _ (else6 .if6 .left), lt-leb _ _ (c .if7 .taken))
 
 returns-8 : tie.Need-returns-8
+unfolding gapsFit
 returns-8 c =
     rw (gaps-left (c .before .before), lt-leb _ _ (c .if8 .taken))
 
 returns-9 : tie.Need-returns-9
+unfolding gapsFit
 returns-9 c =
     rw (gaps-left (c .before .before .before .before), le-leb _ _ (c .before .before .if8 .left), lt-leb _ _ (c .if9 .taken))
 

@@ -53,7 +53,7 @@ impl Call {
             Call::Begin => &["begun", "held number", "held n", "held k", "held w", "rows", "number", "n", "k", "w"],
             Call::Store => &["begun", "held number", "n", "k", "w", "rows"],
             Call::Check => &["begun", "held number", "n", "k", "w", "rows", "number"],
-            Call::Build | Call::Draw => &["n", "ku", "kv", "g", "w"],
+            Call::Build | Call::Draw => &["n", "ku", "kv", "gv", "gu", "w"],
         }
     }
 
@@ -233,7 +233,7 @@ pub fn held(numbers: &[u64]) -> Held {
 }
 
 pub fn sizes(numbers: &[u64]) -> Sizes {
-    Sizes { n: numbers[0], ku: numbers[1], kv: numbers[2], g: numbers[3], w: numbers[4] }
+    Sizes { n: numbers[0], ku: numbers[1], kv: numbers[2], gv: numbers[3], gu: numbers[4], w: numbers[5] }
 }
 
 pub fn stored(answer: Stored) -> Vec<u64> {

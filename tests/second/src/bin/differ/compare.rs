@@ -13,6 +13,9 @@ pub struct Comparer {
     pub rng: Rng,
     /// Calls compared, by call and by answer.
     counts: BTreeMap<(Call, String), u64>,
+    /// Draws with sizes in their ranges and g_V other than g_U, and those of them that were released.
+    unequal: u64,
+    unequal_released: u64,
     /// Faults that were put in alone and made the refusal that they are known by.
     provoked: BTreeSet<(Call, String)>,
     pub mismatches: usize,
@@ -51,7 +54,7 @@ fn first_difference(a: &Buffer, b: &Buffer) -> String {
 
 impl Comparer {
     pub fn new(archives: Archives, rng: Rng, trace: bool) -> Comparer {
-        Comparer { archives, rng, counts: BTreeMap::new(), provoked: BTreeSet::new(), mismatches: 0, trace }
+        Comparer { archives, rng, counts: BTreeMap::new(), unequal: 0, unequal_released: 0, provoked: BTreeSet::new(), mismatches: 0, trace }
     }
 
     /// Says what is wrong with a case, with its input.
@@ -82,6 +85,10 @@ impl Comparer {
             eprintln!("{} {:?} {why:?}", case.call.name(), case.numbers);
         }
         *self.counts.entry((case.call, told(case.call, &second.answer))).or_default() += 1;
+        if case.call == Call::Draw && second.refusal() != 1 && case.numbers[3] != case.numbers[4] {
+            self.unequal += 1;
+            self.unequal_released += (second.refusal() == 0) as u64;
+        }
         match self.archives.outcome(case) {
             Err(what) => self.report(case, why, &what),
             Ok(archive) => {
@@ -155,7 +162,8 @@ impl Comparer {
         self.counts.values().sum()
     }
 
-    /// The counts of calls compared. False if a call was not linked though it is needed, or an answer of the paper was never seen.
+    /// The counts of calls compared. False if a call was not linked though it is needed, an answer of the paper was never seen, or g_V was other than g_U in
+    /// fewer than a third of the draws, or of those that were released.
     pub fn summary(&self, draw_needed: bool) -> bool {
         let mut whole = true;
         for call in CALLS {
@@ -177,6 +185,15 @@ impl Comparer {
                         println!("{}: the answer {name} was never seen", call.name());
                         whole = false;
                     }
+                }
+            }
+            if call == Call::Draw {
+                let draws = seen.iter().map(|(_, n)| **n).sum::<u64>();
+                let released = seen.iter().filter(|(told, _)| told.as_str() == "0").map(|(_, n)| **n).sum::<u64>();
+                println!("g_V other than g_U: {} of {draws} draws, {} of {released} released", self.unequal, self.unequal_released);
+                if 3 * self.unequal < draws || 3 * self.unequal_released < released {
+                    println!("too few draws have gaps that differ");
+                    whole = false;
                 }
             }
         }

@@ -27,7 +27,7 @@ fn calls(seed: u64, count: u64, words: &[String]) -> bool {
     let libraries: Vec<String> = words.iter().filter(|w| !w.starts_with("--")).cloned().collect();
     let archives = archive::Archives::load(&libraries, seed ^ 0xA5A5);
     let mut c = compare::Comparer::new(archives, rng::Rng::new(seed), flag("--trace"));
-    let parts: [(&str, &dyn Fn(&mut compare::Comparer)); 11] = [
+    let parts: [(&str, &dyn Fn(&mut compare::Comparer)); 12] = [
         ("worked cases", &worked::cases),
         ("packing calls", &plan::packing),
         ("last bytes", &plan::last_bytes),
@@ -36,6 +36,7 @@ fn calls(seed: u64, count: u64, words: &[String]) -> bool {
         ("rows and checks", &plan::held_key),
         ("large keys", &|c| plan::large_keys(c, flag("--long"))),
         ("builds and draws", &plan::editor),
+        ("gaps", &plan::gaps),
         ("many rows", &|c| plan::many_rows(c, flag("--long"))),
         ("round trips", &|c| plan::round_trips(c, flag("--long"))),
         ("by chance", &|c| plan::chance(c, count)),

@@ -113,55 +113,66 @@ pub fn check(rng: &mut Rng, n: usize, k: usize) -> Case {
 
 // ---- the editor's half
 
+/// Where the weight stands among the numbers of a build or a draw.
+pub const WEIGHT: usize = 5;
+
 /// Sizes of a secret; the weight comes later.
 #[derive(Clone, Copy, Debug)]
 pub struct Shape {
     pub n: usize,
     pub ku: usize,
     pub kv: usize,
-    pub g: usize,
+    pub gv: usize,
+    pub gu: usize,
 }
 
 impl Shape {
     pub fn sizes(&self, w: usize) -> Sizes {
-        Sizes { n: self.n as u64, ku: self.ku as u64, kv: self.kv as u64, g: self.g as u64, w: w as u64 }
+        Sizes { n: self.n as u64, ku: self.ku as u64, kv: self.kv as u64, gv: self.gv as u64, gu: self.gu as u64, w: w as u64 }
+    }
+
+    /// Gaps of their own for V and U; of four shapes one has the same gap for both.
+    fn with_gaps(rng: &mut Rng, n: usize, ku: usize, kv: usize) -> Shape {
+        if rng.one_in(4) {
+            let g = rng.gap(ku.min(kv));
+            return Shape { n, ku, kv, gv: g, gu: g };
+        }
+        let (gv, gu) = (rng.gap(kv), rng.gap(ku));
+        Shape { n, ku, kv, gv, gu }
     }
 
     pub fn random(rng: &mut Rng, n: usize) -> Shape {
         let half = n / 2;
         let (ku, kv) = (rng.between(1, half - 1), rng.between(1, half - 1));
-        let most = ku.min(kv);
-        let g = match rng.below(4) {
-            0 => 0,
-            1 => most,
-            _ => rng.between(0, most),
-        };
-        Shape { n, ku, kv, g }
+        Shape::with_gaps(rng, n, ku, kv)
     }
 
     /// Few rows of many words.
     pub fn wide(rng: &mut Rng, half: usize) -> Shape {
         let (ku, kv) = (half - rng.between(1, 8), half - rng.between(1, 8));
-        let g = match rng.below(3) {
-            0 => 0,
-            1 => ku.min(kv),
-            _ => rng.between(0, ku.min(kv)),
-        };
-        Shape { n: 2 * half, ku, kv, g }
+        Shape::with_gaps(rng, 2 * half, ku, kv)
     }
 
     fn numbers(&self, w: usize) -> Vec<u64> {
-        vec![self.n as u64, self.ku as u64, self.kv as u64, self.g as u64, w as u64]
+        vec![self.n as u64, self.ku as u64, self.kv as u64, self.gv as u64, self.gu as u64, w as u64]
     }
 
     fn edges(&self, w: usize) -> Vec<Edge> {
-        let (n, ku, kv, g) = (self.n as u64, self.ku as u64, self.kv as u64, self.g as u64);
+        let [n, ku, kv, gv, gu] = [self.n, self.ku, self.kv, self.gv, self.gu].map(|x| x as u64);
         let half = n / 2;
         let mut out = [edges(0, 1, &[0, 2, n - 1, n + 1, 16385, 16386]), far(0, n, 1)].concat();
         out.extend([edges(1, 1, &[0, half, n]), far(1, ku, 1)].concat());
         out.extend([edges(2, 1, &[0, half, n]), far(2, kv, 1)].concat());
-        out.extend([edges(3, 1, &[ku.min(kv) + 1, n]), far(3, g, 1)].concat());
-        out.extend([edges(4, 1, &[0, n + 1]), far(4, w as u64, 1)].concat());
+        out.extend([edges(3, 1, &[kv + 1, n]), far(3, gv, 1)].concat());
+        out.extend([edges(4, 1, &[ku + 1, n]), far(4, gu, 1)].concat());
+        out.extend([edges(WEIGHT, 1, &[0, n + 1]), far(WEIGHT, w as u64, 1)].concat());
+        // k_U below g_U, k_V below g_V
+        if gu > 1 {
+            out.extend(edges(1, 1, &[gu - 1]));
+        }
+        if gv > 1 {
+            out.extend(edges(2, 1, &[gv - 1]));
+        }
         // other sizes that are in their ranges: the buffers do not fit them
         if n < 16384 {
             out.extend(edges(0, 2, &[n + 2]));
@@ -277,9 +288,9 @@ pub fn draw_of(rng: &mut Rng, shape: &Shape, secret: &SecretPlanes, p: &[u16], y
     let (ones, twos) = rng.planes(1, shape.kv);
     buffers.extend([Words(ones), Words(twos)]);
     buffers.push(Order(rng.order(half)));
-    // the first g values are any trits, the others are not 0
+    // the first g_U values are any trits, the others are not 0
     let (mut ones, mut twos) = rng.full_planes(1, shape.ku);
-    for place in 0..shape.g {
+    for place in 0..shape.gu {
         if rng.one_in(3) {
             ones[place / 64] &= !(1 << (place % 64));
             twos[place / 64] &= !(1 << (place % 64));
@@ -299,9 +310,9 @@ pub fn draw_of(rng: &mut Rng, shape: &Shape, secret: &SecretPlanes, p: &[u16], y
         Role::Planes { at: 12, rows: 1, m: shape.kv },
         Role::Order { at: 14 },
         Role::Planes { at: 15, rows: 1, m: shape.ku },
-        Role::NonZero { at: 15, from: shape.g, m: shape.ku },
-        Role::Rank { at: 2, rows: half - shape.kv, m: half, order: Some((11, half - shape.kv + shape.g)), refusal: 12 },
-        Role::Rank { at: 0, rows: half - shape.ku, m: half, order: Some((14, half - shape.ku + shape.g)), refusal: 13 },
+        Role::NonZero { at: 15, from: shape.gu, m: shape.ku },
+        Role::Rank { at: 2, rows: half - shape.kv, m: half, order: Some((11, half - shape.kv + shape.gv)), refusal: 12 },
+        Role::Rank { at: 0, rows: half - shape.ku, m: half, order: Some((14, half - shape.ku + shape.gu)), refusal: 13 },
     ]);
     case.edges = shape.edges(w);
     case
@@ -319,7 +330,7 @@ pub fn word_of(case: &Case, shape: &Shape) -> Result<Vec<u8>, u64> {
         c: row(6, half),
     };
     let choices = Choices { v_order: places(b[11].order()), v_trits: row(12, shape.kv), u_order: places(b[14].order()), u_values: row(15, shape.ku) };
-    drawn_word(shape.g, &secret, &places(b[8].order()), &row(9, shape.n - shape.ku - shape.kv), &choices)
+    drawn_word(shape.gv, shape.gu, &secret, &places(b[8].order()), &row(9, shape.n - shape.ku - shape.kv), &choices)
 }
 
 /// A draw, with its weight as it comes where that may be; the order p is that of a built key or any other.
@@ -335,15 +346,15 @@ pub fn any_draw(rng: &mut Rng, shape: &Shape) -> Case {
     let y = rng.planes(1, shape.n - shape.ku - shape.kv);
     let mut case = draw_of(rng, shape, &secret, &p, &y, 1);
     if rng.one_in(20) {
-        case.numbers[4] = rng.between(1, shape.n) as u64;
+        case.numbers[WEIGHT] = rng.between(1, shape.n) as u64;
     } else if let Ok(word) = word_of(&case, shape) {
-        case.numbers[4] = (weight(&word) as u64).max(1);
+        case.numbers[WEIGHT] = (weight(&word) as u64).max(1);
     }
     // the weight is out of its range at other numbers now; and any other in range is refused 14
-    case.edges = shape.edges(case.numbers[4] as usize);
-    for other in [case.numbers[4] - 1, case.numbers[4] + 1, 1, shape.n as u64] {
-        if other != case.numbers[4] && (1..=shape.n as u64).contains(&other) {
-            case.edges.push(Edge { at: 4, value: other, refusal: 14 });
+    case.edges = shape.edges(case.numbers[WEIGHT] as usize);
+    for other in [case.numbers[WEIGHT] - 1, case.numbers[WEIGHT] + 1, 1, shape.n as u64] {
+        if other != case.numbers[WEIGHT] && (1..=shape.n as u64).contains(&other) {
+            case.edges.push(Edge { at: WEIGHT, value: other, refusal: 14 });
         }
     }
     case
@@ -353,7 +364,7 @@ pub fn any_draw(rng: &mut Rng, shape: &Shape) -> Case {
 pub fn draw(rng: &mut Rng, shape: &Shape) -> Case {
     loop {
         let case = any_draw(rng, shape);
-        if word_of(&case, shape).is_ok_and(|word| weight(&word) as u64 == case.numbers[4]) {
+        if word_of(&case, shape).is_ok_and(|word| weight(&word) as u64 == case.numbers[WEIGHT]) {
             return case;
         }
     }

@@ -3,7 +3,7 @@
 use crate::case::{Buffer, Call, Case, Role, CALLS};
 use crate::compare::Comparer;
 use crate::damage::{faults, Fault};
-use crate::make::{self, SecretPlanes, Shape};
+use crate::make::{self, SecretPlanes, Shape, WEIGHT};
 use crate::rng::Rng;
 use second::algebra::weight;
 use second::packing::{bytes, packed};
@@ -74,8 +74,8 @@ fn planes_rule(list: &[Fault]) -> u64 {
 /// 4 before 3, but buffer after buffer: every two pairs of planes of a call are answered by the rule in numbers of the first that has something wrong.
 pub fn past_first(c: &mut Comparer) {
     let mut cases = vec![make::pack(&mut c.rng, 2), make::pack(&mut c.rng, 130), make::check(&mut c.rng, 6, 3), make::check(&mut c.rng, 200, 70)];
-    for (n, ku, kv, g) in [(4, 1, 1, 0), (6, 1, 1, 1), (130, 32, 31, 5), (260, 3, 5, 2)] {
-        let shape = Shape { n, ku, kv, g };
+    for (n, ku, kv, gv, gu) in [(4, 1, 1, 0, 0), (6, 1, 1, 1, 1), (130, 32, 31, 0, 5), (260, 3, 5, 4, 2)] {
+        let shape = Shape { n, ku, kv, gv, gu };
         cases.extend([make::build(&mut c.rng, &shape), make::draw(&mut c.rng, &shape)]);
     }
     for case in cases {
@@ -182,16 +182,15 @@ pub fn large_keys(c: &mut Comparer, thorough: bool) {
     }
 }
 
-/// Sizes of secrets at this n: k at its edges, odd, even, g = 0 and g as large as it may be, g = k_U among them.
+/// Sizes of secrets at this n: k at its edges, odd, even; no gap, the same in both halves, a gap of one half alone and as large as it may be, any.
 fn shapes(rng: &mut Rng, n: usize) -> Vec<Shape> {
     let most = n / 2 - 1;
     let mut out = vec![];
     for (ku, kv) in [(1, 1), (1, most), (most, 1), (most, most), (rng.between(1, most), rng.between(1, most))] {
-        for g in [0, ku.min(kv), rng.between(0, ku.min(kv))] {
-            out.push(Shape { n, ku, kv, g });
+        for (gv, gu) in [(0, 0), (ku.min(kv), ku.min(kv)), (kv, 0), (0, ku), (rng.between(0, kv), rng.between(0, ku))] {
+            out.push(Shape { n, ku, kv, gv, gu });
         }
     }
-    out.push(Shape { n, ku: 1, kv: most, g: 1 });
     out
 }
 
@@ -209,17 +208,50 @@ pub fn editor(c: &mut Comparer) {
     }
     // few rows of many words, up to the largest n
     let mut wide: Vec<Shape> = WIDE.iter().map(|m| Shape::wide(&mut c.rng, *m)).collect();
-    wide.extend([(8191, 8191, 8191), (8191, 8190, 0), (8190, 8191, 77)].map(|(ku, kv, g)| Shape { n: 16384, ku, kv, g }));
+    wide.extend([(8191, 8191, 8191, 8191), (8191, 8190, 0, 8191), (8190, 8191, 8191, 77)].map(|(ku, kv, gv, gu)| Shape { n: 16384, ku, kv, gv, gu }));
     for shape in wide {
         for case in [make::build(&mut c.rng, &shape), make::draw(&mut c.rng, &shape)] {
             c.singles(&case);
         }
     }
-    for (n, ku, kv, g) in [(4, 1, 1, 0), (6, 1, 2, 1), (8, 3, 2, 1), (130, 32, 31, 5)] {
-        let shape = Shape { n, ku, kv, g };
+    for (n, ku, kv, gv, gu) in [(4, 1, 1, 0, 0), (6, 1, 2, 2, 0), (8, 3, 2, 1, 1), (130, 32, 31, 0, 5)] {
+        let shape = Shape { n, ku, kv, gv, gu };
         for case in [make::build(&mut c.rng, &shape), make::draw(&mut c.rng, &shape)] {
             c.pairs(&case);
         }
+    }
+}
+
+/// Every g_V and g_U at some small sizes, by the rule in numbers: a call is refused 1 exactly where g_V is above k_V or g_U above k_U, and a draw is refused 8
+/// exactly where a U value from index g_U on is 0.
+pub fn gaps(c: &mut Comparer) {
+    for (n, ku, kv) in [(4, 1, 1), (6, 1, 1), (6, 1, 2), (6, 2, 1), (10, 1, 4), (10, 4, 1), (12, 4, 3), (20, 3, 5)] {
+        for (gv, gu) in (0..=kv + 1).flat_map(|gv| (0..=ku + 1).map(move |gu| (gv, gu))) {
+            let shape = Shape { n, ku, kv, gv: gv.min(kv), gu: gu.min(ku) };
+            let rule = (gv > kv || gu > ku) as u64;
+            for mut case in [make::build(&mut c.rng, &shape), make::draw(&mut c.rng, &shape)] {
+                case.numbers[3] = gv as u64;
+                case.numbers[4] = gu as u64;
+                answers(c, &case, rule);
+            }
+            for zero in 0..ku {
+                let mut case = make::draw(&mut c.rng, &shape);
+                case.buffers[15].words_mut()[0] &= !(1 << zero);
+                case.buffers[16].words_mut()[0] &= !(1 << zero);
+                let found = c.compare(&case, &[]).refusal();
+                if (found == 8) != (zero >= shape.gu) {
+                    c.report(&case, &[], &format!("second answers {found}, and U value {zero} is 0"));
+                }
+            }
+        }
+    }
+}
+
+/// The case is answered by this number.
+fn answers(c: &mut Comparer, case: &Case, rule: u64) {
+    let found = c.compare(case, &[]).refusal();
+    if found != rule {
+        c.report(case, &[], &format!("second answers {found}, the rule is {rule}"));
     }
 }
 
@@ -228,12 +260,12 @@ pub fn many_rows(c: &mut Comparer, long: bool) {
     let sizes: &[usize] = if long { &[510, 642, 1072, 1410, 2144] } else { &[510, 642] };
     for n in sizes {
         let half = n / 2;
-        let shape = Shape { n: *n, ku: half / 2 - 1, kv: half / 3, g: half / 10 };
+        let shape = Shape { n: *n, ku: half / 2 - 1, kv: half / 3, gv: half / 20, gu: half / 10 };
         let case = make::build(&mut c.rng, &shape);
         c.compare(&case, &[]);
         let mut case = make::draw(&mut c.rng, &shape);
         c.compare(&case, &[]);
-        case.numbers[4] -= 1;
+        case.numbers[WEIGHT] -= 1;
         c.compare(&case, &[]);
     }
 }

@@ -29,6 +29,15 @@ impl Rng {
         low + self.below(high - low + 1)
     }
 
+    /// A gap from 0 to the most, often one of the two.
+    pub fn gap(&mut self, most: usize) -> usize {
+        match self.below(4) {
+            0 => 0,
+            1 => most,
+            _ => self.between(0, most),
+        }
+    }
+
     pub fn one_in(&mut self, n: usize) -> bool {
         self.below(n) == 0
     }

@@ -36,7 +36,7 @@ fn secret() -> Vec<Buffer> {
 fn build(start: [u16; 4]) -> Case {
     let mut buffers = secret();
     buffers.extend([Order(start.to_vec()), Order(vec![9; 4]), Words(vec![7; 2]), Words(vec![8; 2]), Words(vec![5; 4]), Words(vec![6; 4])]);
-    Case::new(Call::Build, vec![4, 1, 1, 0, 4], buffers)
+    Case::new(Call::Build, vec![4, 1, 1, 0, 0, 4], buffers)
 }
 
 fn draw(w: u64, v_trit: &str, u_value: &str) -> Case {
@@ -48,7 +48,7 @@ fn draw(w: u64, v_trit: &str, u_value: &str) -> Case {
     buffers.push(Order(vec![0, 1]));
     buffers.extend(pair(u_value));
     buffers.extend([one(1), one(2), one(3), one(4), Words(vec![5; 6]), Words(vec![6; 6])]);
-    Case::new(Call::Draw, vec![4, 1, 1, 0, w], buffers)
+    Case::new(Call::Draw, vec![4, 1, 1, 0, 0, w], buffers)
 }
 
 fn check(number: u64, w: u64, y: &str, s: &str) -> Case {
@@ -103,6 +103,15 @@ pub fn cases(c: &mut Comparer) {
     }
     let zero = Words(vec![0; 6]);
     expect(c, draw(4, "1", "1"), &[14], &[(17, one(1)), (18, one(2)), (19, one(3)), (20, one(4)), (21, zero.clone()), (22, zero)]);
+
+    // at w = 2, V trit 2 and U value 0: with a gap of U, and of V or not, 1200; with a gap of V alone 8
+    for (gv, gu, refusal) in [(0, 1, 0), (1, 1, 0), (1, 0, 8), (0, 0, 8), (2, 1, 1), (0, 2, 1)] {
+        let mut drawn = draw(2, "2", "0");
+        drawn.numbers[3..5].copy_from_slice(&[gv, gu]);
+        let ([w1, w2], [s1, s2]) = if refusal == 0 { (pair("1200"), pair("00")) } else { ([one(1), one(2)], [one(3), one(4)]) };
+        let work = |held: u64| Words(vec![if refusal == 0 { 0 } else { held }; 6]);
+        expect(c, drawn, &[refusal], &[(17, w1), (18, w2), (19, s1), (20, s2), (21, work(5)), (22, work(6))]);
+    }
 
     expect(c, check(7, 4, "12", "11"), &[0, 1, 3, 1], &[(4, one(0)), (5, one(0))]);
     expect(c, check(7, 4, "12", "12"), &[0, 0, 1, 2], &[(4, one(0)), (5, one(0))]);

@@ -88,7 +88,8 @@ pub fn solve_halves(
     work_twos: &mut [u64],
 ) -> Outcome
     requires { ⌜ ForSolveHalves z l (now «hu_ones») (now «hu_twos») (now «hv_ones») (now «hv_twos») (now «b_ones») (now «b_twos»)
-        (now «c_ones») (now «c_twos») (now «v_order») (now «v_ones») (now «v_twos») (now «u_order») (now «u_ones») (now «u_twos») (now «work_ones») (now «work_twos») ⌝ }
+        (now «c_ones») (now «c_twos») (now «v_order») (now «v_ones») (now «v_twos»)
+        (now «u_order») (now «u_ones») (now «u_twos») (now «work_ones») (now «work_twos») ⌝ }
     ensures { λ r. ⌜ (let s = secretOf z (planes (now («hu_ones» .entry)) (now («hu_twos» .entry)) (now («hv_ones» .entry)) (now («hv_twos» .entry))
         (now («b_ones» .entry)) (now («b_twos» .entry)) (now («c_ones» .entry)) (now («c_twos» .entry))) in
         let ch = choices (now («v_order» .entry)) (now («v_ones» .entry)) (now («v_twos» .entry)) (now («u_order» .entry)) (now («u_ones» .entry))

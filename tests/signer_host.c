@@ -177,6 +177,8 @@ static void sizes(call *c, uint64_t (*run)(call *), int work)
         { 4, 1, 0, 0, 0, 4 }, { 4, 1, 2, 0, 0, 4 }, { 4, 1, 1, 2, 0, 4 }, { 4, 1, 1, 0, 2, 4 }, { 4, 1, 1, 0, 0, 0 }, { 4, 1, 1, 0, 0, 5 },
         { UINT64_MAX, 1, 1, 0, 0, 4 }, { 4, UINT64_MAX, 1, 0, 0, 4 }, { 4, 1, UINT64_MAX, 0, 0, 4 }, { 4, 1, 1, UINT64_MAX, 0, 4 },
         { 4, 1, 1, 0, UINT64_MAX, 4 }, { 4, 1, 1, 0, 0, UINT64_MAX },
+        /* five numbers, as they were with one gap */
+        { 4, 1, 1, 0, 4, 0 },
         /* a gap may be above the k of the other half, and not above its own */
         { 16, 2, 5, 6, 0, 1 }, { 16, 2, 5, 0, 3, 1 }, { 16, 5, 2, 3, 0, 1 }, { 16, 5, 2, 0, 6, 1 },
     };

@@ -9,7 +9,7 @@ use Rattle.scheme.specs.declared.sizes.Sizes.{Sizes}
 use Rattle.scheme.specs.Sizes.{GapsTest, gapsFit, sizesFitUnder}
 use Rattle.calls.specs.BuildCall.{BuildCall, buildAnswerUnder, orderExitUnder, keyExitUnder, buildWorkExitUnder}
 use Rattle.calls.specs.DrawCall.{DrawCall, drawAnswerUnder, wordExitUnder, sExitUnder, drawWorkExitUnder}
-use Rattle.calls.specs.OneGap.{OneGap, inBoth, oneGapFits, buildEnd, buildNow, buildWithOneGap, drawEnd, drawNow, drawWithOneGap}
+use Rattle.calls.specs.OneGap.{OneGap, inBoth, oneGapFits, ReadOneGap, buildEnd, buildNow, buildWithOneGap, drawEnd, drawNow, drawWithOneGap}
 
 -- g is at most each of two numbers exactly when it is at most the smaller
 at-most-both : (g a b : ℕ) → (leb g a && leb g b) ≡ leb g (cond (leb a b) a b)
@@ -43,6 +43,9 @@ module _ (gaps others : GapsTest) (z : Sizes) (agree : gaps z ≡ others z) wher
 both-fit : (o : OneGap) → gapsFit (inBoth o) ≡ oneGapFits (o .g) (inBoth o)
 unfolding gapsFit oneGapFits
 both-fit o = at-most-both (o .g) (o .ku) (o .kv)
+
+pub reads-one-gap : (o : OneGap) (i : DrawCall) → ReadOneGap o i
+reads-one-gap o i = record { first-v = refl; first-u = refl; last-u = refl; eight = refl }
 
 pub build-as-before : (o : OneGap) (i : BuildCall) → buildNow (inBoth o) i ≡ buildWithOneGap o i
 build-as-before o i = same-build gapsFit (oneGapFits (o .g)) (inBoth o) (both-fit o) i

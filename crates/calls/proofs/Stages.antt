@@ -1,7 +1,7 @@
 -- Request C-20 at `build` and `draw`: the answer is the old one, or 4 for 3 where the first buffer refused for its contents has both faults. Assumes nothing.
 use mathlib.Core.Path.{_≡_, _∙_, ap, ap₂}
 use mathlib.Core.List.{List, [], _∷_, _++_}
-use Prim.Native.Nat.{ℕ, _+_, _-_}
+use Prim.Native.Nat.{ℕ}
 use lib.Dec.{lit<}
 use Rattle.trits.specs.Planes.{tritAt}
 use Rattle.trits.specs.Refusal.{refuse, demand, first, PlanesTest}
@@ -9,13 +9,13 @@ use Rattle.trits.specs.Stages.{Stage, otherStage, bothFirst, decided, firstHasB
 use Rattle.trits.proofs.Stages.{refuse-stage, demand-stage, last-stage, decided-append, stages-four-for-three}
 use Rattle.matrix.specs.Orders.{isOrder}
 use Rattle.scheme.specs.declared.sizes.Sizes.{Sizes}
-use Rattle.scheme.specs.Sizes.{half, places, ru, rv, codim, gapU, gapsFit, sizesFit}
+use Rattle.scheme.specs.Sizes.{half, places, ru, rv, codim, gapsFit, sizesFit}
 use Rattle.scheme.specs.Secret.{hasZero}
 use Rattle.scheme.specs.Build.{buildRefusal}
 use Rattle.scheme.specs.Draw.{drawRefusal}
 use Rattle.calls.specs.Lent.{Planes, secretOf, secretRefusalUnder}
 use Rattle.calls.specs.BuildCall.{BuildCall, buildLengthsDiffer, buildAnswer, buildAnswerUnder}
-use Rattle.calls.specs.DrawCall.{DrawCall, drawLengthsDiffer, syndromeOf, choicesOf, choicesRefusalUnder, drawAnswer, drawAnswerUnder}
+use Rattle.calls.specs.DrawCall.{DrawCall, drawLengthsDiffer, lastHasZero, syndromeOf, choicesOf, choicesRefusalUnder, drawAnswer, drawAnswerUnder}
 use Rattle.calls.specs.Stages.{secretStages, buildStages, choicesStages, drawStages}
 
 module _ (test : PlanesTest) where
@@ -39,7 +39,7 @@ module _ (test : PlanesTest) where
       (ap (first (test (i .v .ones) (i .v .twos) 1 (z .kv)))
       (demand-stage (isOrder (half z) (i .orderU)) 7 (lit< tt)
       (ap (first (test (i .u .ones) (i .u .twos) 1 (z .ku)))
-      (last-stage (refuse (hasZero (z .ku - gapU z) (λ j. tritAt (i .u .ones) (i .u .twos) (gapU z + j))) 8 0)))))))
+      (last-stage (refuse (lastHasZero z i) 8 0)))))))
 
   -- a group of tests before others, as its stages before theirs
   group-stages : {a b : ℕ} (group rest : List Stage) → a ≡ decided test group → b ≡ decided test rest → first a b ≡ decided test (group ++ rest)

@@ -88,7 +88,11 @@ drawLengthsDiffer z i =
 
 -- ---- 4, 3, 7 and 8: the contents, buffer after buffer
 
--- after the secret: p, y, the V order, the V trits, the U order, the U values, of which those from g_U on may not be 0, used or not
+-- a 0 among the U values from g_U on, used or not
+abbrev pub lastHasZero : Sizes → DrawCall → Bool
+lastHasZero z i = hasZero (z .ku - gapU z) (λ j. tritAt (i .u .ones) (i .u .twos) (gapU z + j))
+
+-- after the secret: p, y, the V order, the V trits, the U order, the U values, of which the last k_U - g_U may not be 0
 unfoldable pub choicesRefusalUnder : PlanesTest → Sizes → DrawCall → ℕ
 choicesRefusalUnder test z i =
     demand (isOrder (places z) (i .p)) 7
@@ -97,7 +101,7 @@ choicesRefusalUnder test z i =
     (first (test (i .v .ones) (i .v .twos) 1 (z .kv))
     (demand (isOrder (half z) (i .orderU)) 7
     (first (test (i .u .ones) (i .u .twos) 1 (z .ku))
-    (refuse (hasZero (z .ku - gapU z) (λ j. tritAt (i .u .ones) (i .u .twos) (gapU z + j))) 8
+    (refuse (lastHasZero z i) 8
     0))))))
 
 abbrev pub choicesRefusal : Sizes → DrawCall → ℕ

@@ -1,15 +1,19 @@
 -- The sizes as they were before request C-18, with one gap g, and what `build` and `draw` did with them: the same definitions, where both gaps
 -- are g and the test of the gaps is the one of that time. Assumes nothing.
+use mathlib.Core.Path.{_≡_}
 use mathlib.Core.Bool.{cond}
 use mathlib.Core.List.{List}
-use Prim.Native.Nat.{ℕ}
+use Prim.Native.Nat.{ℕ, _+_, _-_}
 use lib.Dec.{leb}
-use Rattle.trits.specs.Planes.{Pair}
+use lib.ListN.{take, drop}
+use Rattle.trits.specs.Planes.{Pair, tritAt}
 use Rattle.trits.specs.Refusal.{planesRefusal}
 use Rattle.scheme.specs.declared.sizes.Sizes.{Sizes}
-use Rattle.scheme.specs.Sizes.{GapsTest, gapsFit}
+use Rattle.scheme.specs.Sizes.{ru, rv, GapsTest, gapsFit}
+use Rattle.scheme.specs.Secret.{hasZero}
+use Rattle.scheme.specs.Draw.{firstV, firstU, lastU}
 use Rattle.calls.specs.BuildCall.{BuildCall, buildAnswerUnder, orderExitUnder, keyExitUnder, buildWorkExitUnder}
-use Rattle.calls.specs.DrawCall.{DrawCall, drawAnswerUnder, wordExitUnder, sExitUnder, drawWorkExitUnder}
+use Rattle.calls.specs.DrawCall.{DrawCall, choicesOf, lastHasZero, drawAnswerUnder, wordExitUnder, sExitUnder, drawWorkExitUnder}
 
 -- ---- the sizes with one gap
 
@@ -27,6 +31,14 @@ inBoth o = record { n = o .n; ku = o .ku; kv = o .kv; gv = o .g; gu = o .g; w = 
 -- g was from 0 to the smaller of k_U and k_V
 unfoldable pub oneGapFits : ℕ → GapsTest
 oneGapFits g z = leb g (cond (leb (z .ku) (z .kv)) (z .ku) (z .kv))
+
+-- so the definitions of a draw read one gap: V's first part has r_V + g places and U's r_U + g, U's last part the k_U - g others, and 8 looks at the
+-- U values from g on
+pub record ReadOneGap (o : OneGap) (i : DrawCall) : Type 0 where
+  pub first-v : firstV (inBoth o) (choicesOf i) ≡ take (rv (inBoth o) + o .g) (i .orderV)
+  pub first-u : firstU (inBoth o) (choicesOf i) ≡ take (ru (inBoth o) + o .g) (i .orderU)
+  pub last-u : lastU (inBoth o) (choicesOf i) ≡ drop (ru (inBoth o) + o .g) (i .orderU)
+  pub eight : lastHasZero (inBoth o) i ≡ hasZero (o .ku - o .g) (λ j. tritAt (i .u .ones) (i .u .twos) (o .g + j))
 
 -- ---- what a call does: its answer, and each lent buffer at exit
 

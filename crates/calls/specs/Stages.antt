@@ -1,18 +1,17 @@
 -- The stages of the tests of `build` and `draw`: 1 / 2 / the contents, buffer after buffer / what the state turns back. Assumes nothing.
 use mathlib.Core.List.{List, [], _∷_, _++_}
-use Prim.Native.Nat.{_+_, _-_}
 use Rattle.trits.specs.Planes.{tritAt}
 use Rattle.trits.specs.Refusal.{refuse, demand}
 use Rattle.trits.specs.Stages.{Stage, planesStage, otherStage}
 use Rattle.matrix.specs.Orders.{isOrder}
 use Rattle.scheme.specs.declared.sizes.Sizes.{Sizes}
-use Rattle.scheme.specs.Sizes.{half, places, ru, rv, codim, gapU, sizesFit}
+use Rattle.scheme.specs.Sizes.{half, places, ru, rv, codim, sizesFit}
 use Rattle.scheme.specs.Secret.{hasZero}
 use Rattle.scheme.specs.Build.{buildRefusal}
 use Rattle.scheme.specs.Draw.{drawRefusal}
 use Rattle.calls.specs.Lent.{Planes, secretOf}
 use Rattle.calls.specs.BuildCall.{BuildCall, buildLengthsDiffer}
-use Rattle.calls.specs.DrawCall.{DrawCall, drawLengthsDiffer, syndromeOf, choicesOf}
+use Rattle.calls.specs.DrawCall.{DrawCall, drawLengthsDiffer, lastHasZero, syndromeOf, choicesOf}
 
 -- H_U, H_V, b, c, and 8 for c
 unfoldable pub secretStages : Sizes → Planes → List Stage
@@ -43,7 +42,7 @@ choicesStages z i =
     ∷ planesStage (i .v .ones) (i .v .twos) 1 (z .kv)
     ∷ otherStage (demand (isOrder (half z) (i .orderU)) 7 0)
     ∷ planesStage (i .u .ones) (i .u .twos) 1 (z .ku)
-    ∷ otherStage (refuse (hasZero (z .ku - gapU z) (λ j. tritAt (i .u .ones) (i .u .twos) (gapU z + j))) 8 0)
+    ∷ otherStage (refuse (lastHasZero z i) 8 0)
     ∷ []
 
 -- a draw: the secret, the choices, then 12, 13 and 14

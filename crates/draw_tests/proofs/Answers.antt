@@ -20,12 +20,13 @@ use Rattle.matrix.proofs.Field.{not-false}
 use Rattle.matrix.proofs.Orders.{order-test}
 use Rattle.scheme.specs.declared.sizes.Sizes.{Sizes}
 use Rattle.scheme.specs.Sizes.{half, places, dim, codim, gapU, sizesFit, ru, rv}
-use Rattle.scheme.specs.Secret.{Secret, hasZero}
+use Rattle.scheme.specs.Secret.{Secret}
 use Rattle.scheme.specs.Draw.{Choices, drawRefusal, firstV, firstU, drawn}
 use Rattle.scheme.proofs.Zeros.{noZero-of}
 use Rattle.calls.specs.Lent.{pairDiffers, secretRefusal}
 use Rattle.calls.specs.Steps.{Readable}
-use Rattle.calls.specs.DrawCall.{DrawCall, drawWorkWords, choicesDiffer, drawLengthsDiffer, choicesRefusal, choicesRefusalUnder, drawAnswer, drawAnswerUnder}
+use Rattle.calls.specs.DrawCall.{DrawCall, drawWorkWords, choicesDiffer, drawLengthsDiffer, lastHasZero, choicesRefusal, choicesRefusalUnder}
+use Rattle.calls.specs.DrawCall.{drawAnswer, drawAnswerUnder}
 use Rattle.calls.proofs.Secrets.{pair-same, differs, Lengths, secret-lengths, secret-leaves}
 use Rattle.draw_tests.specs.Steps.{given, chosen, ending, Ready, ChosenLengths}
 
@@ -87,7 +88,7 @@ contents-leaves z i =
     (leaves-demand (isOrder (places z) (i .p)) 7 _ refl (leaves-first _ _ (leaves-planes (i .y .ones) (i .y .twos) 1 (codim z))
     (leaves-demand (isOrder (half z) (i .orderV)) 7 _ refl (leaves-first _ _ (leaves-planes (i .v .ones) (i .v .twos) 1 (z .kv))
     (leaves-demand (isOrder (half z) (i .orderU)) 7 _ refl (leaves-first _ _ (leaves-planes (i .u .ones) (i .u .twos) 1 (z .ku))
-    (leaves-refuse (hasZero (z .ku - gapU z) (λ j. tritAt (i .u .ones) (i .u .twos) (gapU z + j))) 8 0 refl leaves-none)))))))
+    (leaves-refuse (lastHasZero z i) 8 0 refl leaves-none)))))))
 
 -- after the word it is 0
 pub work-ended : (z : Sizes) (s : Secret) (p : List ℕ) (y : Vector) (ch : Choices) (w : List ℕ)
@@ -199,7 +200,7 @@ module _ (z : Sizes) (i : DrawCall) where
           u = planes-row 1 (z .ku) (F .0) (l .uTwos ∙ sym (l .uOnes)) f5 f6;
           uSize = l .uOnes;
           values = noZero-of (z .ku - gapU z) (λ j. tritAt (i .u .ones) (i .u .twos) (gapU z + j))
-              (passed-refuse (hasZero (z .ku - gapU z) (λ j. tritAt (i .u .ones) (i .u .twos) (gapU z + j))) 8 0 (lit< tt) (F .1) .0);
+              (passed-refuse (lastHasZero z i) 8 0 (lit< tt) (F .1) .0);
         }
 
 -- what the tests of the secret have shown, its words being words

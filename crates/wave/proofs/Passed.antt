@@ -18,8 +18,8 @@ use Rattle.scheme.specs.Draw.{choicesFit, drawRefusal}
 use Rattle.scheme.proofs.Zeros.{noZero-of}
 use Rattle.calls.specs.Lent.{Planes, secretOf, pairDiffers, secretRefusal, secretRefusalUnder}
 use Rattle.calls.specs.BuildCall.{BuildCall, buildLengthsDiffer, buildAnswer, buildAnswerUnder}
-use Rattle.calls.specs.DrawCall.{DrawCall, syndromeOf, choicesOf, drawWorkWords, choicesDiffer, drawLengthsDiffer, choicesRefusal, choicesRefusalUnder}
-use Rattle.calls.specs.DrawCall.{drawAnswer, drawAnswerUnder}
+use Rattle.calls.specs.DrawCall.{DrawCall, syndromeOf, choicesOf, drawWorkWords, choicesDiffer, drawLengthsDiffer, lastHasZero}
+use Rattle.calls.specs.DrawCall.{choicesRefusal, choicesRefusalUnder, drawAnswer, drawAnswerUnder}
 use Rattle.calls.proofs.Secrets.{differs}
 
 -- ---- the secret, whatever the gaps and w are
@@ -69,7 +69,7 @@ pub record DrawPassed (z : Sizes) (l : DrawCall) : Type 0 where
   pub trits-v : planesRefusal (l .v .ones) (l .v .twos) 1 (z .kv) ≡ 0
   pub order-u : isOrder (half z) (l .orderU) ≡ true
   pub values-u : planesRefusal (l .u .ones) (l .u .twos) 1 (z .ku) ≡ 0
-  pub last-u : hasZero (z .ku - gapU z) (λ j. tritAt (l .u .ones) (l .u .twos) (gapU z + j)) ≡ false
+  pub last-u : lastHasZero z l ≡ false
   pub draws : drawRefusal z (secretOf z (l .secret)) (l .p) (syndromeOf l) (choicesOf l) ≡ 0
 
 pub draw-call : (z : Sizes) (l : DrawCall) → drawAnswer z l ≡ 0 → DrawPassed z l
@@ -85,7 +85,7 @@ draw-call z l e =
     let i = passed-first (planesRefusal (l .v .ones) (l .v .twos) 1 (z .kv)) _ (h .1) in
     let j = passed-demand (isOrder (half z) (l .orderU)) 7 _ (lit< tt) (i .1) in
     let k = passed-first (planesRefusal (l .u .ones) (l .u .twos) 1 (z .ku)) _ (j .1) in
-    let m = passed-refuse (hasZero (z .ku - gapU z) (λ j. tritAt (l .u .ones) (l .u .twos) (gapU z + j))) 8 0 (lit< tt) (k .1) in
+    let m = passed-refuse (lastHasZero z l) 8 0 (lit< tt) (k .1) in
     record {
       sizes = a .0;
       lengths = b .0;

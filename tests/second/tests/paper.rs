@@ -233,6 +233,23 @@ fn gaps_at_the_edges() {
     }
 }
 
+/// At w = 2, V trit 2 and U value 0 make 1200 where g_U is 1, and are refused 8 where it is 0, whatever g_V is.
+#[test]
+fn zeros_from_the_gap_of_u_on() {
+    let s = secret();
+    let (hu, hv, b, c) = (planes(&s.hu), planes(&s.hv), planes(std::slice::from_ref(&s.b)), planes(std::slice::from_ref(&s.c)));
+    let lent = SecretWords { hu: [&hu.0, &hu.1], hv: [&hv.0, &hv.1], b: [&b.0, &b.1], c: [&c.0, &c.1] };
+    let (y, vt, uv) = (planes(&rows(&["12"])), planes(&rows(&["2"])), planes(&rows(&["0"])));
+    for (gv, gu, refusal) in [(0, 0, 8), (1, 0, 8), (0, 1, 0), (1, 1, 0)] {
+        let z = Sizes { n: 4, ku: 1, kv: 1, gv, gu, w: 2 };
+        let given = DrawWords { p: &[0, 1, 2, 3], y: [&y.0, &y.1], v_order: &[0, 1], v_trits: [&vt.0, &vt.1], u_order: &[0, 1], u_values: [&uv.0, &uv.1] };
+        let (mut word1, mut word2, mut s1, mut s2, mut w1, mut w2) = ([9], [9], [9], [9], [3; 6], [4; 6]);
+        assert_eq!(draw(z, lent, given, [&mut word1, &mut word2], [&mut s1, &mut s2], [&mut w1, &mut w2]), refusal, "g_V = {gv}, g_U = {gu}");
+        let left = if refusal == 0 { ([1], [2], [0], [0], [0; 6], [0; 6]) } else { ([9], [9], [9], [9], [3; 6], [4; 6]) };
+        assert_eq!((word1, word2, s1, s2, w1, w2), left);
+    }
+}
+
 /// A draw at n = 8 (k_U = 2, k_V = 1) whose V order lacks rank without a gap of V, and whose U order lacks it without a gap of U.
 #[test]
 fn each_gap_widens_its_own_part() {

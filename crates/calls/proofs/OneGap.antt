@@ -6,8 +6,12 @@ use native.Mathlib.Omega.{arith}
 use borrow.Author.Tests.{leb-true, leb-false, le-leb}
 use lib.Dec.{leb}
 use Rattle.scheme.specs.declared.sizes.Sizes.{Sizes}
-use Rattle.scheme.specs.Sizes.{GapsTest, gapsFit, sizesFitUnder}
-use Rattle.calls.specs.BuildCall.{BuildCall, buildAnswerUnder, orderExitUnder, keyExitUnder, buildWorkExitUnder}
+use Rattle.scheme.specs.Sizes.{sized, GapsTest, gapsFit, sizesFit, sizesFitUnder}
+use Rattle.scheme.specs.Secret.{secretMatrix}
+use Rattle.scheme.specs.Build.{buildRefusal}
+use Rattle.calls.specs.Lent.{secretDiffers, secretRefusalUnder}
+use Rattle.calls.specs.BuildCall.{BuildCall, keyDiffers, buildLengthsDiffer, buildAnswerUnder, orderExitUnder, keyOnesOf, keyTwosOf}
+use Rattle.calls.specs.BuildCall.{keyExitUnder, buildWorkExitUnder}
 use Rattle.calls.specs.DrawCall.{DrawCall, drawAnswerUnder, wordExitUnder, sExitUnder, drawWorkExitUnder}
 use Rattle.calls.specs.OneGap.{OneGap, inBoth, oneGapFits, ReadOneGap, buildEnd, buildNow, buildWithOneGap, drawEnd, drawNow, drawWithOneGap}
 
@@ -52,3 +56,11 @@ build-as-before o i = same-build gapsFit (oneGapFits (o .g)) (inBoth o) (both-fi
 
 pub draw-as-before : (o : OneGap) (i : DrawCall) → drawNow (inBoth o) i ≡ drawWithOneGap o i
 draw-as-before o i = same-draw gapsFit (oneGapFits (o .g)) (inBoth o) (both-fit o) i
+
+-- ---- a build reads no gap and no weight: once they are in their ranges it does the same at any others
+
+pub build-any-gaps : (z : Sizes) (gv gu w : ℕ) (i : BuildCall) → sizesFit z ≡ true → sizesFit (sized z gv gu w) ≡ true
+    → buildNow (sized z gv gu w) i ≡ buildNow z i
+unfolding buildAnswerUnder buildLengthsDiffer keyDiffers secretDiffers secretRefusalUnder buildRefusal secretMatrix orderExitUnder keyExitUnder keyOnesOf
+    keyTwosOf buildWorkExitUnder
+build-any-gaps z gv gu w i h k = rw (h, k)

@@ -38,6 +38,10 @@ gapV z = z .gv
 abbrev pub gapU : Sizes → ℕ
 gapU z = z .gu
 
+-- the same sizes with other gaps and another w
+abbrev pub sized : Sizes → ℕ → ℕ → ℕ → Sizes
+sized z gv gu w = record { n = z .n; ku = z .ku; kv = z .kv; gv = gv; gu = gu; w = w }
+
 -- a test of the gaps: the one below, or the one of before (request C-18)
 abbrev pub GapsTest : Type 0
 GapsTest = Sizes → Bool

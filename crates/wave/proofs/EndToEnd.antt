@@ -38,7 +38,7 @@ use Rattle.check_tests.proofs.Passed.{check-packed-passed, packed-contents}
 use Rattle.checker.proofs.EndToEnd.{begun, offered, loaded}
 use Rattle.checker.proofs.Verdicts.{packed-agrees}
 use Rattle.scheme.specs.declared.sizes.Sizes.{Sizes}
-use Rattle.scheme.specs.Sizes.{half, places, dim, codim, gapsFit, sizesFit, sizesFitUnder}
+use Rattle.scheme.specs.Sizes.{half, places, dim, codim, gapsFit, sizesFit, sizesFitUnder, sized}
 use Rattle.scheme.specs.Build.{keyRow}
 use Rattle.scheme.specs.Draw.{signature}
 use Rattle.scheme.proofs.Ranges.{sizes-fit, codim-dim}
@@ -46,7 +46,7 @@ use Rattle.calls.specs.Lent.{secretOf, pairDiffers}
 use Rattle.calls.specs.BuildCall.{BuildCall, keyRowWords, keyExit}
 use Rattle.calls.specs.DrawCall.{DrawCall, choicesDiffer, drawLengthsDiffer, drawAnswer, wordOf, sExit}
 use Rattle.calls.proofs.Secrets.{pair-same, differs}
-use Rattle.wave.specs.Terms.{Built, builtKey, sized, Under, HandsOut, KeyTerms}
+use Rattle.wave.specs.Terms.{Built, builtKey, Under, HandsOut, KeyTerms}
 use Rattle.wave.specs.Verifier.{Host, packedKeyRow, carried, carriedCheck, carriedPlanes, yes, Accepts}
 use Rattle.wave.proofs.Written.{written-passes}
 use Rattle.wave.proofs.Passed.{DrawPassed, draw-call}

@@ -23,7 +23,7 @@ use Rattle.matrix.proofs.Solutions.{solve-is}
 use Rattle.verdict.specs.Verdict.{Key, HasSyndrome}
 use Rattle.verdict.proofs.FullWord.{syndrome-cong}
 use Rattle.scheme.specs.declared.sizes.Sizes.{Sizes}
-use Rattle.scheme.specs.Sizes.{half, places, dim, ru, rv, codim, gapV, gapU, sizesFit}
+use Rattle.scheme.specs.Sizes.{half, places, dim, ru, rv, codim, gapV, gapU, sizesFit, sized}
 use Rattle.scheme.specs.Secret.{Secret, join, leftOf, rightOf, uOf, vOf, whole, secretMatrix}
 use Rattle.scheme.specs.Build.{arranged, keyOrder, keyRow}
 use Rattle.scheme.specs.Draw.{Choices, placed, pivotsV, suppliedV, drawV, firstU, pivotsU, lastU, forced, suppliedU, drawU, drawn}
@@ -32,7 +32,7 @@ use Rattle.scheme.proofs.Ranges.{sizes-fit, codim-dim}
 use Rattle.scheme_laws.proofs.Ended.{Builds, build-passed, build-ends}
 use Rattle.scheme_laws.proofs.Draws.{Valid, choices-valid, valid-choices, Passes, passes-released, released-passes, parts, first-below, either-part, keptV}
 use Rattle.scheme_laws.proofs.Draws.{keptU, drawV-good, drawU-good, last-below, last-pair}
-use Rattle.wave.specs.Terms.{sized, Terms}
+use Rattle.wave.specs.Terms.{Terms}
 use Rattle.wave.specs.Vectors.{Released, Releases}
 use Rattle.wave.proofs.Syndrome.{syndrome-iff}
 

@@ -21,7 +21,7 @@ use Rattle.matrix.specs.Orders.{Order}
 use Rattle.matrix.proofs.Places.{elem-at}
 use Rattle.matrix.proofs.Orders.{order-good, test-order}
 use Rattle.scheme.specs.declared.sizes.Sizes.{Sizes}
-use Rattle.scheme.specs.Sizes.{half, places, dim, codim, gapU, sizesFit, sizesFitUnder}
+use Rattle.scheme.specs.Sizes.{half, places, dim, codim, gapU, sizesFit, sizesFitUnder, sized}
 use Rattle.scheme.specs.Secret.{Secret, noZero}
 use Rattle.scheme.specs.Build.{keyOrder, keyRow}
 use Rattle.scheme.specs.Draw.{Choices, drawn, drawRefusal, signature}
@@ -32,7 +32,7 @@ use Rattle.scheme_laws.proofs.Draws.{Valid}
 use Rattle.calls.specs.Lent.{secretOf, secretDiffers, secretRefusal, secretRefusalUnder}
 use Rattle.calls.specs.BuildCall.{BuildCall, keyRowWords, orderExit, orderExitUnder, keyOnesOf, keyTwosOf, keyExit, keyExitUnder}
 use Rattle.calls.specs.DrawCall.{DrawCall, choicesOf, drawWorkWords, drawLengthsDiffer, drawAnswer, wordOf, wordExit, wordExitUnder, sExit, sExitUnder}
-use Rattle.wave.specs.Terms.{Built, builtKey, sized, LentSyndrome, LentAs, Under, HandsOut, Bits, SomeDraw, KeyTerms}
+use Rattle.wave.specs.Terms.{Built, builtKey, LentSyndrome, LentAs, Under, HandsOut, Bits, SomeDraw, KeyTerms}
 use Rattle.wave.specs.Vectors.{Released, Releases}
 use Rattle.wave.proofs.Written.{written-back, written-passes, ones-words, twos-words, zero-words, rows-part}
 use Rattle.wave.proofs.Cut.{cut, cut-valid, cut-passed, cut-word}

@@ -12,13 +12,12 @@ use Rattle.matrix.proofs.Greedy.{Kept}
 use Rattle.verdict.specs.Verdict.{Key, fullCounts, saysYes}
 use Rattle.verdict.proofs.FullWord.{counts-of, yes-sum}
 use Rattle.scheme.specs.declared.sizes.Sizes.{Sizes}
-use Rattle.scheme.specs.Sizes.{places, dim, codim, sizesFit}
+use Rattle.scheme.specs.Sizes.{places, dim, codim, sizesFit, sized}
 use Rattle.scheme.specs.Secret.{Secret, secretMatrix}
 use Rattle.scheme.specs.Build.{arranged}
 use Rattle.scheme.specs.Draw.{signature}
 use Rattle.scheme.proofs.Ranges.{codim-dim}
 use Rattle.scheme_laws.proofs.Ended.{build-passed, build-ends}
-use Rattle.wave.specs.Terms.{sized}
 use Rattle.wave.specs.Vectors.{Released, Releases}
 use Rattle.wave.proofs.Reach.{reach}
 

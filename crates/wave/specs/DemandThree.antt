@@ -10,10 +10,10 @@ use Rattle.packed.specs.Packed.{packedRow}
 use Rattle.matrix.specs.Linear.{Vector}
 use Rattle.check_tests.specs.Check.{Check, checkAnswer, PackedCheck, checkPackedAnswer}
 use Rattle.scheme.specs.declared.sizes.Sizes.{Sizes}
-use Rattle.scheme.specs.Sizes.{sizesFit}
+use Rattle.scheme.specs.Sizes.{sizesFit, sized}
 use Rattle.calls.specs.BuildCall.{BuildCall}
 use Rattle.calls.specs.DrawCall.{DrawCall}
-use Rattle.wave.specs.Terms.{Built, sized, LentSyndrome, LentAs, Under, HandsOut, SomeDraw, KeyTerms}
+use Rattle.wave.specs.Terms.{Built, LentSyndrome, LentAs, Under, HandsOut, SomeDraw, KeyTerms}
 use Rattle.wave.specs.Verifier.{HeldExtending, HeldFound, Host, carriedCheck, carriedPlanes, Accepts}
 
 pub record DemandThree : Type 0 where

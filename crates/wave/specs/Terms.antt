@@ -13,7 +13,7 @@ use Rattle.matrix.specs.Linear.{Vector, elem, without, range, rank}
 use Rattle.matrix.specs.Orders.{Distinct}
 use Rattle.verdict.specs.Verdict.{Key, HasSyndrome}
 use Rattle.scheme.specs.declared.sizes.Sizes.{Sizes}
-use Rattle.scheme.specs.Sizes.{half, places, dim, ru, codim}
+use Rattle.scheme.specs.Sizes.{half, places, dim, ru, codim, sized}
 use Rattle.scheme.specs.Secret.{Secret}
 use Rattle.scheme.specs.Draw.{placed}
 use Rattle.calls.specs.Lent.{secretOf}
@@ -30,7 +30,7 @@ pub record PairSet (N count : ℕ) : Type 0 where
   pub below : (q : ℕ) → elem q pairs ≡ true → q < N
 
 -- the five terms, at a gap g_U and a weight w: weight w; the syndrome y; k_U - g_U distinct secret pairs; both trits of each not 0; H_U keeps rank
--- r_U on the other pairs. The gap of V is none of them
+-- r_U on the other pairs. g_V stands in none of them
 -- (the word e is in public places, and `placed p e` is the same word in secret places: public
 -- trit i stands at secret place p(i), pair j is secret places j and N + j)
 pub record Terms (z : Sizes) (gu w : ℕ) (s : Secret) (p : List ℕ) (R : Key) (y e : Vector) : Type 0 where
@@ -50,11 +50,7 @@ Built z i = buildAnswer z i ≡ 0
 unfoldable pub builtKey : Sizes → BuildCall → Key
 builtKey z i j = tritAt (rowPart (keyExit z i .ones) (dim z) (keyRowWords z) j) (rowPart (keyExit z i .twos) (dim z) (keyRowWords z) j)
 
--- ---- a draw under it
-
--- the same sizes, but g_V, g_U and w may be others
-abbrev pub sized : Sizes → ℕ → ℕ → ℕ → Sizes
-sized z gv gu w = record { n = z .n; ku = z .ku; kv = z .kv; gv = gv; gu = gu; w = w }
+-- ---- a draw under it, at the sizes `sized z gv gu w`: g_V, g_U and w may be others than the build's
 
 -- y as it is lent: n-k trits in two planes
 pub record LentSyndrome (z : Sizes) (ones twos : List ℕ) : Type 0 where

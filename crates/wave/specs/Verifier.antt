@@ -18,10 +18,9 @@ use Rattle.held_key.specs.Store.{beginHeld}
 use Rattle.held_key.specs.Load.{Holding, offerAll}
 use Rattle.check_tests.specs.Check.{Check, PackedCheck}
 use Rattle.scheme.specs.declared.sizes.Sizes.{Sizes}
-use Rattle.scheme.specs.Sizes.{places, dim, codim}
+use Rattle.scheme.specs.Sizes.{places, dim, codim, sized}
 use Rattle.calls.specs.BuildCall.{BuildCall, keyRowWords, keyExit}
 use Rattle.calls.specs.DrawCall.{DrawCall, sExit}
-use Rattle.wave.specs.Terms.{sized}
 
 -- ---- what a check finds: its answer is `checkAnswer`, or `checkPackedAnswer` where y and s are packed
 

@@ -19,6 +19,11 @@ pub enum Call {
 
 pub const CALLS: [Call; 8] = [Call::Pack, Call::Unpack, Call::Stream, Call::Begin, Call::Store, Call::Check, Call::Build, Call::Draw];
 
+/// Where the gaps and the weight stand among the numbers of a build and of a draw.
+pub const GAP_V: usize = 3;
+pub const GAP_U: usize = 4;
+pub const WEIGHT: usize = 5;
+
 impl Call {
     pub fn name(self) -> &'static str {
         match self {
@@ -233,7 +238,7 @@ pub fn held(numbers: &[u64]) -> Held {
 }
 
 pub fn sizes(numbers: &[u64]) -> Sizes {
-    Sizes { n: numbers[0], ku: numbers[1], kv: numbers[2], gv: numbers[3], gu: numbers[4], w: numbers[5] }
+    Sizes { n: numbers[0], ku: numbers[1], kv: numbers[2], gv: numbers[GAP_V], gu: numbers[GAP_U], w: numbers[WEIGHT] }
 }
 
 pub fn stored(answer: Stored) -> Vec<u64> {

@@ -1,7 +1,7 @@
 //! Makes a call both ways and compares the answer, the state and every buffer word by word.
 
 use crate::archive::Archives;
-use crate::case::{second_outcome, Buffer, Call, Case, Outcome, CALLS};
+use crate::case::{second_outcome, Buffer, Call, Case, Outcome, CALLS, GAP_U, GAP_V};
 use crate::damage::{faults, Fault};
 use crate::rng::Rng;
 use std::collections::{BTreeMap, BTreeSet};
@@ -85,7 +85,7 @@ impl Comparer {
             eprintln!("{} {:?} {why:?}", case.call.name(), case.numbers);
         }
         *self.counts.entry((case.call, told(case.call, &second.answer))).or_default() += 1;
-        if case.call == Call::Draw && second.refusal() != 1 && case.numbers[3] != case.numbers[4] {
+        if case.call == Call::Draw && second.refusal() != 1 && case.numbers[GAP_V] != case.numbers[GAP_U] {
             self.unequal += 1;
             self.unequal_released += (second.refusal() == 0) as u64;
         }

@@ -1,6 +1,6 @@
 //! Sound cases of each call at given sizes. Outputs and working space hold anything at entry.
 
-use crate::case::{Buffer, Call, Case, Edge, Role};
+use crate::case::{Buffer, Call, Case, Edge, Role, GAP_U, GAP_V, WEIGHT};
 use crate::rng::Rng;
 use second::algebra::weight;
 use second::draw::{drawn_word, Choices};
@@ -113,9 +113,6 @@ pub fn check(rng: &mut Rng, n: usize, k: usize) -> Case {
 
 // ---- the editor's half
 
-/// Where the weight stands among the numbers of a build or a draw.
-pub const WEIGHT: usize = 5;
-
 /// Sizes of a secret; the weight comes later.
 #[derive(Clone, Copy, Debug)]
 pub struct Shape {
@@ -163,8 +160,8 @@ impl Shape {
         let mut out = [edges(0, 1, &[0, 2, n - 1, n + 1, 16385, 16386]), far(0, n, 1)].concat();
         out.extend([edges(1, 1, &[0, half, n]), far(1, ku, 1)].concat());
         out.extend([edges(2, 1, &[0, half, n]), far(2, kv, 1)].concat());
-        out.extend([edges(3, 1, &[kv + 1, n]), far(3, gv, 1)].concat());
-        out.extend([edges(4, 1, &[ku + 1, n]), far(4, gu, 1)].concat());
+        out.extend([edges(GAP_V, 1, &[kv + 1, n]), far(GAP_V, gv, 1)].concat());
+        out.extend([edges(GAP_U, 1, &[ku + 1, n]), far(GAP_U, gu, 1)].concat());
         out.extend([edges(WEIGHT, 1, &[0, n + 1]), far(WEIGHT, w as u64, 1)].concat());
         // k_U below g_U, k_V below g_V
         if gu > 1 {

@@ -1,9 +1,9 @@
 //! Which cases are run: sizes at every edge with every fault, pairs of faults, round trips, and cases by chance.
 
-use crate::case::{Buffer, Call, Case, Role, CALLS};
+use crate::case::{Buffer, Call, Case, Role, CALLS, GAP_U, GAP_V, WEIGHT};
 use crate::compare::Comparer;
 use crate::damage::{faults, Fault};
-use crate::make::{self, SecretPlanes, Shape, WEIGHT};
+use crate::make::{self, SecretPlanes, Shape};
 use crate::rng::Rng;
 use second::algebra::weight;
 use second::packing::{bytes, packed};
@@ -230,8 +230,8 @@ pub fn gaps(c: &mut Comparer) {
             let shape = Shape { n, ku, kv, gv: gv.min(kv), gu: gu.min(ku) };
             let rule = (gv > kv || gu > ku) as u64;
             for mut case in [make::build(&mut c.rng, &shape), make::draw(&mut c.rng, &shape)] {
-                case.numbers[3] = gv as u64;
-                case.numbers[4] = gu as u64;
+                case.numbers[GAP_V] = gv as u64;
+                case.numbers[GAP_U] = gu as u64;
                 answers(c, &case, rule);
             }
             for zero in 0..ku {

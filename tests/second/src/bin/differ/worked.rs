@@ -1,6 +1,6 @@
 //! The paper's worked cases, made by the proved code and held to the paper's own values.
 
-use crate::case::{Buffer, Call, Case};
+use crate::case::{Buffer, Call, Case, GAP_U, GAP_V};
 use crate::compare::Comparer;
 use second::packing::packed;
 use second::planes::planes;
@@ -107,7 +107,8 @@ pub fn cases(c: &mut Comparer) {
     // at w = 2, V trit 2 and U value 0: with a gap of U, and of V or not, 1200; with a gap of V alone 8
     for (gv, gu, refusal) in [(0, 1, 0), (1, 1, 0), (1, 0, 8), (0, 0, 8), (2, 1, 1), (0, 2, 1)] {
         let mut drawn = draw(2, "2", "0");
-        drawn.numbers[3..5].copy_from_slice(&[gv, gu]);
+        drawn.numbers[GAP_V] = gv;
+        drawn.numbers[GAP_U] = gu;
         let ([w1, w2], [s1, s2]) = if refusal == 0 { (pair("1200"), pair("00")) } else { ([one(1), one(2)], [one(3), one(4)]) };
         let work = |held: u64| Words(vec![if refusal == 0 { 0 } else { held }; 6]);
         expect(c, drawn, &[refusal], &[(17, w1), (18, w2), (19, s1), (20, s2), (21, work(5)), (22, work(6))]);

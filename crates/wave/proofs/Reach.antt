@@ -416,28 +416,17 @@ released-builds z s start p R re gv gu w h =
     let b = build-passed z s start (re .given) (re .passed) in
     record { ranges = sizes-fit (sized z gv gu w) h; unit = b .unit; order = b .order; full-u = b .full-u; full-v = b .full-v }
 
--- the terms at the sizes of a draw are those at the sizes of the build, and under a key with the same rows
-module _ (z : Sizes) (gv gu w : ℕ) (s : Secret) (p : List ℕ) (R Q : Key) (y e : Vector)
-    (same : (i j : ℕ) → i < dim z → j < codim z → R i j ≡ Q i j) where
-  terms-built : Terms (sized z gv gu w) gu w s p R y e → Terms z gu w s p Q y e
-  terms-built f =
-      record {
-        weighs = f .weighs;
-        has-syndrome = λ j l. syndrome-cong (codim z) (dim z) Q R e e (λ q b. refl) (λ i j a b. sym (same i j a b)) j l ∙ f .has-syndrome j l;
-        chosen = f .chosen;
-        both-nonzero = f .both-nonzero;
-        keeps-rank = f .keeps-rank;
-      }
-
-  terms-drawn : Terms z gu w s p Q y e → Terms (sized z gv gu w) gu w s p R y e
-  terms-drawn f =
-      record {
-        weighs = f .weighs;
-        has-syndrome = λ j l. syndrome-cong (codim z) (dim z) R Q e e (λ q b. refl) same j l ∙ f .has-syndrome j l;
-        chosen = f .chosen;
-        both-nonzero = f .both-nonzero;
-        keeps-rank = f .keeps-rank;
-      }
+-- the terms read no gap and no w of the sizes that they are given, and are the same under a key with the same rows
+terms-sized : (z : Sizes) (gap other weight gu w : ℕ) (s : Secret) (p : List ℕ) (R Q : Key) (y e : Vector)
+    → ((i j : ℕ) → i < dim z → j < codim z → R i j ≡ Q i j) → Terms z gu w s p R y e → Terms (sized z gap other weight) gu w s p Q y e
+terms-sized z gap other weight gu w s p R Q y e same f =
+    record {
+      weighs = f .weighs;
+      has-syndrome = λ j l. syndrome-cong (codim z) (dim z) Q R e e (λ q b. refl) (λ i j a b. sym (same i j a b)) j l ∙ f .has-syndrome j l;
+      chosen = f .chosen;
+      both-nonzero = f .both-nonzero;
+      keeps-rank = f .keeps-rank;
+    }
 
 -- demand 3: for any key that a build released, any gaps and w allowed, any y and any word, some draw releases the word exactly when the terms hold
 pub reach : (z : Sizes) (s : Secret) (start p : List ℕ) (R : Key) → Released z s start p R
@@ -446,16 +435,13 @@ pub reach : (z : Sizes) (s : Secret) (start p : List ℕ) (R : Key) → Released
 unfolding secretMatrix
 reach z s start p R re gv gu w h y e = (
   (λ r. subst (λ (p : List ℕ). Terms z gu w s p R y e) (sym (re .order))
-      (terms-built z gv gu w s (keyOrder z s start) (keyRow z s start) R y e rows
+      (terms-sized (sized z gv gu w) (z .gv) (z .gu) (z .w) gu w s (keyOrder z s start) (keyRow z s start) R y e (λ i j a b. sym (re .rows i j a b))
       (released-terms (sized z gv gu w) s start y e bu (subst (λ (p : List ℕ). Releases (sized z gv gu w) s p y e) (re .order) r)))),
   λ t. subst (λ (p : List ℕ). Releases (sized z gv gu w) s p y e) (sym (re .order))
       (terms-released (sized z gv gu w) s start y e bu
-      (terms-drawn z gv gu w s (keyOrder z s start) (keyRow z s start) R y e rows
+      (terms-sized z gv gu w gu w s (keyOrder z s start) R (keyRow z s start) y e (re .rows)
       (subst (λ (p : List ℕ). Terms z gu w s p R y e) (re .order) t))),
 )
   where
     bu : Builds (sized z gv gu w) s start
     bu = released-builds z s start p R re gv gu w h
-
-    rows : (i j : ℕ) → i < dim z → j < codim z → keyRow z s start i j ≡ R i j
-    rows i j a b = sym (re .rows i j a b)

@@ -1,0 +1,31 @@
+-- The two parities are their definitions, at x - 1 and x + 1 modulo 5.
+-- Assumes nothing.
+use Rattle.keccak.specs.Keccak.{twoParities}
+use Rattle.keccak.specs.Lanes.{laneAt}
+use borrow.Author.Needs.{needs}
+use Rattle.keccak.proofs.steps.two_parities.Statement.{statement}
+use Rattle.keccak.proofs.steps.two_parities.Tie as tie
+
+add-parity : tie.Need-add-parity
+add-parity c = search needs
+
+parity-requires : tie.Need-parity-requires
+parity-requires c κs = search needs
+
+add-parity-2 : tie.Need-add-parity-2
+add-parity-2 c = search needs
+
+parity-requires-2 : tie.Need-parity-requires-2
+parity-requires-2 c κs = search needs
+
+turn-requires : tie.Need-turn-requires
+turn-requires c κs = search needs
+
+returns : tie.Need-returns
+unfolding twoParities
+returns c = cc
+
+pub two-parities-spec : {M : Type 1} → statement M
+two-parities-spec =
+    tie.close
+    (tie.spec add-parity parity-requires add-parity-2 parity-requires-2 turn-requires returns)

@@ -1,0 +1,3 @@
+-- The laws that the functions' proofs cite, and that callers may.
+pub mod Bytes
+pub mod Sponge

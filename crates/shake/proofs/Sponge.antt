@@ -1,0 +1,106 @@
+-- The states of the sponge: blocks absorbed one after another, and the output squeezed. Assumes nothing.
+use mathlib.Core.Path.{_≡_, refl, sym, ap, _∙_, fun-ext}
+use mathlib.Core.Bool.{Bool, cond, true, false}
+use mathlib.Core.List.{List}
+use Prim.Native.Nat.{ℕ, zero, suc, _+_, _*_, _/_, _%_, _^_, _≤_, _<_}
+use native.Mathlib.Decide.{decLt, ℕ-discrete}
+use native.Mathlib.Nat.{mod-lt}
+use native.Mathlib.Numerals.{add-one}
+use native.Mathlib.Omega.{arith}
+use borrow.Author.Tests.{lt-ltb, le-ltb, eq-eqb, ne-eqb}
+use lib.Bits.{bitXor}
+use lib.Dec.{ltb, eqb, lit<}
+use lib.ListN.{length, getD}
+use Rattle.trits.specs.Planes.{tabulate}
+use Rattle.keccak.specs.Keccak.{State, permuted}
+use Rattle.keccak.specs.Lanes.{laneAt, sheetOf, lanesOf}
+use Rattle.keccak.proofs.Lanes.{Same, lane-of, same-lanes, same-permuted}
+use Rattle.shake.specs.Shake.{rate, paddedByte, wordOf, added, absorbed, blocksOf, stateByte, squeezed, squeezedByte, shake256}
+use Rattle.shake.specs.Steps.{absorbedBlock, advanced}
+
+-- ---- a block is read at its own places, and a state at its 25 lanes
+
+module _ {f g : ℕ → ℕ} (h : (i : ℕ) → i < rate → f i ≡ g i) where
+  same-word : (p : ℕ) → p + 8 ≤ rate → wordOf f p ≡ wordOf g p
+  unfolding wordOf
+  same-word p l =
+      rw (h p (omega arith), h (p + 1) (omega arith), h (p + 2) (omega arith), h (p + 3) (omega arith), h (p + 4) (omega arith), h (p + 5) (omega arith),
+        h (p + 6) (omega arith), h (p + 7) (omega arith))
+
+  pub same-added : {a b : State} → Same a b → Same (added f a) (added g b)
+  unfolding added
+  same-added {a} {b} s x y hx hy = by (decLt (8 * (5 * y + x)) rate)
+    where
+      by : Dec (8 * (5 * y + x) < rate)
+          → cond (ltb (8 * (5 * y + x)) rate) (bitXor (a x y) (wordOf f (8 * (5 * y + x)))) (a x y)
+          ≡ cond (ltb (8 * (5 * y + x)) rate) (bitXor (b x y) (wordOf g (8 * (5 * y + x)))) (b x y)
+      by (yes l) = rw (lt-ltb (8 * (5 * y + x)) rate l, s x y hx hy, same-word (8 * (5 * y + x)) (omega arith))
+      by (no n) = rw (le-ltb (8 * (5 * y + x)) rate (omega arith), s x y hx hy)
+
+-- ---- absorbing
+
+-- a block added and permuted in arrays
+pub block-made : {f : ℕ → ℕ} (message : List ℕ) (start : ℕ) (a : List (List ℕ)) {next made : List (List ℕ)} → ((i : ℕ) → i < rate → f i ≡ paddedByte message (start + i))
+    → next ≡ lanesOf (added f (laneAt a)) → made ≡ lanesOf (permuted (laneAt next)) → made ≡ absorbedBlock message start a
+unfolding absorbedBlock
+block-made {f} message start a {next} {made} h en em =
+    em ∙ same-lanes (same-permuted (λ x y hx hy. ap (λ (l : List (List ℕ)). laneAt l x y) en ∙ lane-of (added f (laneAt a)) x y hx hy
+      ∙ same-added h (λ x y hx hy. refl) x y hx hy))
+
+pub absorbed-none : (message : List ℕ) {a : List (List ℕ)} → a ≡ lanesOf (λ x y. 0) → a ≡ lanesOf (absorbed message 0)
+unfolding absorbed
+absorbed-none message e = e
+
+pub absorbed-next : (message : List ℕ) (j : ℕ) {a next : List (List ℕ)} → a ≡ lanesOf (absorbed message j) → next ≡ absorbedBlock message (rate * j) a
+    → next ≡ lanesOf (absorbed message (j + 1))
+unfolding absorbedBlock absorbed
+absorbed-next message j {a} {next} e f =
+    f ∙ same-lanes (same-permuted (same-added {f = λ i. paddedByte message (rate * j + i)} (λ i l. refl)
+      (λ x y hx hy. ap (λ (l : List (List ℕ)). laneAt l x y) e ∙ lane-of (absorbed message j) x y hx hy)))
+    ∙ ap (λ (k : ℕ). lanesOf (absorbed message k)) (sym (add-one j))
+
+-- ---- squeezing
+
+pub same-byte : {a b : State} → Same a b → (i : ℕ) → i < rate → stateByte a i ≡ stateByte b i
+unfolding stateByte
+same-byte s i l = rw (s (i / 8 % 5) (i / 40) (mod-lt (i / 8) (lit< tt)) (omega arith))
+
+same-squeezed : {a b : State} → Same a b → (j : ℕ) → Same (squeezed a j) (squeezed b j)
+unfolding squeezed
+same-squeezed s zero = s
+same-squeezed s (suc j) = same-permuted (same-squeezed s j)
+
+-- the arrays b from which byte i of the output of a state is taken
+pub record Gives (s : State) (i : ℕ) (b : List (List ℕ)) : Type 0 where
+  pub reads : Same (laneAt b) (squeezed s (i / rate))
+
+pub gives-first : (s : State) (b : List (List ℕ)) → Same (laneAt b) s → Gives s 0 b
+unfolding squeezed
+gives-first s b h = record { reads = h }
+
+pub gives-byte : {s : State} {i : ℕ} {b : List (List ℕ)} → Gives s i b → stateByte (laneAt b) (i % rate) ≡ squeezedByte s i
+unfolding squeezedByte
+gives-byte {s} {i} h = same-byte (h .reads) (i % rate) (mod-lt i (lit< tt))
+
+pub gives-next : {s : State} {i : ℕ} {b next : List (List ℕ)} → Gives s i b → next ≡ advanced b (i + 1) → Gives s (i + 1) next
+unfolding advanced squeezed
+gives-next {s} {i} {b} {next} h e = record { reads = by (ℕ-discrete ((i + 1) % rate) 0) }
+  where
+    arrays : {t : Bool} → eqb ((i + 1) % rate) 0 ≡ t → next ≡ cond t (lanesOf (permuted (laneAt b))) b
+    arrays f = e ∙ ap (λ (t : Bool). cond t (lanesOf (permuted (laneAt b))) b) f
+    by : Dec ((i + 1) % rate ≡ 0) → Same (laneAt next) (squeezed s ((i + 1) / rate))
+    by (yes z) x y hx hy =
+        let d : (i + 1) / rate ≡ suc (i / rate) = omega arith in
+        ap (λ (l : List (List ℕ)). laneAt l x y) (arrays (eq-eqb ((i + 1) % rate) 0 z)) ∙ lane-of (permuted (laneAt b)) x y hx hy
+        ∙ same-permuted (h .reads) x y hx hy ∙ ap (λ (k : ℕ). squeezed s k x y) (sym d)
+    by (no n) x y hx hy =
+        let g : ((i + 1) % rate ≡ 0) → ⊥ = n in
+        let d : (i + 1) / rate ≡ i / rate = omega arith in
+        ap (λ (l : List (List ℕ)). laneAt l x y) (arrays (ne-eqb ((i + 1) % rate) 0 n)) ∙ h .reads x y hx hy
+        ∙ ap (λ (k : ℕ). squeezed s k x y) (sym d)
+
+-- the output of arrays is that of the state which they hold
+pub squeezed-held : {a : List (List ℕ)} (s : State) → a ≡ lanesOf s → squeezedByte (laneAt a) ≡ squeezedByte s
+unfolding squeezedByte
+squeezed-held {a} s e =
+    fun-ext (λ i. same-byte (same-squeezed (λ x y hx hy. ap (λ (l : List (List ℕ)). laneAt l x y) e ∙ lane-of s x y hx hy) (i / rate)) (i % rate) (mod-lt i (lit< tt)))

@@ -1,0 +1,78 @@
+-- A turn writes one byte of the output, and goes on to the state of the next (`Gives`).
+-- Assumes nothing.
+use native.Mathlib.Omega.{arith}
+use Prim.Native.Nat.{_-_, _≤_}
+use mathlib.Core.Path.{refl, _∙_}
+use native.Mathlib.Nat.{mod-lt}
+use lib.Dec.{lit<}
+use lib.ListN.{length}
+use borrow.Author.Needs.{needs}
+use Rattle.trits.proofs.Patches.{Patched, patch-none, patch-more, patched-all}
+use Rattle.keccak.specs.Lanes.{laneAt}
+use Rattle.shake.specs.Shake.{squeezedByte}
+use Rattle.shake.proofs.Sponge.{Gives, gives-first, gives-byte, gives-next}
+use Rattle.shake.proofs.squeezing.squeeze.Statement.{statement}
+use Rattle.shake.proofs.squeezing.squeeze.Tie as tie
+
+abbrev Inv-loop : tie.InvT-loop
+Inv-loop output₀ b₀ i₀ output b i = (i ≤ length output₀) × Patched (squeezedByte (laneAt b₀)) 0 i output₀ output × Gives (laneAt b₀) i b
+
+abbrev μ-loop : tie.MeasureT-loop
+μ-loop output₀ b₀ i₀ output b i = length output₀ - i
+
+loop-holds : tie.Need-loop-holds Inv-loop μ-loop
+loop-holds c =
+    (omega arith, patch-none _ _ _, gives-first _ _ (λ x y hx hy. refl))
+
+byte-of-requires : tie.Need-byte-of-requires Inv-loop μ-loop
+byte-of-requires c κs =
+    mod-lt (c .before .loop .i) (lit< tt)
+
+slice-write-output : tie.Need-slice-write-output Inv-loop μ-loop
+slice-write-output c =
+    omega arith
+
+add-i : tie.Need-add-i Inv-loop μ-loop
+add-i c =
+    omega arith
+
+advance-requires : tie.Need-advance-requires Inv-loop μ-loop
+advance-requires c κs = search needs
+
+loop-less : tie.Need-loop-less Inv-loop μ-loop
+loop-less c =
+    omega arith
+
+loop-again : tie.Need-loop-again Inv-loop μ-loop
+loop-again c =
+    let after-byte-of = c .before in
+    let l = after-byte-of .before .before .loop in
+    let g = l .inv .2 in (
+      omega arith,
+      patch-more (l .inv .1) (l .i) _ (omega arith) (omega arith) (after-byte-of .byte-of .ensures ∙ gives-byte g),
+      gives-next g (c .advance .ensures),
+    )
+
+same-length : tie.Need-same-length Inv-loop μ-loop
+same-length c =
+    c .before .loop .inv .1 .kept
+
+returns : tie.Need-returns Inv-loop μ-loop
+returns c =
+    patched-all _ (c .before .loop .inv .1) refl (omega arith)
+
+pub squeeze-spec : {M : Type 1} → statement M
+squeeze-spec =
+    tie.close
+    (tie.spec
+    Inv-loop
+    μ-loop
+    loop-holds
+    byte-of-requires
+    slice-write-output
+    add-i
+    advance-requires
+    loop-less
+    loop-again
+    same-length
+    returns)

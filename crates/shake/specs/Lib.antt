@@ -1,0 +1,3 @@
+-- SHAKE256, and what its inner functions ask and do.
+pub mod Shake
+pub mod Steps

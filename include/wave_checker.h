@@ -16,7 +16,11 @@
  * set past a row's length, 5 a packed byte above 242, 6 the stream ends too soon, 15 a nonzero trit past the length in
  * packed bytes, 20 no key begun or rows missing at a check, 21 a row offered to a whole key, 22 another key number than
  * the held one. A call tests in the order given with it and returns the first refusal that applies; a refused call
- * leaves the state and every buffer as they were.
+ * leaves the state and every buffer as they were, but for the working space of wave_check_text after 6.
+ *
+ * Which check: a module that doses by a text should call wave_check_text with the salt and that very text, so that what
+ * is checked and what is dosed cannot come apart. wave_check is for a syndrome y that was made elsewhere, by
+ * wave_syndrome or by a hash of the host's own: it says nothing about the text behind y.
  *
  * Within one buffer the lower number comes first, but for planes, where 4 comes before 3: a row that was cut wrongly is
  * told as that, even where its bits past the length stand in both planes. Each is looked for in the whole buffer, in
@@ -42,6 +46,9 @@ extern "C" {
 
 /* The packed bytes of a row of m trits. */
 #define WAVE_BYTES(m) (((size_t)(m) + 4) / 5)
+
+/* The bytes of a salt. */
+#define WAVE_SALT_BYTES 32
 
 /*
  * The state of the module. All zero: no key begun. begun is 0 or 1; number, n, k and w are those of the key begun, and
@@ -85,6 +92,33 @@ wave_checked wave_check(wave_held held, uint64_t number, const uint64_t *ones, s
                         const uint64_t *twos, size_t twos_words, const uint8_t *y, size_t y_bytes,
                         const uint8_t *s, size_t s_bytes, uint64_t *work_ones, size_t work_ones_words,
                         uint64_t *work_twos, size_t work_twos_words);
+
+/*
+ * Checks the signature s on a text with its salt under the held key. The syndrome y is the one that wave_syndrome makes
+ * of n-k, salt and text, and the verdict is that of wave_check on this y: the same ones, twos and yes. salt has
+ * WAVE_SALT_BYTES bytes; text may have any length, and none. The rest is as for wave_check, with y made in the working
+ * space: that is untouched after every refusal but 6, and all zero after 6 and after every verdict.
+ * Order of refusals: 20 (no key begun), 1 (a state out of its ranges), 20 (rows missing), 22, 2, then the contents of
+ * the key (4, then 3, each over all of it) and of s (5, then 15), then 6.
+ */
+wave_checked wave_check_text(wave_held held, uint64_t number, const uint64_t *ones, size_t ones_words,
+                             const uint64_t *twos, size_t twos_words, const uint8_t *salt, size_t salt_bytes,
+                             const uint8_t *text, size_t text_bytes, const uint8_t *s, size_t s_bytes,
+                             uint64_t *work_ones, size_t work_ones_words, uint64_t *work_twos, size_t work_twos_words);
+
+/*
+ * The syndrome of a text with its salt: m trits (0 to 16,384), read as wave_from_stream reads them from the first m+136
+ * bytes of SHAKE256 (FIPS 202) of the salt and then the text. salt has WAVE_SALT_BYTES bytes; text may have any length,
+ * and none. The planes have WAVE_WORDS(m) words each. For a signature under a key of n and k, m is n-k.
+ * Order of refusals: 1, 2, 6 (those bytes give fewer than m trits). The planes stay after a refusal.
+ */
+uint64_t wave_syndrome(size_t m, const uint8_t *salt, size_t salt_bytes, const uint8_t *text, size_t text_bytes,
+                       uint64_t *ones, size_t ones_words, uint64_t *twos, size_t twos_words);
+
+/*
+ * SHAKE256 (FIPS 202) of a message of any length: as many bytes of its output as are lent, none too. It refuses nothing.
+ */
+void wave_shake256(const uint8_t *message, size_t message_bytes, uint8_t *output, size_t output_bytes);
 
 /*
  * Packs a row of m trits (0 to 16,384): planes of WAVE_WORDS(m) words each become WAVE_BYTES(m) bytes.

@@ -169,6 +169,15 @@ module _ {m : ℕ} {bytes : List ℕ} {at i : ℕ} (s : Stands m bytes at i) (l 
       trits = f .trits ∙ ap (λ (u : ℕ → Trit). withByte u b at (gives m at b)) (r .trits) ∙ row-next ∙ ap (λ (x : ℕ). streamRow x bytes) (sym e);
     }
 
+    -- the same for a byte that is known to be byte i
+    module _ {x : ℕ} (f : x ≡ getD bytes i 0) where
+      pub stands-byte : {new : ℕ} → new ≡ at + gives m at x → Stands m bytes new (i + 1)
+      stands-byte e = stands-next (rw f at e)
+
+      pub reads-byte : {o t p q : List ℕ} {n new : ℕ} → Reads o t n (streamRow at bytes) → new ≡ at + gives m at x
+          → Reads p q (length o) (withByte (tritAt o t) x at (gives m at x)) → Reads p q n (streamRow new bytes)
+      reads-byte r e g = reads-next r (rw f at e) (rw f at g)
+
 -- the row when m trits are there
 pub stands-all : {m : ℕ} {bytes : List ℕ} {at i : ℕ} → Stands m bytes at i → m ≤ at → at ≡ m
 stands-all s h = omega (arith, s .within)

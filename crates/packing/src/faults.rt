@@ -68,7 +68,7 @@ pub fn test_bytes(m: usize, bytes: &[u8]) -> Outcome
 }
 
 // How many trits are missing after one more byte.
-fn count_byte(left: usize, b: u8) -> usize
+pub fn count_byte(left: usize, b: u8) -> usize
     ensures { λ r. ⌜ r ≡ missing left b ⌝ }
 {
     if b > 242 {

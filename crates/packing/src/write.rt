@@ -24,7 +24,7 @@ fn put_byte(table: &[u8; 1215], b: u8, ones: &mut [u64], twos: &mut [u64], at: u
 }
 
 // The trits that a byte gives are put at the places from `at` on, up to m; the next place is returned.
-fn put_next(
+pub fn put_next(
     table: &[u8; 1215],
     m: usize,
     b: u8,

@@ -12,10 +12,11 @@ use lib.Bits.{bitXor}
 use lib.Dec.{ltb, eqb, lit<}
 use lib.ListN.{length, getD}
 use Rattle.trits.specs.Planes.{tabulate}
+use Rattle.trits.proofs.Lists.{length-tabulate, getD-tabulate}
 use Rattle.keccak.specs.Keccak.{State, permuted}
 use Rattle.keccak.specs.Lanes.{laneAt, sheetOf, lanesOf}
 use Rattle.keccak.proofs.Lanes.{Same, lane-of, same-lanes, same-permuted}
-use Rattle.shake.specs.Shake.{rate, paddedByte, wordOf, added, absorbed, blocksOf, stateByte, squeezed, squeezedByte, shake256}
+use Rattle.shake.specs.Shake.{rate, paddedByte, wordOf, added, absorbed, blocksOf, stateByte, squeezed, squeezedByte, squeezedBytes}
 use Rattle.shake.specs.Steps.{absorbedBlock, advanced}
 
 -- ---- a block is read at its own places, and a state at its 25 lanes
@@ -100,7 +101,19 @@ gives-next {s} {i} {b} {next} h e = record { reads = by (ℕ-discrete ((i + 1) %
         ∙ ap (λ (k : ℕ). squeezed s k x y) (sym d)
 
 -- the output of arrays is that of the state which they hold
-pub squeezed-held : {a : List (List ℕ)} (s : State) → a ≡ lanesOf s → squeezedByte (laneAt a) ≡ squeezedByte s
+same-bytes : {a : List (List ℕ)} (s : State) → a ≡ lanesOf s → squeezedByte (laneAt a) ≡ squeezedByte s
 unfolding squeezedByte
-squeezed-held {a} s e =
+same-bytes {a} s e =
     fun-ext (λ i. same-byte (same-squeezed (λ x y hx hy. ap (λ (l : List (List ℕ)). laneAt l x y) e ∙ lane-of s x y hx hy) (i / rate)) (i % rate) (mod-lt i (lit< tt)))
+
+pub squeezed-held : {a : List (List ℕ)} (s : State) → a ≡ lanesOf s → (n : ℕ) → squeezedBytes (laneAt a) n ≡ squeezedBytes s n
+unfolding squeezedBytes
+squeezed-held {a} s e n = ap (λ (f : ℕ → ℕ). tabulate f n) (same-bytes s e)
+
+pub length-squeezed : (s : State) (n : ℕ) → length (squeezedBytes s n) ≡ n
+unfolding squeezedBytes
+length-squeezed s n = length-tabulate n (squeezedByte s)
+
+pub gives-at : {s : State} {i : ℕ} {b : List (List ℕ)} → Gives s i b → (n : ℕ) → i < n → stateByte (laneAt b) (i % rate) ≡ getD (squeezedBytes s n) i 0
+unfolding squeezedBytes
+gives-at {s} {i} g n l = gives-byte g ∙ sym (getD-tabulate n (squeezedByte s) i 0 l)

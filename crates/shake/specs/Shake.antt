@@ -55,6 +55,9 @@ squeezed a (suc j) = permuted (squeezed a j)
 unfoldable pub squeezedByte : State → ℕ → ℕ
 squeezedByte a i = stateByte (squeezed a (i / rate)) (i % rate)
 
--- the first n bytes of SHAKE256 of a message
+-- the first n bytes of the output from a state on, and of SHAKE256 of a message
+unfoldable pub squeezedBytes : State → ℕ → List ℕ
+squeezedBytes a n = tabulate (squeezedByte a) n
+
 unfoldable pub shake256 : List ℕ → ℕ → List ℕ
-shake256 message n = tabulate (squeezedByte (absorbed message (blocksOf message))) n
+shake256 message n = squeezedBytes (absorbed message (blocksOf message)) n

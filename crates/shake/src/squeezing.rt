@@ -2,9 +2,8 @@
 ghost use mathlib.Core.Path.{_≡_};
 ghost use Prim.Native.Nat.{_<_};
 ghost use lib.ListN.{length};
-ghost use Rattle.trits.specs.Planes.{tabulate};
 ghost use Rattle.keccak.specs.Lanes.{laneAt};
-ghost use Rattle.shake.specs.Shake.{rate, stateByte, squeezedByte};
+ghost use Rattle.shake.specs.Shake.{rate, stateByte, squeezedBytes};
 ghost use Rattle.shake.specs.Steps.{advanced};
 
 // Byte i of a state.
@@ -27,7 +26,7 @@ pub fn advance(a: [[u64; 5]; 5], i: usize) -> [[u64; 5]; 5]
 
 // The output from a state on, as many bytes as are lent.
 pub fn squeeze(a: [[u64; 5]; 5], output: &mut [u8])
-    ensures { λ _. ⌜ now (output .exit) ≡ tabulate (squeezedByte (laneAt a)) (length (now (output .entry))) ⌝ }
+    ensures { λ _. ⌜ now (output .exit) ≡ squeezedBytes (laneAt a) (length (now (output .entry))) ⌝ }
 {
     let mut b = a;
     let mut i = 0;

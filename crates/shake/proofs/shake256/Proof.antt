@@ -1,12 +1,10 @@
 -- The message is the last of two parts, the first being empty; the output is that of the state which it makes (`squeezed-held`).
 -- Assumes nothing.
-use Prim.Native.Nat.{ℕ}
-use mathlib.Core.Path.{ap, _∙_}
+use mathlib.Core.Path.{_∙_}
 use lib.ListN.{length}
 use denote.Ref.{now}
 use borrow.Author.Needs.{needs}
 use Rattle.shake.specs.Shake.{shake256}
-use Rattle.trits.specs.Planes.{tabulate}
 use Rattle.shake.specs.Shake.{absorbed, blocksOf}
 use Rattle.shake.proofs.Sponge.{squeezed-held}
 use Rattle.shake.proofs.shake256.Statement.{statement}
@@ -32,7 +30,7 @@ returns c =
     let s = after-absorb .before .before .before .before .args in
     let message = now (s .message) in
     after-squeeze .squeeze .ensures
-    ∙ ap (λ (f : ℕ → ℕ). tabulate f (length (now (s .output)))) (squeezed-held (absorbed message (blocksOf message)) (after-absorb .absorb .ensures))
+    ∙ squeezed-held (absorbed message (blocksOf message)) (after-absorb .absorb .ensures) (length (now (s .output)))
 
 pub shake256-spec : {M : Type 1} → statement M
 shake256-spec =

@@ -9,7 +9,7 @@ use lib.ListN.{length}
 use borrow.Author.Needs.{needs}
 use Rattle.trits.proofs.Patches.{Patched, patch-none, patch-more, patched-all}
 use Rattle.keccak.specs.Lanes.{laneAt}
-use Rattle.shake.specs.Shake.{squeezedByte}
+use Rattle.shake.specs.Shake.{squeezedByte, squeezedBytes}
 use Rattle.shake.proofs.Sponge.{Gives, gives-first, gives-byte, gives-next}
 use Rattle.shake.proofs.squeezing.squeeze.Statement.{statement}
 use Rattle.shake.proofs.squeezing.squeeze.Tie as tie
@@ -58,6 +58,7 @@ same-length c =
     c .before .loop .inv .1 .kept
 
 returns : tie.Need-returns Inv-loop μ-loop
+unfolding squeezedBytes
 returns c =
     patched-all _ (c .before .loop .inv .1) refl (omega arith)
 

@@ -1,0 +1,2 @@
+-- The laws that the functions' proofs cite, and that callers may.
+pub mod Made

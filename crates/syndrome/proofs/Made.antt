@@ -1,0 +1,60 @@
+-- The output of the state that a salt and a text make, and the refusals of the call. Assumes nothing.
+use mathlib.Core.Path.{_≡_, ap, sym, _∙_}
+use mathlib.Core.Bool.{Bool, false}
+use mathlib.Core.List.{List, _++_}
+use Prim.Native.Nat.{ℕ, _+_, _*_, _≤_, _<_}
+use borrow.Author.Tests.{lt-ltb, le-ltb, eq-eqb, ne-eqb}
+use lib.Dec.{ltb, eqb}
+use lib.ListN.{length}
+use Rattle.trits.specs.Planes.{wordsFor}
+use Rattle.trits.specs.Refusal.{refuse, demand}
+use Rattle.packed.specs.Stream.{streamRow, tooShort}
+use Rattle.packed.specs.Calls.{streamOf, streamRefusal}
+use Rattle.packed.proofs.Turned.{stream-decides, stream-long}
+use Rattle.keccak.specs.Lanes.{lanesOf}
+use Rattle.shake.specs.Shake.{absorbed, blocksOf, shake256}
+use Rattle.shake.proofs.Sponge.{squeezed-held}
+use Rattle.syndrome.specs.Syndrome.{hashed, hashedRow, hashedRefusal, syndromeOf, syndromeRefusal}
+use Rattle.syndrome.specs.Steps.{outputFor}
+
+-- ---- the state that absorbed the salt and then the text
+
+module _ (m : ℕ) (salt text : List ℕ) {a : List (List ℕ)} (e : a ≡ lanesOf (absorbed (salt ++ text) (blocksOf (salt ++ text)))) where
+  pub output-hashed : outputFor m a ≡ hashed m salt text
+  unfolding hashed shake256
+  output-hashed = squeezed-held (absorbed (salt ++ text) (blocksOf (salt ++ text))) e (m + 136)
+
+  pub row-hashed : streamRow m (outputFor m a) ≡ hashedRow m salt text
+  unfolding hashedRow
+  row-hashed = ap (streamRow m) output-hashed
+
+  -- whether it gives too few trits decides
+  pub hashed-decides : {short : Bool} → short ≡ tooShort m (outputFor m a) → refuse short 6 0 ≡ hashedRefusal m salt text
+  unfolding hashedRefusal
+  hashed-decides h = stream-decides m (hashed m salt text) (ap (tooShort m) (sym output-hashed) ∙ sym h)
+
+-- ---- the refusals of the call, each where the tests before it passed
+
+module _ (m : ℕ) (salt text ones twos : List ℕ) where
+  pub made-size : 16384 < m → 1 ≡ syndromeRefusal (syndromeOf m salt text ones twos)
+  unfolding syndromeRefusal
+  made-size l = rw (lt-ltb 16384 m l)
+
+  module _ (l : m ≤ 16384) where
+    pub made-ones : (length ones ≡ wordsFor m → ⊥) → 2 ≡ syndromeRefusal (syndromeOf m salt text ones twos)
+    unfolding syndromeRefusal
+    made-ones f = rw (le-ltb 16384 m l, ne-eqb _ _ f)
+
+    module _ (o : length ones ≡ wordsFor m) where
+      pub made-twos : (length twos ≡ wordsFor m → ⊥) → 2 ≡ syndromeRefusal (syndromeOf m salt text ones twos)
+      unfolding syndromeRefusal
+      made-twos f = rw (le-ltb 16384 m l, eq-eqb _ _ o, ne-eqb _ _ f)
+
+      module _ (t : length twos ≡ wordsFor m) where
+        pub made-salt : (length salt ≡ 32 → ⊥) → 2 ≡ syndromeRefusal (syndromeOf m salt text ones twos)
+        unfolding syndromeRefusal
+        made-salt f = rw (le-ltb 16384 m l, eq-eqb _ _ o, eq-eqb _ _ t, ne-eqb _ _ f)
+
+        pub made-passed : length salt ≡ 32 → hashedRefusal m salt text ≡ syndromeRefusal (syndromeOf m salt text ones twos)
+        unfolding syndromeRefusal
+        made-passed s = rw (le-ltb 16384 m l, eq-eqb _ _ o, eq-eqb _ _ t, eq-eqb _ _ s)

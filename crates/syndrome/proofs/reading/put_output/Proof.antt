@@ -1,0 +1,133 @@
+-- After each byte the row holds the first trits of the output, as many as the bytes read so far give (`Stands`, `reads-next`).
+-- Assumes nothing.
+use native.Mathlib.Omega.{arith}
+use Prim.Native.Nat.{_+_, _-_, _<_}
+use mathlib.Core.Path.{_≡_, refl, sym, _∙_}
+use native.Mathlib.Nat.{mod-lt}
+use lib.Dec.{lit<}
+use lib.ListN.{length, getD}
+use borrow.Author.Needs.{needs}
+use Rattle.trits.specs.Planes.{Reads}
+use Rattle.packed.specs.Stream.{streamRow}
+use Rattle.packed.proofs.Putting.{Stands, stands-none, stands-more, stands-byte, reads-byte, stands-all}
+use Rattle.keccak.specs.Lanes.{laneAt}
+use Rattle.shake.proofs.Sponge.{Gives, gives-first, gives-next, gives-at, length-squeezed}
+use Rattle.syndrome.specs.Steps.{outputFor}
+use Rattle.syndrome.proofs.reading.put_output.Statement.{statement}
+use Rattle.syndrome.proofs.reading.put_output.Tie as tie
+
+abbrev Inv-loop : tie.InvT-loop
+Inv-loop table m ones₀ twos₀ b₀ at₀ i₀ ones twos b at i = 
+    Stands m (outputFor m b₀) at i × Reads ones twos (length ones₀) (streamRow at (outputFor m b₀)) × Gives (laneAt b₀) i b
+
+abbrev μ-loop : tie.MeasureT-loop
+μ-loop table m ones₀ twos₀ b₀ at₀ i₀ ones twos b at i = m + 136 - i
+
+-- The places that the answers look back to, each from a later one.
+abbrev start-from-in-loop : tie.In-loop Inv-loop μ-loop → tie.Start Inv-loop μ-loop
+start-from-in-loop c = c .before .before .before .before
+
+abbrev start-from-after-loop : tie.After-loop Inv-loop μ-loop → tie.Start Inv-loop μ-loop
+start-from-after-loop c = c .before .before .before .before
+
+abbrev in-loop-from-put-next-arg : tie.After-put-next-arg2 Inv-loop μ-loop → tie.In-loop Inv-loop μ-loop
+in-loop-from-put-next-arg c = c .before .before .before
+
+abbrev in-loop-from-put-next : tie.After-put-next Inv-loop μ-loop → tie.In-loop Inv-loop μ-loop
+in-loop-from-put-next c = in-loop-from-put-next-arg (c .before)
+
+abbrev put-next-from-known : tie.After-slice-known4 Inv-loop μ-loop → tie.After-put-next Inv-loop μ-loop
+put-next-from-known c = c .before .before .before .before
+
+-- there is a byte of the output to read
+in-output : (c : tie.In-loop Inv-loop μ-loop) → c .before .loop .i < length (outputFor (start-from-in-loop c .args .m) (start-from-in-loop c .args .a))
+in-output c = stands-more (c .before .loop .inv .0) (c .loop-test .taken) (start-from-in-loop c .pre .enough)
+
+more : (c : tie.In-loop Inv-loop μ-loop) → c .before .loop .i < start-from-in-loop c .args .m + 136
+more c =
+    let a = start-from-in-loop c .args in
+    omega (arith, in-output c, length-squeezed (laneAt (a .a)) (a .m + 136))
+
+-- and the byte that is put is it
+byte : (c : tie.After-put-next Inv-loop μ-loop) → c .before .before .before .byte-of .result
+    ≡ getD (outputFor (start-from-in-loop (in-loop-from-put-next c) .args .m) (start-from-in-loop (in-loop-from-put-next c) .args .a))
+    (in-loop-from-put-next c .before .loop .i) 0
+byte c =
+    let in-loop = in-loop-from-put-next c in
+    c .before .before .before .byte-of .ensures ∙ gives-at (in-loop .before .loop .inv .2) (start-from-in-loop in-loop .args .m + 136) (more in-loop)
+
+loop-holds : tie.Need-loop-holds Inv-loop μ-loop
+loop-holds c =
+    (stands-none _ _, c .before .before .pre .nothing-put, gives-first _ _ (λ x y hx hy. refl))
+
+byte-of-requires : tie.Need-byte-of-requires Inv-loop μ-loop
+byte-of-requires c κs =
+    mod-lt (c .before .loop .i) (lit< tt)
+
+put-next-requires : tie.Need-put-next-requires Inv-loop μ-loop
+put-next-requires c κs =
+    let l = in-loop-from-put-next-arg c .before .loop in
+    let start = start-from-in-loop (in-loop-from-put-next-arg c) in
+    let r = l .inv .1 in record {
+      is-table = start .pre .is-table;
+      row = r .row;
+      place = omega (arith, l .inv .0 .within);
+      trits-fit = omega (arith, r .size, start .pre .ones-size);
+      small = omega (arith, r .size, start .pre .ones-size, start .pre .small);
+    }
+
+add-i : tie.Need-add-i Inv-loop μ-loop
+add-i c =
+    let l = in-loop-from-put-next (put-next-from-known c) in
+    omega (arith, more l, start-from-in-loop l .pre .small)
+
+advance-requires : tie.Need-advance-requires Inv-loop μ-loop
+advance-requires c κs = search needs
+
+loop-less : tie.Need-loop-less Inv-loop μ-loop
+loop-less c =
+    let l = in-loop-from-put-next (put-next-from-known (c .before)) in
+    omega (arith, more l)
+
+loop-again : tie.Need-loop-again Inv-loop μ-loop
+loop-again c =
+    let after-put-next = put-next-from-known (c .before) in
+    let in-loop = in-loop-from-put-next after-put-next in
+    let l = in-loop .before .loop in
+    let taken = in-loop .loop-test .taken in
+    let e = after-put-next .put-next .ensures in (
+      stands-byte (l .inv .0) taken (in-output in-loop) (byte after-put-next) (e .0),
+      reads-byte (l .inv .0) taken (in-output in-loop) (byte after-put-next) (l .inv .1) (e .0) (e .1),
+      gives-next (l .inv .2) (c .advance .ensures),
+    )
+
+same-length : tie.Need-same-length Inv-loop μ-loop
+same-length c =
+    c .before .loop .inv .1 .size
+
+same-length-2 : tie.Need-same-length-2 Inv-loop μ-loop
+same-length-2 c =
+    c .before .loop .inv .1 .row .same ∙ c .before .loop .inv .1 .size ∙ sym (start-from-after-loop c .pre .nothing-put .row .same)
+
+returns : tie.Need-returns Inv-loop μ-loop
+returns c =
+    let l = c .before .loop in
+    let e = stands-all (l .inv .0) (c .loop-test .left) in
+    rw e at (l .inv .1)
+
+pub put-output-spec : {M : Type 1} → statement M
+put-output-spec =
+    tie.close
+    (tie.spec
+    Inv-loop
+    μ-loop
+    loop-holds
+    byte-of-requires
+    put-next-requires
+    add-i
+    advance-requires
+    loop-less
+    loop-again
+    same-length
+    same-length-2
+    returns)

@@ -1,0 +1,92 @@
+-- What is missing is counted down byte by byte of the output (`missing-turn`), each taken from its own state (`Gives`).
+-- Assumes nothing.
+use native.Mathlib.Omega.{arith}
+use Prim.Native.Nat.{_+_, _-_, _*_, _≤_}
+use mathlib.Core.Path.{_≡_, refl, ap, _∙_}
+use native.Mathlib.Nat.{mod-lt}
+use lib.Dec.{lit<}
+use borrow.Author.Needs.{needs}
+use Rattle.packed.specs.Steps.{missing}
+use Rattle.packed.specs.Stream.{kept}
+use Rattle.packed.proofs.Keeping.{given, missing-turn, long-enough, counted-out}
+use Rattle.keccak.specs.Lanes.{laneAt}
+use Rattle.shake.proofs.Sponge.{Gives, gives-first, gives-next, gives-at, length-squeezed}
+use Rattle.syndrome.specs.Steps.{outputFor}
+use Rattle.syndrome.proofs.reading.too_short.Statement.{statement}
+use Rattle.syndrome.proofs.reading.too_short.Tie as tie
+
+abbrev Inv-loop : tie.InvT-loop
+Inv-loop m end left₀ b₀ i₀ left b i = 
+    (i ≤ end) × (left ≡ m - 5 * given (outputFor m b₀) i) × Gives (laneAt b₀) i b
+
+abbrev μ-loop : tie.MeasureT-loop
+μ-loop m end left₀ b₀ i₀ left b i = end - i
+
+add-end : tie.Need-add-end Inv-loop μ-loop
+add-end c = search needs
+
+loop-holds : tie.Need-loop-holds Inv-loop μ-loop
+unfolding kept
+loop-holds c =
+    (omega arith, omega arith, gives-first _ _ (λ x y hx hy. refl))
+
+returns : tie.Need-returns Inv-loop μ-loop
+returns c =
+    let l = c .before .before .loop in
+    let a = c .before .before .before .args in
+    long-enough (a .m) (outputFor (a .m) (a .a)) (l .i) (l .inv .1) (c .if1 .taken)
+
+byte-of-requires : tie.Need-byte-of-requires Inv-loop μ-loop
+byte-of-requires c κs =
+    mod-lt (c .before .before .loop .i) (lit< tt)
+
+count-byte-requires : tie.Need-count-byte-requires Inv-loop μ-loop
+count-byte-requires c κs = search needs
+
+add-i : tie.Need-add-i Inv-loop μ-loop
+add-i c = search needs
+
+advance-requires : tie.Need-advance-requires Inv-loop μ-loop
+advance-requires c κs = search needs
+
+loop-less : tie.Need-loop-less Inv-loop μ-loop
+loop-less c =
+    omega arith
+
+loop-again : tie.Need-loop-again Inv-loop μ-loop
+loop-again c =
+    let after-count-byte = c .before in
+    let after-byte-of = after-count-byte .before in
+    let in-loop = after-byte-of .before .before in
+    let l = in-loop .before .loop in
+    let a = in-loop .before .before .args in
+    let size = length-squeezed (laneAt (a .a)) (a .m + 136) in
+    let byte = after-byte-of .byte-of .ensures ∙ gives-at (l .inv .2) (a .m + 136) (in-loop .loop-test .taken) in (
+      omega arith,
+      missing-turn (a .m) (outputFor (a .m) (a .a)) (l .i) (omega arith) (l .inv .1) (after-count-byte .count-byte .ensures ∙ ap (missing (l .left)) byte),
+      gives-next (l .inv .2) (c .advance .ensures),
+    )
+
+returns-2 : tie.Need-returns-2 Inv-loop μ-loop
+returns-2 c =
+    let l = c .before .loop in
+    let a = c .before .before .args in
+    let size = length-squeezed (laneAt (a .a)) (a .m + 136) in
+    counted-out (a .m) (outputFor (a .m) (a .a)) (l .i) (l .inv .1) (omega arith)
+
+pub too-short-spec : {M : Type 1} → statement M
+too-short-spec =
+    tie.close
+    (tie.spec
+    Inv-loop
+    μ-loop
+    add-end
+    loop-holds
+    returns
+    byte-of-requires
+    count-byte-requires
+    add-i
+    advance-requires
+    loop-less
+    loop-again
+    returns-2)

@@ -3,13 +3,14 @@ use mathlib.Core.Path.{_≡_}
 use mathlib.Core.List.{List}
 use Prim.Native.Nat.{ℕ, _+_, _*_, _≤_, _<_}
 use lib.ListN.{length}
-use Rattle.trits.specs.Trit.{Trit, one, two}
-use Rattle.trits.specs.Planes.{Row}
+use Rattle.trits.specs.Trit.{Trit, t0, one, two}
+use Rattle.trits.specs.Planes.{Row, tritAt}
+use Rattle.trits.specs.Refusal.{planesRefusal}
 use Rattle.trits.specs.declared.Counts.{Counts}
 use Rattle.packed.specs.Packed.{bytesFor, byteTable, packedRefusal}
 use Rattle.held_key.specs.Steps.{Whole, Work}
 use Rattle.held_key.specs.declared.state.Held.{Held}
-use Rattle.held_key.specs.Held.{rowWords}
+use Rattle.held_key.specs.Held.{rowTrits, rowWords}
 use Rattle.check_tests.specs.Check.{planesLengths, planesContents, packedLengths, packedContents}
 
 -- a whole key, the word under work, a row of the key and a trit
@@ -59,6 +60,15 @@ pub record ForWeigh (held : Held) (ones twos yOnes yTwos sOnes sTwos workOnes wo
   pub contents : planesContents held ones twos yOnes yTwos sOnes sTwos ≡ 0
   pub work-ones : length workOnes ≡ rowWords held
   pub work-twos : length workTwos ≡ rowWords held
+
+-- a whole key that was tested, packed s that was tested, and y in the working space, 0 past its length
+pub record ForWeighMade (held : Held) (ones twos s workOnes workTwos : List ℕ) : Type 0 where
+  pub whole : Whole held ones twos
+  pub key-tested : planesRefusal ones twos (held .k) (rowTrits held) ≡ 0
+  pub s-size : length s ≡ bytesFor (held .k)
+  pub s-tested : packedRefusal (held .k) s ≡ 0
+  pub work : Work held workOnes workTwos
+  pub ended : (q : ℕ) → rowTrits held ≤ q → tritAt workOnes workTwos q ≡ t0
 
 -- a whole key, packed y and s that were tested, and working space
 pub record ForWeighPacked (held : Held) (ones twos y s workOnes workTwos : List ℕ) : Type 0 where

@@ -8,7 +8,8 @@ ghost use Rattle.packed.specs.Packed.{packedRow};
 ghost use Rattle.verdict.specs.Verdict.{timesKey};
 ghost use Rattle.held_key.specs.Held.{heldKey};
 ghost use Rattle.check_tests.specs.Check.{heldCounts};
-ghost use Rattle.checker.specs.Steps.{ForTakeRow, ForTakeRows, ForTakeByTable, ForTakePackedRows, ForWeigh, ForWeighPacked, moreCounts, addCounts};
+ghost use Rattle.checker.specs.Steps.{ForTakeRow, ForTakeRows, ForTakeByTable, ForTakePackedRows, moreCounts, addCounts};
+ghost use Rattle.checker.specs.Steps.{ForWeigh, ForWeighMade, ForWeighPacked};
 use held_key::state::Held;
 use trits::Counts;
 
@@ -161,6 +162,24 @@ pub fn weigh(
     add_counts(first, last)
 }
 
+// The ones and twos of the full word of packed s and the y that the working space holds; its first part is left there.
+pub fn weigh_made(
+    held: Held,
+    ones: &[u64],
+    twos: &[u64],
+    s: &[u8],
+    work_ones: &mut [u64],
+    work_twos: &mut [u64],
+) -> Counts
+    requires { ⌜ ForWeighMade held (now ones) (now twos) (now s) (now «work_ones») (now «work_twos») ⌝ }
+    ensures { λ r. ⌜ r ≡ heldCounts held (now (ones .entry)) (now (twos .entry)) (tritAt (now («work_ones» .entry)) (now («work_twos» .entry)))
+        (packedRow (now (s .entry))) ⌝ }
+{
+    let taken = take_packed_rows(held, ones, twos, s, work_ones, work_twos);
+    let first = rows::count(work_ones, work_twos);
+    add_counts(first, taken)
+}
+
 // The ones and twos of the full word of packed y and s; the working space holds its first part.
 pub fn weigh_packed(
     held: Held,
@@ -176,7 +195,5 @@ pub fn weigh_packed(
         (packedRow (now (s .entry))) ⌝ }
 {
     packing::write::write_packed(held_key::state::row_trits(held), y, work_ones, work_twos);
-    let taken = take_packed_rows(held, ones, twos, s, work_ones, work_twos);
-    let first = rows::count(work_ones, work_twos);
-    add_counts(first, taken)
+    weigh_made(held, ones, twos, s, work_ones, work_twos)
 }

@@ -1,5 +1,6 @@
 -- What a call answers and leaves, from the number of its refusal. Assumes nothing.
 use mathlib.Core.Path.{_≡_, refl, sym, ap, ap₂, _∙_}
+use mathlib.Core.Bool.{true}
 use mathlib.Core.List.{List}
 use Prim.Native.Nat.{ℕ, _<_}
 use native.Mathlib.Omega.{arith}
@@ -9,10 +10,10 @@ use lib.ListN.{length}
 use Rattle.trits.specs.Trit.{sumOf}
 use Rattle.trits.specs.Planes.{wordsFor, zeroWords}
 use Rattle.trits.specs.declared.Counts.{Counts}
-use Rattle.trits.specs.Refusal.{numberOf, spaceExit}
+use Rattle.trits.specs.Refusal.{numberOf, spaceStays, spaceExit}
 use Rattle.trits.specs.declared.refusal.Refusal.{Refusal}
-use Rattle.trits.proofs.Refusals.{number-positive, space-zero}
-use Rattle.trits.proofs.Refusals.{Leaves, leaves-none, leaves-refuse, leaves-demand, leaves-first, leaves-planes}
+use Rattle.trits.proofs.Refusals.{number-positive, space-zero, refuse-all, demand-all}
+use Rattle.trits.proofs.Refusals.{Leaves, leaves-none, leaves-demand, leaves-first, leaves-planes}
 use Rattle.packed.specs.Packed.{bytesFor}
 use Rattle.packed.proofs.Turned.{leaves-packed}
 use Rattle.held_key.specs.declared.state.Held.{Held}
@@ -52,19 +53,26 @@ refused-alike {r} a b w l = rw (ne-eqb r 0 (λ z. omega arith))
 
 -- ---- the working space
 
+-- what is true of 0, 1, 2, 20 and 22 is true of what the state, the key number and the lengths of planes make
+pub call-all : (P : ℕ → Type 0) → P 0 → P 1 → P 2 → P 20 → P 22 → (h : Held) (number a b d e : ℕ) → P (callRefusal h number a b d e)
+unfolding callRefusalUnder
+call-all P none size length no-key other h number a b d e =
+    refuse-all P (eqb (h .begun) 0) 20 _ no-key
+    (demand-all P (sound h) 1 _ size
+    (demand-all P (eqb (h .rows) (h .k)) 20 _ no-key
+    (demand-all P (eqb number (h .number)) 22 _ other
+    (demand-all P (eqb a (keyWords h)) 2 _ length
+    (demand-all P (eqb b (keyWords h)) 2 _ length
+    (demand-all P (eqb d (rowWords h)) 2 _ length
+    (demand-all P (eqb e (rowWords h)) 2 0 length
+    none)))))))
+
 -- every refusal of a check leaves it
 leaves-call : (h : Held) (number a b d e : ℕ) → Leaves (callRefusal h number a b d e)
-unfolding callRefusalUnder
-leaves-call h number a b d e =
-    leaves-refuse (eqb (h .begun) 0) 20 _ refl
-    (leaves-demand (sound h) 1 _ refl
-    (leaves-demand (eqb (h .rows) (h .k)) 20 _ refl
-    (leaves-demand (eqb number (h .number)) 22 _ refl
-    (leaves-demand (eqb a (keyWords h)) 2 _ refl
-    (leaves-demand (eqb b (keyWords h)) 2 _ refl
-    (leaves-demand (eqb d (rowWords h)) 2 _ refl
-    (leaves-demand (eqb e (rowWords h)) 2 0 refl
-    leaves-none)))))))
+leaves-call = call-all Leaves leaves-none (leaves refl) (leaves refl) (leaves refl) (leaves refl)
+  where
+    leaves : {k : ℕ} → spaceStays k ≡ true → Leaves k
+    leaves h = record { stays = λ f. h }
 
 pub leaves-check : (c : Check) → Leaves (checkRefusal c)
 unfolding checkRefusalUnder planesLengths planesContentsUnder

@@ -73,7 +73,7 @@ pub fn judge(tested: Outcome, counts: Counts, w: u64) -> Verdict
 }
 
 // The first refusal that the state, the key number or the length of a plane makes.
-fn test_call(
+pub fn test_call(
     held: Held,
     number: u64,
     ones: usize,

@@ -41,7 +41,7 @@ answered-yes c w = (forth (ℕ-discrete (sumOf c) w), λ e. ap (λ (t : Bool). c
 
 -- yes, where nothing is refused
 module _ (h : Held) (ones twos : List ℕ) (y s : ℕ → Trit) where
-  found : (answered 0 (heldCounts h ones twos y s) (h .w) .yes ≡ 1) ↔ Found (rowTrits h) (h .k) (h .w) (heldKey h ones twos) y s
+  pub found : (answered 0 (heldCounts h ones twos y s) (h .w) .yes ≡ 1) ↔ Found (rowTrits h) (h .k) (h .w) (heldKey h ones twos) y s
   unfolding heldCountsUnder
   found =
       let R = heldKey h ones twos in

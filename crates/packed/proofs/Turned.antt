@@ -9,7 +9,7 @@ use lib.ListN.{length}
 use Rattle.trits.specs.Trit.{t0}
 use Rattle.trits.specs.Planes.{wordsFor}
 use Rattle.trits.specs.Refusal.{refuse, planesRefusal}
-use Rattle.trits.proofs.Refusals.{passed-refuse, Leaves, leaves-none, leaves-refuse}
+use Rattle.trits.proofs.Refusals.{passed-refuse, refuse-all, Leaves, leaves-none}
 use Rattle.packed.specs.Packed.{bytesFor, packedRow, badByte, packedPastEnd, packedRefusal}
 use Rattle.packed.specs.Stream.{kept, tooShort}
 use Rattle.packed.specs.Calls.{packOf, packRefusal, packRefusalUnder, unpackOf, unpackRefusal, streamOf, streamRefusal}
@@ -98,10 +98,14 @@ module _ (m : ℕ) (bytes : List ℕ) where
   unfolding packedRefusal
   bytes-good g e = rw (g, e)
 
+  -- what is true of 5, 15 and 0 is true of what they make
+  pub packed-all : (P : ℕ → Type 0) → P 5 → P 15 → P 0 → P (packedRefusal m bytes)
+  unfolding packedRefusal
+  packed-all P bad past none = refuse-all P (badByte bytes) 5 _ bad (refuse-all P (packedPastEnd m bytes) 15 0 past none)
+
   -- each of them leaves the working space
   pub leaves-packed : Leaves (packedRefusal m bytes)
-  unfolding packedRefusal
-  leaves-packed = leaves-refuse (badByte bytes) 5 _ refl (leaves-refuse (packedPastEnd m bytes) 15 0 refl leaves-none)
+  leaves-packed = packed-all Leaves (record { stays = λ f. refl }) (record { stays = λ f. refl }) leaves-none
 
   -- packed bytes that passed
   pub bytes-passed : packedRefusal m bytes ≡ 0 → (badByte bytes ≡ false) × (packedPastEnd m bytes ≡ false)

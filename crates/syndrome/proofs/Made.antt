@@ -1,16 +1,21 @@
 -- The output of the state that a salt and a text make, and the refusals of the call. Assumes nothing.
-use mathlib.Core.Path.{_≡_, ap, sym, _∙_}
-use mathlib.Core.Bool.{Bool, false}
+use mathlib.Core.Path.{_≡_, ap, sym, _∙_, subst}
+use mathlib.Core.Bool.{Bool}
 use mathlib.Core.List.{List, _++_}
-use Prim.Native.Nat.{ℕ, _+_, _*_, _≤_, _<_}
+use Prim.Native.Nat.{ℕ, _+_, _≤_, _<_}
+use native.Mathlib.Omega.{arith}
 use borrow.Author.Tests.{lt-ltb, le-ltb, eq-eqb, ne-eqb}
 use lib.Dec.{ltb, eqb}
 use lib.ListN.{length}
-use Rattle.trits.specs.Planes.{wordsFor}
-use Rattle.trits.specs.Refusal.{refuse, demand}
-use Rattle.packed.specs.Stream.{streamRow, tooShort}
-use Rattle.packed.specs.Calls.{streamOf, streamRefusal}
-use Rattle.packed.proofs.Turned.{stream-decides, stream-long}
+use Rattle.trits.specs.Trit.{t0}
+use Rattle.trits.specs.Planes.{onesOf, twosOf, wordsFor, Reads}
+use Rattle.trits.specs.Refusal.{refuse, demand, atExit}
+use Rattle.trits.proofs.Ends.{upto-out}
+use Rattle.trits.proofs.Reading.{holds-reads}
+use Rattle.trits.proofs.Refusals.{exit-new}
+use Rattle.packed.specs.Packed.{packedRow}
+use Rattle.packed.specs.Stream.{kept, streamRow, tooShort}
+use Rattle.packed.proofs.Turned.{stream-decides}
 use Rattle.keccak.specs.Lanes.{lanesOf}
 use Rattle.shake.specs.Shake.{absorbed, blocksOf, shake256}
 use Rattle.shake.proofs.Sponge.{squeezed-held}
@@ -58,3 +63,24 @@ module _ (m : ℕ) (salt text ones twos : List ℕ) where
         pub made-passed : length salt ≡ 32 → hashedRefusal m salt text ≡ syndromeRefusal (syndromeOf m salt text ones twos)
         unfolding syndromeRefusal
         made-passed s = rw (le-ltb 16384 m l, eq-eqb _ _ o, eq-eqb _ _ t, eq-eqb _ _ s)
+
+-- ---- the row so made
+
+-- it is 0 past its length
+pub hashed-ended : (m : ℕ) (salt text : List ℕ) (q : ℕ) → m ≤ q → hashedRow m salt text q ≡ t0
+unfolding hashedRow streamRow
+hashed-ended m salt text q l = upto-out (packedRow (kept (hashed m salt text))) m q l
+
+-- and the planes hold it, where nothing was refused
+made-holds : (m : ℕ) (salt text wo wt : List ℕ) {r : ℕ} {ones twos : List ℕ} → r ≡ 0 → let y = hashedRow m salt text in
+    ones ≡ atExit r (onesOf y (wordsFor m)) wo → twos ≡ atExit r (twosOf y (wordsFor m)) wt → Reads ones twos (wordsFor m) y
+made-holds m salt text wo wt {r} {ones} {twos} z eo et =
+    let y = hashedRow m salt text in
+    holds-reads ones twos (wordsFor m) y (λ j l. hashed-ended m salt text j (omega arith))
+    (record { ones-are = eo ∙ sym (exit-new (onesOf y (wordsFor m)) wo z); twos-are = et ∙ sym (exit-new (twosOf y (wordsFor m)) wt z) })
+
+-- the same for another name of the length
+pub made-reads : (m k : ℕ) (salt text wo wt : List ℕ) {r : ℕ} {ones twos : List ℕ} → m ≡ k → r ≡ 0 → let y = hashedRow m salt text in
+    ones ≡ atExit r (onesOf y (wordsFor m)) wo → twos ≡ atExit r (twosOf y (wordsFor m)) wt → Reads ones twos (wordsFor k) (hashedRow k salt text)
+made-reads m k salt text wo wt {r} {ones} {twos} e z eo et =
+    subst (λ (x : ℕ). Reads ones twos (wordsFor x) (hashedRow x salt text)) e (made-holds m salt text wo wt z eo et)

@@ -1,9 +1,13 @@
 // The module's half for C: each call in numbers. Nothing but what a host needs is exported.
 ghost use mathlib.Core.Path.{_≡_};
+ghost use lib.ListN.{length};
 ghost use Rattle.packed.specs.Calls.{packOf, packRefusal, packExit, unpackOf, unpackRefusal, unpackOnes, unpackTwos};
 ghost use Rattle.packed.specs.Calls.{streamOf, streamRefusal, streamOnes, streamTwos};
 ghost use Rattle.held_key.specs.Store.{beginRefusal, beginHeld, packedStoreOf, storePackedRefusal, storePackedHeld, storePackedOnes, storePackedTwos};
 ghost use Rattle.check_tests.specs.Check.{packedCheckOf, checkPackedAnswer, checkPackedWorkOnes, checkPackedWorkTwos};
+ghost use Rattle.shake.specs.Shake.{shake256};
+ghost use Rattle.syndrome.specs.Syndrome.{syndromeOf, syndromeRefusal, syndromeOnes, syndromeTwos};
+ghost use Rattle.check_text.specs.TextCheck.{textCheckOf, checkTextAnswer, checkTextWorkOnes, checkTextWorkTwos};
 use check_tests::Checked;
 use held_key::state::Held;
 
@@ -67,6 +71,51 @@ pub extern "C" fn wave_check(
         (r ≡ checkPackedAnswer c) × (now («work_ones» .exit) ≡ checkPackedWorkOnes c) × (now («work_twos» .exit) ≡ checkPackedWorkTwos c)) ⌝ }
 {
     check_tests::tell(checker::check_packed(held, number, ones, twos, y, s, work_ones, work_twos))
+}
+
+// `check_text` for C.
+#[no_mangle]
+pub extern "C" fn wave_check_text(
+    held: Held,
+    number: u64,
+    ones: &[u64],
+    twos: &[u64],
+    salt: &[u8],
+    text: &[u8],
+    s: &[u8],
+    work_ones: &mut [u64],
+    work_twos: &mut [u64],
+) -> Checked
+    ensures { λ r. ⌜ (let c = textCheckOf held number (now (ones .entry)) (now (twos .entry)) (now (salt .entry)) (now (text .entry)) (now (s .entry))
+        (now («work_ones» .entry)) (now («work_twos» .entry)) in
+        (r ≡ checkTextAnswer c) × (now («work_ones» .exit) ≡ checkTextWorkOnes c) × (now («work_twos» .exit) ≡ checkTextWorkTwos c)) ⌝ }
+{
+    check_tests::tell(check_text::check_text(
+        held, number, ones, twos, salt, text, s, work_ones, work_twos,
+    ))
+}
+
+// `syndrome` for C.
+#[no_mangle]
+pub extern "C" fn wave_syndrome(
+    m: usize,
+    salt: &[u8],
+    text: &[u8],
+    ones: &mut [u64],
+    twos: &mut [u64],
+) -> u64
+    ensures { λ r. ⌜ (let c = syndromeOf m (now (salt .entry)) (now (text .entry)) (now (ones .entry)) (now (twos .entry)) in
+        (r ≡ syndromeRefusal c) × (now (ones .exit) ≡ syndromeOnes c) × (now (twos .exit) ≡ syndromeTwos c)) ⌝ }
+{
+    trits::refusal::code(syndrome::syndrome(m, salt, text, ones, twos))
+}
+
+// `shake256` for C.
+#[no_mangle]
+pub extern "C" fn wave_shake256(message: &[u8], output: &mut [u8])
+    ensures { λ _. ⌜ now (output .exit) ≡ shake256 (now (message .entry)) (length (now (output .entry))) ⌝ }
+{
+    shake::shake256(message, output);
 }
 
 // `pack` for C.

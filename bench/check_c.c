@@ -1,4 +1,4 @@
-/* The unpacking of a row and the check in plain C, with the same tests in the same order. */
+/* The unpacking of a row, the syndrome of a text and the checks in plain C, with the same tests in the same order. */
 
 /* ---- the tests */
 
@@ -92,9 +92,13 @@ static counts full_counts_packed(wave_held h, const uint64_t *ones, const uint64
     return (counts){first.ones + taken.ones, first.twos + taken.twos};
 }
 
-static wave_checked verdict(wave_held h, counts c, uint64_t *work_ones, uint64_t *work_twos) {
+static void clear(wave_held h, uint64_t *work_ones, uint64_t *work_twos) {
     memset(work_ones, 0, 8 * WAVE_WORDS(h.n - h.k));
     memset(work_twos, 0, 8 * WAVE_WORDS(h.n - h.k));
+}
+
+static wave_checked verdict(wave_held h, counts c, uint64_t *work_ones, uint64_t *work_twos) {
+    clear(h, work_ones, work_twos);
     return (wave_checked){0, c.ones + c.twos == h.w, c.ones, c.twos};
 }
 
@@ -150,4 +154,37 @@ static wave_checked c_check(wave_held h, uint64_t number, const uint64_t *ones, 
 static wave_checked c_check_packed(wave_held h, uint64_t number, const uint64_t *ones, size_t on, const uint64_t *twos, size_t tn, const uint8_t *y, size_t yn, const uint8_t *s, size_t sn,
                             uint64_t *work_ones, size_t won, uint64_t *work_twos, size_t wtn) {
     return c_weigh_packed(h, number, ones, on, twos, tn, y, yn, s, sn, work_ones, won, work_twos, wtn, 1);
+}
+
+static uint64_t c_syndrome(size_t m, const uint8_t *salt, size_t salt_n, const uint8_t *text, size_t text_n,
+                           uint64_t *ones, size_t on, uint64_t *twos, size_t tn) {
+    uint8_t y[WAVE_BYTES(16384)];
+    size_t w = WAVE_WORDS(m);
+    if (m > 16384) return 1;
+    if (salt_n != WAVE_SALT_BYTES || on != w || tn != w) return 2;
+    if (stream_bytes(m, salt, text, text_n, y)) return 6;
+    if (!table[1][0]) make_table();
+    memset(ones, 0, 8 * w);
+    memset(twos, 0, 8 * w);
+    unpack(m, y, ones, twos);
+    return 0;
+}
+
+static wave_checked c_check_text(wave_held h, uint64_t number, const uint64_t *ones, size_t on, const uint64_t *twos,
+                                 size_t tn, const uint8_t *salt, size_t salt_n, const uint8_t *text, size_t text_n,
+                                 const uint8_t *s, size_t sn, uint64_t *work_ones, size_t won, uint64_t *work_twos,
+                                 size_t wtn) {
+    uint8_t y[WAVE_BYTES(16384)];
+    uint64_t r = call_refusal(h, number, on, tn, won, wtn);
+    size_t m = h.n - h.k;
+    if (!r && (salt_n != WAVE_SALT_BYTES || sn != WAVE_BYTES(h.k))) r = 2;
+    if (!r) r = planes_refusal(ones, twos, h.k, m);
+    if (!r) r = bytes_refusal(h.k, s, sn);
+    if (r) return (wave_checked){r, 0, 0, 0};
+    if (stream_bytes(m, salt, text, text_n, y)) {
+        clear(h, work_ones, work_twos);
+        return (wave_checked){6, 0, 0, 0};
+    }
+    if (!table[1][0]) make_table();
+    return verdict(h, full_counts_packed(h, ones, twos, y, s, work_ones, work_twos), work_ones, work_twos);
 }

@@ -2,8 +2,10 @@
 #include "plain.h"
 #include "grid_c.h"
 #include "rows_c.c"
+#include "shake_c.c"
 #include "check_c.c"
 #include "build_c.c"
 #include "draw_c.c"
 
-const side SIDE = {c_sum, c_weight, c_both_set, c_past_end, c_unpack, c_check, c_check_packed, c_weigh, c_weigh_packed, c_build, c_draw, &made};
+const side SIDE = {c_sum, c_weight, c_both_set, c_past_end, c_unpack, c_check, c_check_packed, c_weigh, c_weigh_packed,
+                   c_shake256, c_syndrome, c_check_text, c_build, c_draw, &made};

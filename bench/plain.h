@@ -26,6 +26,9 @@ typedef struct {
     __typeof__(wave_check) *check_packed;
     __typeof__(bench_weigh) *weigh;
     __typeof__(bench_weigh_packed) *weigh_packed;
+    __typeof__(wave_shake256) *shake256;
+    __typeof__(wave_syndrome) *syndrome;
+    __typeof__(wave_check_text) *check_text;
     __typeof__(wave_build) *build;
     __typeof__(wave_draw) *draw;
     const size_t *made; /* of plain C: the weight of the word that its last draw made */

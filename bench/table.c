@@ -1,19 +1,25 @@
-/* Times our calls against the same in plain C at gcc -O3 and at gcc -O3 -march=native, in one run that takes turns, and prints three tables: the two published sizes,
-   growth with n, and rows of other lengths. The three sides' answers and buffers are compared byte for byte in each turn. An argument is the least number of turns. */
+/* Times our calls against the same in plain C at gcc -O3 and at gcc -O3 -march=native, in one run that takes turns, and
+   prints four tables: the two published sizes, growth with n, rows of other lengths, and the hash. The three sides'
+   answers and buffers are compared byte for byte in each turn. An argument is the least number of turns. */
 #include "clock.h"
 #include "plain.h"
 #include <stdio.h>
 #include <stdlib.h>
 #include <string.h>
 
-#define SECONDS 1.0 /* turns are taken for so long, and at least `turns` of them */
-#define LEAST 1e5   /* nanoseconds between two readings of the clock, from the second turn on */
-#define TIMES 10000 /* rows summed or weighed in one call */
-#define WEIGHTS 20  /* weighings worked out in one call that makes its tests once */
+#define SECONDS 1.0     /* turns are taken for so long, and at least `turns` of them */
+#define LEAST 1e5       /* nanoseconds between two readings of the clock, from the second turn on */
+#define TIMES 10000     /* rows summed or weighed in one call */
+#define WEIGHTS 20      /* weighings worked out in one call that makes its tests once */
+#define TEXT 1000       /* bytes of the text that is checked */
+#define MESSAGE 1048576 /* bytes of the message that is hashed */
+#define OUTPUT 64       /* bytes that are taken of its hash */
 static int turns = 3;
 static double steps; /* of the time stamp counter in a nanosecond */
 
-static const side ours = {bench_sum, bench_weight, bench_both_set, bench_past_end, wave_unpack, bench_check, wave_check, bench_weigh, bench_weigh_packed, wave_build, wave_draw, 0};
+static const side ours = {bench_sum, bench_weight, bench_both_set, bench_past_end, wave_unpack, bench_check, wave_check,
+                          bench_weigh, bench_weigh_packed, wave_shake256, wave_syndrome, wave_check_text,
+                          wave_build, wave_draw, 0};
 static const side *const sides[] = {&ours, &plain_o3, &plain_native};
 
 /* ---- what goes in */
@@ -23,11 +29,11 @@ typedef struct { uint64_t *ones, *twos; size_t n; } planes;
 #define P(x) (x).ones, (x).n, (x).twos, (x).n
 
 typedef struct {
-    wave_sizes z;   /* of a build, and of a draw that releases its word */
-    wave_held held; /* of a check that says yes */
+    wave_sizes z;              /* of a build, and of a draw that releases its word */
+    wave_held held, text_held; /* of a check of y, and of one of salt and text, that says yes */
     size_t half, rows_u, rows_v, k, m;
     planes hu, hv, b, c, v, u, key, y, s;
-    uint8_t *key_bytes, *y_bytes, *s_bytes;
+    uint8_t *key_bytes, *y_bytes, *s_bytes, *salt, *text;
     uint16_t *order, *v_order, *u_order;
 } input;
 
@@ -98,6 +104,25 @@ static void sign(input *a, size_t w) {
     free(word), free(y), free(at);
 }
 
+/* n bytes that are not drawn, so that the inputs of the other calls stay as they were */
+static uint8_t *counted(size_t n) {
+    uint8_t *bytes = room(n, 1);
+    for (size_t i = 0; i < n; i++) bytes[i] = 7 * i;
+    return bytes;
+}
+
+/* a salt and a text for the same key and s; w is the weight that their word comes to */
+static void add_text(input *a) {
+    size_t w = a->y.n;
+    uint64_t *work = room(2 * w, 8);
+    a->salt = counted(WAVE_SALT_BYTES), a->text = counted(TEXT);
+    wave_checked c = plain_o3.check_text(a->held, 7, P(a->key), a->salt, WAVE_SALT_BYTES, a->text, TEXT, a->s_bytes,
+                                         WAVE_BYTES(a->k), work, w, work + w, w);
+    a->text_held = a->held;
+    a->text_held.w = c.ones + c.twos;
+    free(work);
+}
+
 /* what a call leaves: its answer, 0 for as it should be, a number or two more, and from HEAD on its buffers */
 #define HEAD 8
 static planes next(uint64_t **at, size_t n) {
@@ -125,6 +150,7 @@ static input make(wave_sizes z) {
     a.key = rows(k, a.m, 0), a.order = order(z.n), a.v_order = order(half), a.u_order = order(half);
     sign(&a, z.w);
     a.key_bytes = packed(a.key, k, a.m), a.y_bytes = packed(a.y, 1, a.m), a.s_bytes = packed(a.s, 1, k);
+    add_text(&a);
     uint64_t *out = room(space(&a), 8);
     run_draw(&plain_o3, &a, out);
     a.z.w = *plain_o3.made;
@@ -195,6 +221,25 @@ static size_t run_weigh_packed(const side *f, const input *a, uint64_t *out) {
     return told(f->weigh_packed(a->held, 7, P(a->key), a->y_bytes, WAVE_BYTES(a->m), a->s_bytes, WAVE_BYTES(a->k), P(work), WEIGHTS), out, at);
 }
 
+static size_t run_shake(const side *f, const input *a, uint64_t *out) {
+    f->shake256(a->text, MESSAGE, (uint8_t *)(out + HEAD), OUTPUT);
+    return HEAD + OUTPUT / 8;
+}
+
+static size_t run_syndrome(const side *f, const input *a, uint64_t *out) {
+    uint64_t *at = out + HEAD;
+    planes y = next(&at, a->y.n);
+    *out = f->syndrome(a->m, a->salt, WAVE_SALT_BYTES, a->text, TEXT, P(y));
+    return at - out;
+}
+
+static size_t run_check_text(const side *f, const input *a, uint64_t *out) {
+    uint64_t *at = out + HEAD;
+    planes work = next(&at, a->y.n);
+    return told(f->check_text(a->text_held, 7, P(a->key), a->salt, WAVE_SALT_BYTES, a->text, TEXT, a->s_bytes,
+                              WAVE_BYTES(a->k), P(work)), out, at);
+}
+
 static size_t run_build(const side *f, const input *a, uint64_t *out) {
     uint64_t *at = out + HEAD;
     planes key = next(&at, a->key.n), work = next(&at, wave_build_work(a->z));
@@ -203,7 +248,8 @@ static size_t run_build(const side *f, const input *a, uint64_t *out) {
 }
 
 typedef struct { const char *name; size_t (*run)(const side *, const input *, uint64_t *); size_t times; } act;
-enum { SUM, WEIGHT, UNPACK, CHECK, WEIGH, CHECK_PACKED, WEIGH_PACKED, BUILD, DRAW, BOTH_SET, PAST_END, ACTS };
+enum { SUM, WEIGHT, UNPACK, CHECK, WEIGH, CHECK_PACKED, WEIGH_PACKED, SYNDROME, CHECK_TEXT, BUILD, DRAW,
+       BOTH_SET, PAST_END, SHAKE, ACTS };
 static const act acts[ACTS] = {
     [SUM] = {"sum of two rows", run_sum, TIMES},
     [WEIGHT] = {"weight of a row", run_weight, TIMES},
@@ -212,10 +258,13 @@ static const act acts[ACTS] = {
     [WEIGH] = {"check in planes, counts only", run_weigh, WEIGHTS},
     [CHECK_PACKED] = {"check packed", run_check_packed, 1},
     [WEIGH_PACKED] = {"check packed, counts only", run_weigh_packed, WEIGHTS},
+    [SYNDROME] = {"syndrome of salt and text", run_syndrome, 1},
+    [CHECK_TEXT] = {"check of salt and text", run_check_text, 1},
     [BUILD] = {"build", run_build, 1},
     [DRAW] = {"draw", run_draw, 1},
     [BOTH_SET] = {"bit in both planes (3)", run_both_set, TIMES},
     [PAST_END] = {"bits past 64 rows (4)", run_past_end, TIMES},
+    [SHAKE] = {"SHAKE256 of 1 MiB, each byte", run_shake, MESSAGE},
 };
 
 /* ---- the clock */
@@ -326,8 +375,18 @@ static void lengths(void) {
         }
 }
 
+/* the hash of one long message; the figures are for each of its bytes */
+static void hashing(void) {
+    input a = {.text = counted(MESSAGE)};
+    figures f = measure(&acts[SHAKE], &a);
+    head("bytes");
+    line(&acts[SHAKE], MESSAGE, &f, 0);
+}
+
 int main(int count, char **argument) {
-    static const char *const submission[ACTS] = {[UNPACK] = "205,829,565 (with a check)", [CHECK] = "1,230,598", [CHECK_PACKED] = "1,230,598", [BUILD] = "14,468,000,043", [DRAW] = "1,160,793,621"};
+    static const char *const submission[ACTS] = {
+        [UNPACK] = "205,829,565 (with a check)", [CHECK] = "1,230,598", [CHECK_PACKED] = "1,230,598",
+        [CHECK_TEXT] = "1,230,598", [BUILD] = "14,468,000,043", [DRAW] = "1,160,793,621"};
     static const char *const wavelet[ACTS] = {[BUILD] = "7,403,069,461", [DRAW] = "1,644,281,062"};
     figures first[ACTS], second[ACTS];
     if (count > 1) turns = atoi(argument[1]);
@@ -339,5 +398,6 @@ int main(int count, char **argument) {
     published_size(&b, wavelet, second);
     growth(first);
     lengths();
+    hashing();
     return 0;
 }

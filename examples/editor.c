@@ -1,11 +1,14 @@
 /*
- * An editor: it builds a key from a stored secret, draws until a word is released, and prints the lines by which a
- * module takes the key and checks the signature. The secret is the paper's, at n = 4, so that every step can be
- * followed by hand; at other sizes only the constants and the digits below change.
+ * An editor: it builds a key from a stored secret, makes the syndrome of a text with its salt, draws until a word is
+ * released, and prints the lines by which a module takes the key and checks the signature. The secret is the paper's,
+ * at n = 4, so that every step can be followed by hand; at other sizes only the constants and the digits below change.
+ * It links both archives: the syndrome is made by the module's half, so that both halves make the same one.
  */
 #include <inttypes.h>
 #include <stdio.h>
+#include <string.h>
 
+#include "wave_checker.h"
 #include "wave_signer.h"
 
 enum { N = 4, KU = 1, KV = 1, GV = 0, GU = 0, W = 4, K = KU + KV, M = N - K, HALF = N / 2 };
@@ -28,6 +31,13 @@ static const uint16_t start[N] = { 0, 1, 2, 3 };
 /* What a build releases: the order p, which stays with the editor, and the key. */
 static uint16_t p[N];
 PLANES(key, WAVE_KEY_WORDS(N, K));
+
+/* The text that is signed, and a salt, which an editor draws anew for each signature. */
+static const char text[] = "formula 12: white 250, red 12, blue 3";
+static const uint8_t salt[WAVE_SALT_BYTES] = {
+    0x4c, 0xe5, 0xe7, 0x36, 0xbb, 0x26, 0x1c, 0x9c, 0x1b, 0xce, 0x84, 0xfd, 0xfe, 0x7f, 0x14, 0x2b,
+    0x67, 0x48, 0xf2, 0xaa, 0x72, 0x31, 0x76, 0xc5, 0x92, 0x64, 0x77, 0xe4, 0xd9, 0x8d, 0xf0, 0x07
+};
 
 /* What a draw takes: the syndrome and the choices; what it releases: the word and its signature s. */
 PLANES(y, WAVE_WORDS(M));
@@ -72,8 +82,8 @@ static void read_secret(void)
     put_digits(c_ones, c_twos, "12");
 }
 
-/* Makes the choices of one draw: V trits, and U values that are not 0 from index GU on. An editor takes them from a source
-   of randomness; here they are counted through. */
+/* Makes the choices of one draw: V trits, and U values that are not 0 from index GU on. An editor takes them from a
+   source of randomness; here they are counted through. */
 static void choose(unsigned x)
 {
     put(v_ones, v_twos, 0, x % 3);
@@ -84,6 +94,12 @@ static void choose(unsigned x)
 static uint64_t build(void)
 {
     return wave_build(sizes, LENT(hu), LENT(hv), LENT(b), LENT(c), start, N, p, N, LENT(key), LENT(build_work));
+}
+
+/* Makes the syndrome of the text with its salt: 0, or the number of the refusal. */
+static uint64_t hash(void)
+{
+    return wave_syndrome(M, salt, WAVE_SALT_BYTES, (const uint8_t *)text, strlen(text), LENT(y));
 }
 
 /* Draws once by the choices made: 0, or the number of the refusal. */
@@ -140,8 +156,7 @@ int main(void)
         return 1;
     print_key();
 
-    put_digits(y_ones, y_twos, "12");
-    if (refused("every draw", sign()))
+    if (refused("the text", hash()) || refused("every draw", sign()))
         return 1;
     print_signature();
     return 0;

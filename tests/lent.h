@@ -36,14 +36,17 @@ static inline void lend(lent *l, size_t count, size_t size, int fill)
     all[lents++] = l;
 }
 
-static inline void take_back_all(void)
+/* the last so many */
+static inline void take_back(size_t count)
 {
-    while (lents > 0) {
+    for (size_t i = 0; i < count; i++) {
         lents--;
         free(all[lents]->base);
         free(all[lents]->copy);
     }
 }
+
+static inline void take_back_all(void) { take_back(lents); }
 
 static inline void note(lent *l) { memcpy(l->copy, l->base, (l->count + 2 * GUARD) * l->size); }
 

@@ -1,15 +1,16 @@
 -- The states of the sponge: blocks absorbed one after another, and the output squeezed. Assumes nothing.
 use mathlib.Core.Path.{_≡_, refl, sym, ap, _∙_, fun-ext}
-use mathlib.Core.Bool.{Bool, cond, true, false}
+use mathlib.Core.Logic.{_≢_}
+use mathlib.Core.Bool.{cond}
 use mathlib.Core.List.{List}
 use Prim.Native.Nat.{ℕ, zero, suc, _+_, _*_, _/_, _%_, _^_, _≤_, _<_}
-use native.Mathlib.Decide.{decLt, ℕ-discrete}
+use native.Mathlib.Decide.{decLt}
 use native.Mathlib.Nat.{mod-lt}
 use native.Mathlib.Numerals.{add-one}
 use native.Mathlib.Omega.{arith}
-use borrow.Author.Tests.{lt-ltb, le-ltb, eq-eqb, ne-eqb}
+use borrow.Author.Tests.{lt-ltb, le-ltb}
 use lib.Bits.{bitXor}
-use lib.Dec.{ltb, eqb, lit<}
+use lib.Dec.{ltb, lit<}
 use lib.ListN.{length, getD}
 use Rattle.trits.specs.Planes.{tabulate}
 use Rattle.trits.proofs.Lists.{length-tabulate, getD-tabulate}
@@ -17,7 +18,7 @@ use Rattle.keccak.specs.Keccak.{State, permuted}
 use Rattle.keccak.specs.Lanes.{laneAt, sheetOf, lanesOf}
 use Rattle.keccak.proofs.Lanes.{Same, lane-of, same-lanes, same-permuted}
 use Rattle.shake.specs.Shake.{rate, paddedByte, wordOf, added, absorbed, blocksOf, stateByte, squeezed, squeezedByte, squeezedBytes}
-use Rattle.shake.specs.Steps.{absorbedBlock, advanced}
+use Rattle.shake.specs.Steps.{absorbedBlock}
 
 -- ---- a block is read at its own places, and a state at its 25 lanes
 
@@ -83,22 +84,22 @@ pub gives-byte : {s : State} {i : ℕ} {b : List (List ℕ)} → Gives s i b →
 unfolding squeezedByte
 gives-byte {s} {i} h = same-byte (h .reads) (i % rate) (mod-lt i (lit< tt))
 
-pub gives-next : {s : State} {i : ℕ} {b next : List (List ℕ)} → Gives s i b → next ≡ advanced b (i + 1) → Gives s (i + 1) next
-unfolding advanced squeezed
-gives-next {s} {i} {b} {next} h e = record { reads = by (ℕ-discrete ((i + 1) % rate) 0) }
-  where
-    arrays : {t : Bool} → eqb ((i + 1) % rate) 0 ≡ t → next ≡ cond t (lanesOf (permuted (laneAt b))) b
-    arrays f = e ∙ ap (λ (t : Bool). cond t (lanesOf (permuted (laneAt b))) b) f
-    by : Dec ((i + 1) % rate ≡ 0) → Same (laneAt next) (squeezed s ((i + 1) / rate))
-    by (yes z) x y hx hy =
-        let d : (i + 1) / rate ≡ suc (i / rate) = omega arith in
-        ap (λ (l : List (List ℕ)). laneAt l x y) (arrays (eq-eqb ((i + 1) % rate) 0 z)) ∙ lane-of (permuted (laneAt b)) x y hx hy
-        ∙ same-permuted (h .reads) x y hx hy ∙ ap (λ (k : ℕ). squeezed s k x y) (sym d)
-    by (no n) x y hx hy =
-        let g : ((i + 1) % rate ≡ 0) → ⊥ = n in
-        let d : (i + 1) / rate ≡ i / rate = omega arith in
-        ap (λ (l : List (List ℕ)). laneAt l x y) (arrays (ne-eqb ((i + 1) % rate) 0 n)) ∙ h .reads x y hx hy
-        ∙ ap (λ (k : ℕ). squeezed s k x y) (sym d)
+-- the state of the next byte is another where a block begins, and else the same
+module _ {s : State} {i : ℕ} {b : List (List ℕ)} (h : Gives s i b) where
+  pub gives-permuted : (i + 1) % rate ≡ 0 → {next : List (List ℕ)} → next ≡ lanesOf (permuted (laneAt b)) → Gives s (i + 1) next
+  unfolding squeezed
+  gives-permuted z e = record {
+    reads = λ x y hx hy.
+    let d : (i + 1) / rate ≡ suc (i / rate) = omega arith in
+    ap (λ (l : List (List ℕ)). laneAt l x y) e ∙ lane-of (permuted (laneAt b)) x y hx hy ∙ same-permuted (h .reads) x y hx hy
+    ∙ ap (λ (k : ℕ). squeezed s k x y) (sym d);
+  }
+
+  pub gives-same : ((i + 1) % rate ≡ 0 → ⊥) → Gives s (i + 1) b
+  gives-same n =
+      let g : (i + 1) % rate ≢ 0 = n in
+      let d : (i + 1) / rate ≡ i / rate = omega arith in
+      record { reads = λ x y hx hy. h .reads x y hx hy ∙ ap (λ (k : ℕ). squeezed s k x y) (sym d) }
 
 -- the output of arrays is that of the state which they hold
 same-bytes : {a : List (List ℕ)} (s : State) → a ≡ lanesOf s → squeezedByte (laneAt a) ≡ squeezedByte s

@@ -38,10 +38,6 @@ pub record ForPlace (first last : List ℕ) (i : ℕ) : Type 0 where
   pub message : ForMessage first last
   pub place : i ≤ length (first ++ last) + rate
 
--- the arrays from which byte i of the output is read, where those of the byte before are a
-unfoldable pub advanced : List (List ℕ) → ℕ → List (List ℕ)
-advanced a i = cond (eqb (i % rate) 0) (lanesOf (permuted (laneAt a))) a
-
 -- n bytes of the padded message from a place on
 pub record ForBlock (first last : List ℕ) (start n : ℕ) : Type 0 where
   pub message : ForMessage first last

@@ -4,7 +4,6 @@ ghost use Prim.Native.Nat.{_<_};
 ghost use lib.ListN.{length};
 ghost use Rattle.keccak.specs.Lanes.{laneAt};
 ghost use Rattle.shake.specs.Shake.{rate, stateByte, squeezedBytes};
-ghost use Rattle.shake.specs.Steps.{advanced};
 
 // Byte i of a state.
 pub fn byte_of(a: [[u64; 5]; 5], i: usize) -> u8
@@ -12,16 +11,6 @@ pub fn byte_of(a: [[u64; 5]; 5], i: usize) -> u8
     ensures { λ r. ⌜ r ≡ stateByte (laneAt a) i ⌝ }
 {
     ((a[i / 8 % 5][i / 40] >> (8 * (i % 8))) % 256) as u8
-}
-
-// The state from which byte i of the output is taken, where that of the byte before is a.
-pub fn advance(a: [[u64; 5]; 5], i: usize) -> [[u64; 5]; 5]
-    ensures { λ r. ⌜ r ≡ advanced a i ⌝ }
-{
-    if i % 136 == 0 {
-        return keccak::permute(a);
-    }
-    a
 }
 
 // The output from a state on, as many bytes as are lent.
@@ -33,7 +22,9 @@ pub fn squeeze(a: [[u64; 5]; 5], output: &mut [u8])
     while i < output.len() {
         output[i] = byte_of(b, i % 136);
         i += 1;
-        let next = advance(b, i);
-        b = next;
+        if i % 136 == 0 {
+            let next = keccak::permute(b);
+            b = next;
+        }
     }
 }

@@ -6,7 +6,6 @@ ghost use Rattle.trits.specs.Planes.{Reads};
 ghost use Rattle.packed.specs.Stream.{streamRow, tooShort};
 ghost use Rattle.packed.specs.Calls.{mostTrits};
 ghost use Rattle.syndrome.specs.Steps.{outputFor, ForPutOutput, ForWriteOutput};
-use shake::squeezing::advance;
 use shake::squeezing::byte_of;
 
 // Whether the output that is looked at gives fewer than m trits.
@@ -24,8 +23,10 @@ pub fn too_short(m: usize, a: [[u64; 5]; 5]) -> bool
         }
         left = packing::faults::count_byte(left, byte_of(b, i % 136));
         i += 1;
-        let next = advance(b, i);
-        b = next;
+        if i % 136 == 0 {
+            let next = keccak::permute(b);
+            b = next;
+        }
     }
     left != 0
 }
@@ -47,8 +48,10 @@ fn put_output(
     while at < m {
         at = packing::write::put_next(table, m, byte_of(b, i % 136), ones, twos, at);
         i += 1;
-        let next = advance(b, i);
-        b = next;
+        if i % 136 == 0 {
+            let next = keccak::permute(b);
+            b = next;
+        }
     }
 }
 

@@ -1,17 +1,19 @@
--- After each byte the row holds the first trits of the output, as many as the bytes read so far give (`Stands`, `reads-next`).
+-- After each byte the row holds the first trits of the output, as many as the bytes read so far give (`Stands`, `reads-byte`).
 -- Assumes nothing.
 use native.Mathlib.Omega.{arith}
-use Prim.Native.Nat.{_+_, _-_, _<_}
+use Prim.Native.Nat.{ℕ, _+_, _-_, _<_}
+use mathlib.Core.List.{List}
 use mathlib.Core.Path.{_≡_, refl, sym, _∙_}
 use native.Mathlib.Nat.{mod-lt}
 use lib.Dec.{lit<}
 use lib.ListN.{length, getD}
+use denote.Ref.{now}
 use borrow.Author.Needs.{needs}
 use Rattle.trits.specs.Planes.{Reads}
 use Rattle.packed.specs.Stream.{streamRow}
 use Rattle.packed.proofs.Putting.{Stands, stands-none, stands-more, stands-byte, reads-byte, stands-all}
 use Rattle.keccak.specs.Lanes.{laneAt}
-use Rattle.shake.proofs.Sponge.{Gives, gives-first, gives-next, gives-at, length-squeezed}
+use Rattle.shake.proofs.Sponge.{Gives, gives-first, gives-permuted, gives-same, gives-at, length-squeezed}
 use Rattle.syndrome.specs.Steps.{outputFor}
 use Rattle.syndrome.proofs.reading.put_output.Statement.{statement}
 use Rattle.syndrome.proofs.reading.put_output.Tie as tie
@@ -39,8 +41,15 @@ in-loop-from-put-next c = in-loop-from-put-next-arg (c .before)
 abbrev put-next-from-known : tie.After-slice-known4 Inv-loop μ-loop → tie.After-put-next Inv-loop μ-loop
 put-next-from-known c = c .before .before .before .before
 
--- there is a byte of the output to read
-in-output : (c : tie.In-loop Inv-loop μ-loop) → c .before .loop .i < length (outputFor (start-from-in-loop c .args .m) (start-from-in-loop c .args .a))
+abbrev in-loop-from-known : tie.After-slice-known4 Inv-loop μ-loop → tie.In-loop Inv-loop μ-loop
+in-loop-from-known c = in-loop-from-put-next (put-next-from-known c)
+
+-- the output that is read
+abbrev output-of : tie.In-loop Inv-loop μ-loop → List ℕ
+output-of c = outputFor (start-from-in-loop c .args .m) (start-from-in-loop c .args .a)
+
+-- there is a byte of it to read
+in-output : (c : tie.In-loop Inv-loop μ-loop) → c .before .loop .i < length (output-of c)
 in-output c = stands-more (c .before .loop .inv .0) (c .loop-test .taken) (start-from-in-loop c .pre .enough)
 
 more : (c : tie.In-loop Inv-loop μ-loop) → c .before .loop .i < start-from-in-loop c .args .m + 136
@@ -49,12 +58,24 @@ more c =
     omega (arith, in-output c, length-squeezed (laneAt (a .a)) (a .m + 136))
 
 -- and the byte that is put is it
-byte : (c : tie.After-put-next Inv-loop μ-loop) → c .before .before .before .byte-of .result
-    ≡ getD (outputFor (start-from-in-loop (in-loop-from-put-next c) .args .m) (start-from-in-loop (in-loop-from-put-next c) .args .a))
-    (in-loop-from-put-next c .before .loop .i) 0
+byte : (c : tie.After-put-next Inv-loop μ-loop) → let in-loop = in-loop-from-put-next c in
+    c .before .before .before .byte-of .result ≡ getD (output-of in-loop) (in-loop .before .loop .i) 0
 byte c =
     let in-loop = in-loop-from-put-next c in
     c .before .before .before .byte-of .ensures ∙ gives-at (in-loop .before .loop .inv .2) (start-from-in-loop in-loop .args .m + 136) (more in-loop)
+
+-- the row after it
+one-more : (c : tie.After-put-next Inv-loop μ-loop) → let in-loop = in-loop-from-put-next c in let s = start-from-in-loop in-loop in
+    Stands (s .args .m) (output-of in-loop) (c .put-next .result) (in-loop .before .loop .i + 1)
+    × Reads (c .put-next .last .1 .1 .1 .0) (c .put-next .last .1 .1 .1 .1 .0) (length (now (s .args .ones))) (streamRow (c .put-next .result) (output-of in-loop))
+one-more c =
+    let in-loop = in-loop-from-put-next c in
+    let l = in-loop .before .loop in
+    let taken = in-loop .loop-test .taken in
+    let e = c .put-next .ensures in (
+      stands-byte (l .inv .0) taken (in-output in-loop) (byte c) (e .0),
+      reads-byte (l .inv .0) taken (in-output in-loop) (byte c) (l .inv .1) (e .0) (e .1),
+    )
 
 loop-holds : tie.Need-loop-holds Inv-loop μ-loop
 loop-holds c =
@@ -78,28 +99,32 @@ put-next-requires c κs =
 
 add-i : tie.Need-add-i Inv-loop μ-loop
 add-i c =
-    let l = in-loop-from-put-next (put-next-from-known c) in
-    omega (arith, more l, start-from-in-loop l .pre .small)
+    let in-loop = in-loop-from-known c in
+    omega (arith, more in-loop, start-from-in-loop in-loop .pre .small)
 
-advance-requires : tie.Need-advance-requires Inv-loop μ-loop
-advance-requires c κs = search needs
+permute-requires : tie.Need-permute-requires Inv-loop μ-loop
+permute-requires c κs = search needs
 
 loop-less : tie.Need-loop-less Inv-loop μ-loop
 loop-less c =
-    let l = in-loop-from-put-next (put-next-from-known (c .before)) in
-    omega (arith, more l)
+    omega (arith, more (in-loop-from-known (c .before .before)))
 
 loop-again : tie.Need-loop-again Inv-loop μ-loop
 loop-again c =
-    let after-put-next = put-next-from-known (c .before) in
-    let in-loop = in-loop-from-put-next after-put-next in
-    let l = in-loop .before .loop in
-    let taken = in-loop .loop-test .taken in
-    let e = after-put-next .put-next .ensures in (
-      stands-byte (l .inv .0) taken (in-output in-loop) (byte after-put-next) (e .0),
-      reads-byte (l .inv .0) taken (in-output in-loop) (byte after-put-next) (l .inv .1) (e .0) (e .1),
-      gives-next (l .inv .2) (c .advance .ensures),
-    )
+    let then1 = c .before in
+    let l = in-loop-from-known (then1 .before) .before .loop in
+    let (stands, reads) = one-more (put-next-from-known (then1 .before)) in
+    (stands, reads, gives-permuted (l .inv .2) (then1 .if1 .taken) (c .permute .ensures))
+
+loop-less-2 : tie.Need-loop-less-2 Inv-loop μ-loop
+loop-less-2 c =
+    omega (arith, more (in-loop-from-known (c .before)))
+
+loop-again-2 : tie.Need-loop-again-2 Inv-loop μ-loop
+loop-again-2 c =
+    let l = in-loop-from-known (c .before) .before .loop in
+    let (stands, reads) = one-more (put-next-from-known (c .before)) in
+    (stands, reads, gives-same (l .inv .2) (c .if1 .left))
 
 same-length : tie.Need-same-length Inv-loop μ-loop
 same-length c =
@@ -125,9 +150,11 @@ put-output-spec =
     byte-of-requires
     put-next-requires
     add-i
-    advance-requires
+    permute-requires
     loop-less
     loop-again
+    loop-less-2
+    loop-again-2
     same-length
     same-length-2
     returns)

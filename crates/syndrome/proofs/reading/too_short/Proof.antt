@@ -10,7 +10,7 @@ use Rattle.packed.specs.Steps.{missing}
 use Rattle.packed.specs.Stream.{kept}
 use Rattle.packed.proofs.Keeping.{given, missing-turn, long-enough, counted-out}
 use Rattle.keccak.specs.Lanes.{laneAt}
-use Rattle.shake.proofs.Sponge.{Gives, gives-first, gives-next, gives-at, length-squeezed}
+use Rattle.shake.proofs.Sponge.{Gives, gives-first, gives-permuted, gives-same, gives-at, length-squeezed}
 use Rattle.syndrome.specs.Steps.{outputFor}
 use Rattle.syndrome.proofs.reading.too_short.Statement.{statement}
 use Rattle.syndrome.proofs.reading.too_short.Tie as tie
@@ -24,6 +24,21 @@ abbrev μ-loop : tie.MeasureT-loop
 
 add-end : tie.Need-add-end Inv-loop μ-loop
 add-end c = search needs
+
+-- The place that the answers look back to.
+abbrev loop-from-count-byte : tie.After-count-byte Inv-loop μ-loop → tie.At-loop Inv-loop μ-loop
+loop-from-count-byte c = c .before .before .before .before
+
+-- what is missing after one byte more
+counted : (c : tie.After-count-byte Inv-loop μ-loop) → let a = loop-from-count-byte c .before .args in
+    c .count-byte .result ≡ a .m - 5 * given (outputFor (a .m) (a .a)) (loop-from-count-byte c .loop .i + 1)
+counted c =
+    let in-loop = c .before .before .before in
+    let l = in-loop .before .loop in
+    let a = in-loop .before .before .args in
+    let size = length-squeezed (laneAt (a .a)) (a .m + 136) in
+    let byte = c .before .byte-of .ensures ∙ gives-at (l .inv .2) (a .m + 136) (in-loop .loop-test .taken) in
+    missing-turn (a .m) (outputFor (a .m) (a .a)) (l .i) (omega arith) (l .inv .1) (c .count-byte .ensures ∙ ap (missing (l .left)) byte)
 
 loop-holds : tie.Need-loop-holds Inv-loop μ-loop
 unfolding kept
@@ -46,8 +61,8 @@ count-byte-requires c κs = search needs
 add-i : tie.Need-add-i Inv-loop μ-loop
 add-i c = search needs
 
-advance-requires : tie.Need-advance-requires Inv-loop μ-loop
-advance-requires c κs = search needs
+permute-requires : tie.Need-permute-requires Inv-loop μ-loop
+permute-requires c κs = search needs
 
 loop-less : tie.Need-loop-less Inv-loop μ-loop
 loop-less c =
@@ -55,17 +70,18 @@ loop-less c =
 
 loop-again : tie.Need-loop-again Inv-loop μ-loop
 loop-again c =
-    let after-count-byte = c .before in
-    let after-byte-of = after-count-byte .before in
-    let in-loop = after-byte-of .before .before in
-    let l = in-loop .before .loop in
-    let a = in-loop .before .before .args in
-    let size = length-squeezed (laneAt (a .a)) (a .m + 136) in
-    let byte = after-byte-of .byte-of .ensures ∙ gives-at (l .inv .2) (a .m + 136) (in-loop .loop-test .taken) in (
-      omega arith,
-      missing-turn (a .m) (outputFor (a .m) (a .a)) (l .i) (omega arith) (l .inv .1) (after-count-byte .count-byte .ensures ∙ ap (missing (l .left)) byte),
-      gives-next (l .inv .2) (c .advance .ensures),
-    )
+    let then2 = c .before in
+    let l = loop-from-count-byte (then2 .before) .loop in
+    (omega arith, counted (then2 .before), gives-permuted (l .inv .2) (then2 .if2 .taken) (c .permute .ensures))
+
+loop-less-2 : tie.Need-loop-less-2 Inv-loop μ-loop
+loop-less-2 c =
+    omega arith
+
+loop-again-2 : tie.Need-loop-again-2 Inv-loop μ-loop
+loop-again-2 c =
+    let l = loop-from-count-byte (c .before) .loop in
+    (omega arith, counted (c .before), gives-same (l .inv .2) (c .if2 .left))
 
 returns-2 : tie.Need-returns-2 Inv-loop μ-loop
 returns-2 c =
@@ -86,7 +102,9 @@ too-short-spec =
     byte-of-requires
     count-byte-requires
     add-i
-    advance-requires
+    permute-requires
     loop-less
     loop-again
+    loop-less-2
+    loop-again-2
     returns-2)

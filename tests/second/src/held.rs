@@ -1,8 +1,9 @@
 //! The module's half: the held key, its rows, and the verdict.
 
 use crate::algebra::{ones_and_twos, take_out};
-use crate::packing::{bytes, packed_fault, unpacked};
-use crate::planes::{fault, read, words, write_row};
+use crate::packing::{bytes, packed_fault, syndrome_by, unpacked, Hash, SALT};
+use crate::planes::{fault, read, read_row, words, write_row};
+use crate::shake::shake256;
 
 /// The state, as the C header has it.
 #[repr(C)]
@@ -93,8 +94,46 @@ pub fn full_word(rows: &[Vec<u8>], y: &[u8], s: &[u8]) -> Vec<u8> {
     word
 }
 
-#[allow(clippy::too_many_arguments)]
-pub fn check(held: Held, number: u64, ones: &[u64], twos: &[u64], y: &[u8], s: &[u8], work_ones: &mut [u64], work_twos: &mut [u64]) -> Checked {
+/// What a check is asked about: a packed syndrome, or a salt and a text of which a hash makes one.
+#[derive(Clone, Copy)]
+pub enum Asked<'a> {
+    Syndrome(&'a [u8]),
+    Text { hash: Hash, salt: &'a [u8], text: &'a [u8] },
+}
+
+impl Asked<'_> {
+    fn length_right(&self, m: usize) -> bool {
+        match self {
+            Asked::Syndrome(y) => y.len() == bytes(m),
+            Asked::Text { salt, .. } => salt.len() == SALT,
+        }
+    }
+
+    /// The refusal of its contents: a salt and a text may hold anything.
+    fn fault(&self, m: usize) -> u64 {
+        match self {
+            Asked::Syndrome(y) => packed_fault(y, m),
+            Asked::Text { .. } => 0,
+        }
+    }
+
+    /// The m trits of y, or 6.
+    fn trits(&self, m: usize) -> Result<Vec<u8>, u64> {
+        match *self {
+            Asked::Syndrome(y) => Ok(unpacked(y, m)),
+            Asked::Text { hash, salt, text } => {
+                let (mut ones, mut twos) = (vec![0; words(m)], vec![0; words(m)]);
+                match syndrome_by(hash, m as u64, salt, text, &mut ones, &mut twos) {
+                    0 => Ok(read_row(&ones, &twos, m)),
+                    found => Err(found),
+                }
+            }
+        }
+    }
+}
+
+/// A check of either kind; planes are ones, then twos. The working space is 0 after 6 and after a verdict.
+pub fn check_on(held: Held, number: u64, key: [&[u64]; 2], asked: Asked, s: &[u8], work: [&mut [u64]; 2]) -> Checked {
     let refused = |refusal| Checked { refusal, yes: 0, ones: 0, twos: 0 };
     let found = state_refusal(&held);
     if found != 0 {
@@ -107,25 +146,45 @@ pub fn check(held: Held, number: u64, ones: &[u64], twos: &[u64], y: &[u8], s: &
         return refused(22);
     }
     let (k, m) = (held.k as usize, (held.n - held.k) as usize);
-    if ones.len() != k * words(m) || twos.len() != k * words(m) || y.len() != bytes(m) || s.len() != bytes(k) {
+    if key.iter().any(|plane| plane.len() != k * words(m)) || work.iter().any(|plane| plane.len() != words(m)) {
         return refused(2);
     }
-    if work_ones.len() != words(m) || work_twos.len() != words(m) {
+    if !asked.length_right(m) || s.len() != bytes(k) {
         return refused(2);
     }
-    let found = fault(ones, twos, k, m);
-    if found != 0 {
-        return refused(found);
-    }
-    for (bytes, length) in [(y, m), (s, k)] {
-        let found = packed_fault(bytes, length);
+    for found in [fault(key[0], key[1], k, m), asked.fault(m), packed_fault(s, k)] {
         if found != 0 {
             return refused(found);
         }
     }
-    let word = full_word(&read(ones, twos, k, m), &unpacked(y, m), &unpacked(s, k));
-    work_ones.fill(0);
-    work_twos.fill(0);
+    for plane in work {
+        plane.fill(0);
+    }
+    let y = match asked.trits(m) {
+        Ok(y) => y,
+        Err(found) => return refused(found),
+    };
+    let word = full_word(&read(key[0], key[1], k, m), &y, &unpacked(s, k));
     let (ones, twos) = ones_and_twos(&word);
     Checked { refusal: 0, yes: ((ones + twos) as u64 == held.w) as u64, ones: ones as u64, twos: twos as u64 }
+}
+
+#[allow(clippy::too_many_arguments)]
+pub fn check(held: Held, number: u64, ones: &[u64], twos: &[u64], y: &[u8], s: &[u8], work_ones: &mut [u64], work_twos: &mut [u64]) -> Checked {
+    check_on(held, number, [ones, twos], Asked::Syndrome(y), s, [work_ones, work_twos])
+}
+
+#[allow(clippy::too_many_arguments)]
+pub fn check_text(
+    held: Held,
+    number: u64,
+    ones: &[u64],
+    twos: &[u64],
+    salt: &[u8],
+    text: &[u8],
+    s: &[u8],
+    work_ones: &mut [u64],
+    work_twos: &mut [u64],
+) -> Checked {
+    check_on(held, number, [ones, twos], Asked::Text { hash: shake256, salt, text }, s, [work_ones, work_twos])
 }

@@ -1,6 +1,7 @@
-//! Five trits to a byte, and trits of a byte stream.
+//! Five trits to a byte, trits of a byte stream, and the syndrome of a text.
 
 use crate::planes::{fault, read_row, words, write_row};
+use crate::shake::shake256;
 
 pub fn bytes(m: usize) -> usize {
     m.div_ceil(5)
@@ -98,4 +99,30 @@ pub fn from_stream(m: u64, stream: &[u8], ones: &mut [u64], twos: &mut [u64]) ->
     }
     write_row(&row, ones, twos);
     0
+}
+
+/// Bytes of a salt.
+pub const SALT: usize = 32;
+
+/// How many bytes of a hash are read for m trits, skipped ones counted: so many more than m.
+const SPARE: usize = 136;
+
+/// Fills an output of any length with the hash of a message.
+pub type Hash = fn(message: &[u8], output: &mut [u8]);
+
+/// The syndrome of a salt and a text by any hash, so that a stream can be had that no text is known for.
+pub fn syndrome_by(hash: Hash, m: u64, salt: &[u8], text: &[u8], ones: &mut [u64], twos: &mut [u64]) -> u64 {
+    if too_many(m) {
+        return 1;
+    }
+    if salt.len() != SALT {
+        return 2;
+    }
+    let mut stream = vec![0; m as usize + SPARE];
+    hash(&[salt, text].concat(), &mut stream);
+    from_stream(m, &stream, ones, twos)
+}
+
+pub fn syndrome(m: u64, salt: &[u8], text: &[u8], ones: &mut [u64], twos: &mut [u64]) -> u64 {
+    syndrome_by(shake256, m, salt, text, ones, twos)
 }

@@ -130,6 +130,9 @@ type UnpackFn = unsafe extern "C" fn(usize, B, L, W, L, W, L) -> u64;
 type BeginFn = unsafe extern "C" fn(Held, u64, u64, u64, u64) -> Stored;
 type StoreFn = unsafe extern "C" fn(Held, W, L, W, L, B, L) -> Stored;
 type CheckFn = unsafe extern "C" fn(Held, u64, W, L, W, L, B, L, B, L, W, L, W, L) -> Checked;
+type CheckTextFn = unsafe extern "C" fn(Held, u64, W, L, W, L, B, L, B, L, B, L, W, L, W, L) -> Checked;
+type SyndromeFn = unsafe extern "C" fn(usize, B, L, B, L, W, L, W, L) -> u64;
+type ShakeFn = unsafe extern "C" fn(B, L, B, L);
 #[rustfmt::skip]
 type BuildFn = unsafe extern "C" fn(Sizes, W, L, W, L, W, L, W, L, W, L, W, L, W, L, W, L, O, L, O, L, W, L, W, L, W, L, W, L) -> u64;
 #[rustfmt::skip]
@@ -191,6 +194,14 @@ impl Archives {
                 Call::Begin => stored(as_call::<_, BeginFn>(at)(held(x), x[6], x[7], x[8], x[9])),
                 Call::Store => stored(as_call::<_, StoreFn>(at)(held(x), w(0), l(0), w(1), l(1), b(2), l(2))),
                 Call::Check => checked(as_call::<_, CheckFn>(at)(held(x), x[6], w(0), l(0), w(1), l(1), b(2), l(2), b(3), l(3), w(4), l(4), w(5), l(5))),
+                Call::CheckText => checked(as_call::<_, CheckTextFn>(at)(held(x), x[6], w(0), l(0), w(1), l(1),
+                    b(2), l(2), b(3), l(3), b(4), l(4), w(5), l(5), w(6), l(6))),
+                Call::Syndrome => vec![as_call::<_, SyndromeFn>(at)(x[0] as usize, b(0), l(0), b(1), l(1), w(2), l(2),
+                    w(3), l(3))],
+                Call::Shake => {
+                    as_call::<_, ShakeFn>(at)(b(0), l(0), b(1), l(1));
+                    vec![0]
+                }
                 Call::Build => vec![as_call::<_, BuildFn>(at)(sizes(x), w(0), l(0), w(1), l(1), w(2), l(2), w(3), l(3), w(4), l(4), w(5), l(5),
                     w(6), l(6), w(7), l(7), o(8), l(8), o(9), l(9), w(10), l(10), w(11), l(11), w(12), l(12), w(13), l(13))],
                 Call::Draw => vec![as_call::<_, DrawFn>(at)(sizes(x), w(0), l(0), w(1), l(1), w(2), l(2), w(3), l(3), w(4), l(4), w(5), l(5),

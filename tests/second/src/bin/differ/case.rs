@@ -1,9 +1,10 @@
 //! A case: one call with its numbers and its buffers, as they are lent at the C border; and what the second implementation makes of it.
 
 use second::draw::{draw, DrawWords};
-use second::held::{begin, check, store_row, Checked, Held, Stored};
+use second::held::{begin, check, check_text, store_row, Checked, Held, Stored};
 use second::key::{build, SecretWords, Sizes};
-use second::packing::{from_stream, pack, unpack};
+use second::packing::{from_stream, pack, syndrome, unpack};
+use second::shake::shake256;
 
 #[derive(Clone, Copy, PartialEq, Eq, Debug, PartialOrd, Ord)]
 pub enum Call {
@@ -13,11 +14,28 @@ pub enum Call {
     Begin,
     Store,
     Check,
+    CheckText,
+    Syndrome,
+    Shake,
     Build,
     Draw,
 }
 
-pub const CALLS: [Call; 8] = [Call::Pack, Call::Unpack, Call::Stream, Call::Begin, Call::Store, Call::Check, Call::Build, Call::Draw];
+pub const CALLS: [Call; 11] = [
+    // the module's half
+    Call::Pack,
+    Call::Unpack,
+    Call::Stream,
+    Call::Begin,
+    Call::Store,
+    Call::Check,
+    Call::CheckText,
+    Call::Syndrome,
+    Call::Shake,
+    // the editor's half
+    Call::Build,
+    Call::Draw,
+];
 
 /// Where the gaps and the weight stand among the numbers of a build and of a draw.
 pub const GAP_V: usize = 3;
@@ -33,12 +51,40 @@ impl Call {
             Call::Begin => "wave_begin",
             Call::Store => "wave_store_row",
             Call::Check => "wave_check",
+            Call::CheckText => "wave_check_text",
+            Call::Syndrome => "wave_syndrome",
+            Call::Shake => "wave_shake256",
             Call::Build => "wave_build",
             Call::Draw => "wave_draw",
         }
     }
 
-    /// The refusals that the paper has for this call, 0 for none.
+    /// The answer is a verdict: yes or no, or a refusal.
+    pub fn is_check(self) -> bool {
+        matches!(self, Call::Check | Call::CheckText)
+    }
+
+    /// Buffers that may have any length.
+    pub fn any_length(self, at: usize) -> bool {
+        match self {
+            Call::Stream => at == 0,
+            Call::CheckText => at == 3,
+            Call::Syndrome => at == 1,
+            Call::Shake => true,
+            _ => false,
+        }
+    }
+
+    /// A refusal that the call has and no run can ask for: no salt and text are known whose hash has so many bytes to be
+    /// skipped. For one trit a random stream has them once in 2 to the power 589, for more trits less often.
+    pub fn unseen(self) -> Option<u64> {
+        match self {
+            Call::CheckText | Call::Syndrome => Some(6),
+            _ => None,
+        }
+    }
+
+    /// The refusals that the paper has for this call, but for one that cannot be asked for; 0 for none.
     pub fn answers(self) -> &'static [u64] {
         match self {
             Call::Pack => &[0, 1, 2, 3, 4],
@@ -46,7 +92,9 @@ impl Call {
             Call::Stream => &[0, 1, 2, 6],
             Call::Begin => &[0, 1],
             Call::Store => &[0, 1, 2, 5, 15, 20, 21],
-            Call::Check => &[0, 1, 2, 3, 4, 5, 15, 20, 22],
+            Call::Check | Call::CheckText => &[0, 1, 2, 3, 4, 5, 15, 20, 22],
+            Call::Syndrome => &[0, 1, 2],
+            Call::Shake => &[0],
             Call::Build => &[0, 1, 2, 3, 4, 7, 8, 9, 10],
             Call::Draw => &[0, 1, 2, 3, 4, 7, 8, 12, 13, 14],
         }
@@ -54,10 +102,11 @@ impl Call {
 
     pub fn numbers(self) -> &'static [&'static str] {
         match self {
-            Call::Pack | Call::Unpack | Call::Stream => &["m"],
+            Call::Pack | Call::Unpack | Call::Stream | Call::Syndrome => &["m"],
+            Call::Shake => &[],
             Call::Begin => &["begun", "held number", "held n", "held k", "held w", "rows", "number", "n", "k", "w"],
             Call::Store => &["begun", "held number", "n", "k", "w", "rows"],
-            Call::Check => &["begun", "held number", "n", "k", "w", "rows", "number"],
+            Call::Check | Call::CheckText => &["begun", "held number", "n", "k", "w", "rows", "number"],
             Call::Build | Call::Draw => &["n", "ku", "kv", "gv", "gu", "w"],
         }
     }
@@ -69,6 +118,9 @@ impl Call {
             Call::Begin => &[],
             Call::Store => &["key ones", "key twos", "row"],
             Call::Check => &["key ones", "key twos", "y", "s", "work ones", "work twos"],
+            Call::CheckText => &["key ones", "key twos", "salt", "text", "s", "work ones", "work twos"],
+            Call::Syndrome => &["salt", "text", "ones", "twos"],
+            Call::Shake => &["message", "output"],
             Call::Build => &[
                 "hu ones",
                 "hu twos",
@@ -262,6 +314,18 @@ pub fn second_outcome(case: &Case) -> Outcome {
         (Call::Store, [ones, twos, row]) => stored(store_row(held(x), ones.words_mut(), twos.words_mut(), row.bytes())),
         (Call::Check, [ones, twos, y, s, w1, w2]) => {
             checked(check(held(x), x[6], ones.words(), twos.words(), y.bytes(), s.bytes(), w1.words_mut(), w2.words_mut()))
+        }
+        (Call::CheckText, [ones, twos, salt, text, s, w1, w2]) => {
+            let (ones, twos, salt, text) = (ones.words(), twos.words(), salt.bytes(), text.bytes());
+            let (w1, w2) = (w1.words_mut(), w2.words_mut());
+            checked(check_text(held(x), x[6], ones, twos, salt, text, s.bytes(), w1, w2))
+        }
+        (Call::Syndrome, [salt, text, ones, twos]) => {
+            vec![syndrome(x[0], salt.bytes(), text.bytes(), ones.words_mut(), twos.words_mut())]
+        }
+        (Call::Shake, [message, output]) => {
+            shake256(message.bytes(), output.bytes_mut());
+            vec![0]
         }
         (Call::Build, [hu1, hu2, hv1, hv2, b1, b2, c1, c2, start, p, k1, k2, w1, w2]) => {
             let secret =

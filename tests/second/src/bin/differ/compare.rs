@@ -24,9 +24,9 @@ pub struct Comparer {
 
 /// The refusal, and for a check its verdict.
 fn told(call: Call, answer: &[u64]) -> String {
-    match (call, answer) {
-        (Call::Check, [0, 1, _, _]) => "yes".to_string(),
-        (Call::Check, [0, 0, _, _]) => "no".to_string(),
+    match answer {
+        [0, 1, _, _] if call.is_check() => "yes".to_string(),
+        [0, 0, _, _] if call.is_check() => "no".to_string(),
         _ => answer[0].to_string(),
     }
 }
@@ -162,8 +162,9 @@ impl Comparer {
         self.counts.values().sum()
     }
 
-    /// The counts of calls compared. False if a call was not linked though it is needed, an answer of the paper was never seen, or g_V was other than g_U in
-    /// fewer than a third of the draws, or of those that were released.
+    /// The counts of calls compared. False if a call was not linked though it is needed, an answer of the paper was
+    /// never seen though it can be, or g_V was other than g_U in fewer than a third of the draws, or of those that were
+    /// released.
     pub fn summary(&self, draw_needed: bool) -> bool {
         let mut whole = true;
         for call in CALLS {
@@ -179,13 +180,17 @@ impl Comparer {
             let faults = self.provoked.iter().filter(|(c, _)| *c == call).count();
             println!("{}: {} calls, {faults} kinds of fault; answers {}", call.name(), seen.iter().map(|(_, n)| **n).sum::<u64>(), list.join(", "));
             for answer in call.answers() {
-                let names: &[&str] = if *answer == 0 && call == Call::Check { &["yes", "no"] } else { &[&answer.to_string()] };
+                let verdict = *answer == 0 && call.is_check();
+                let names: &[&str] = if verdict { &["yes", "no"] } else { &[&answer.to_string()] };
                 for name in names {
                     if !seen.iter().any(|(told, _)| told.as_str() == *name) {
                         println!("{}: the answer {name} was never seen", call.name());
                         whole = false;
                     }
                 }
+            }
+            if let Some(answer) = call.unseen() {
+                println!("{}: {answer} is not asked for, no text is known that makes it", call.name());
             }
             if call == Call::Draw {
                 let draws = seen.iter().map(|(_, n)| **n).sum::<u64>();

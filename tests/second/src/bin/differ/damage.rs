@@ -229,8 +229,8 @@ fn clear(plane: &mut Buffer, word: usize, bit: usize) {
 pub fn faults(case: &Case) -> Vec<(Fault, u64)> {
     let mut out: Vec<(Fault, u64)> = case.edges.iter().map(|e| (Fault::Number { at: e.at, value: e.value }, e.refusal)).collect();
     for at in 0..case.buffers.len() {
-        if case.call == Call::Stream && at == 0 {
-            continue; // a stream may have any length
+        if case.call.any_length(at) {
+            continue;
         }
         out.push((Fault::Longer { at }, 2));
         if case.buffers[at].len() > 0 {

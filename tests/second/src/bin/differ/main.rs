@@ -9,6 +9,7 @@ mod archive;
 mod case;
 mod compare;
 mod damage;
+mod hashed;
 mod make;
 mod plan;
 mod rng;
@@ -27,13 +28,18 @@ fn calls(seed: u64, count: u64, words: &[String]) -> bool {
     let libraries: Vec<String> = words.iter().filter(|w| !w.starts_with("--")).cloned().collect();
     let archives = archive::Archives::load(&libraries, seed ^ 0xA5A5);
     let mut c = compare::Comparer::new(archives, rng::Rng::new(seed), flag("--trace"));
-    let parts: [(&str, &dyn Fn(&mut compare::Comparer)); 12] = [
+    let parts: [(&str, &dyn Fn(&mut compare::Comparer)); 17] = [
         ("worked cases", &worked::cases),
         ("packing calls", &plan::packing),
         ("last bytes", &plan::last_bytes),
         ("past the length first", &plan::past_first),
         ("beginning a key", &plan::beginning),
         ("rows and checks", &plan::held_key),
+        ("hashes", &hashed::hashes),
+        ("syndromes", &hashed::syndromes),
+        ("salts", &hashed::salts),
+        ("checks of texts", &hashed::checks),
+        ("between calls", &hashed::between_calls),
         ("large keys", &|c| plan::large_keys(c, flag("--long"))),
         ("builds and draws", &plan::editor),
         ("gaps", &plan::gaps),

@@ -6,7 +6,7 @@ use second::algebra::weight;
 use second::draw::{drawn_word, Choices};
 use second::held::MOST_KEY_NUMBER;
 use second::key::{build_key, places, Secret, Sizes};
-use second::packing::bytes;
+use second::packing::{bytes, SALT};
 use second::planes::{read, read_row, words};
 use Buffer::{Bytes, Order, Words};
 
@@ -66,6 +66,25 @@ pub fn stream(rng: &mut Rng, m: usize) -> Case {
     of_trits(case, m as u64)
 }
 
+// ---- hashes and syndromes
+
+pub fn shake(rng: &mut Rng, message: usize, output: usize) -> Case {
+    let (message, output) = (rng.text(message), garbage_bytes(rng, output));
+    Case::new(Call::Shake, vec![], vec![Bytes(message), Bytes(output)])
+}
+
+/// The syndrome of a salt and a text.
+pub fn syndrome_of(rng: &mut Rng, m: usize, salt: Vec<u8>, text: Vec<u8>) -> Case {
+    let (ones, twos) = (rng.words(words(m)), rng.words(words(m)));
+    let buffers = vec![Bytes(salt), Bytes(text), Words(ones), Words(twos)];
+    of_trits(Case::new(Call::Syndrome, vec![m as u64], buffers), m as u64)
+}
+
+pub fn syndrome(rng: &mut Rng, m: usize, text: usize) -> Case {
+    let (salt, text) = (rng.text(SALT), rng.text(text));
+    syndrome_of(rng, m, salt, text)
+}
+
 // ---- the held key
 
 /// What makes a begun state leave its ranges.
@@ -109,6 +128,26 @@ pub fn check(rng: &mut Rng, n: usize, k: usize) -> Case {
     // another number: one bit changed, 256 or 2^32 more, out of its range
     case.edges.extend(edges(6, 22, &[number ^ 1, number ^ 128, number ^ (1 << 16), number ^ (1 << 31), number + 256, number + (1 << 32), u64::MAX]));
     case
+}
+
+/// The same check of a text: its salt and itself in place of y.
+pub fn about_text(mut case: Case, salt: Vec<u8>, text: Vec<u8>) -> Case {
+    let (n, k) = (case.numbers[2] as usize, case.numbers[3] as usize);
+    case.call = Call::CheckText;
+    case.buffers.splice(2..3, [Bytes(salt), Bytes(text)]);
+    case.roles = vec![Role::Planes { at: 0, rows: k, m: n - k }, Role::Packed { at: 4, m: k }];
+    case
+}
+
+/// The same check of a packed y, in place of the text and its salt.
+pub fn about_syndrome(mut case: Case, y: Vec<u8>) -> Case {
+    case.buffers.splice(2..4, [Bytes(y)]);
+    Case::new(Call::Check, case.numbers, case.buffers)
+}
+
+pub fn check_text(rng: &mut Rng, n: usize, k: usize, text: usize) -> Case {
+    let (case, salt, text) = (check(rng, n, k), rng.text(SALT), rng.text(text));
+    about_text(case, salt, text)
 }
 
 // ---- the editor's half

@@ -3,17 +3,18 @@
 use crate::case::{Buffer, Call, Case, Role, CALLS, GAP_U, GAP_V, WEIGHT};
 use crate::compare::Comparer;
 use crate::damage::{faults, Fault};
+use crate::hashed::TEXTS;
 use crate::make::{self, SecretPlanes, Shape};
 use crate::rng::Rng;
 use second::algebra::weight;
 use second::packing::{bytes, packed};
 use second::planes::words;
 
-const TRITS: [usize; 34] =
+pub const TRITS: [usize; 34] =
     [0, 1, 2, 3, 4, 5, 6, 9, 10, 11, 59, 60, 61, 62, 63, 64, 65, 66, 126, 127, 128, 129, 130, 254, 255, 256, 257, 258, 319, 320, 321, 4246, 16383, 16384];
 /// Lengths of rows of 5 to 33 words, at the edges of words.
-const WIDE: [usize; 16] = [319, 320, 321, 384, 385, 447, 511, 512, 513, 575, 640, 641, 703, 1023, 1025, 2111];
-const PLACES: [usize; 11] = [4, 6, 62, 64, 66, 126, 128, 130, 254, 256, 258];
+pub const WIDE: [usize; 16] = [319, 320, 321, 384, 385, 447, 511, 512, 513, 575, 640, 641, 703, 1023, 1025, 2111];
+pub const PLACES: [usize; 11] = [4, 6, 62, 64, 66, 126, 128, 130, 254, 256, 258];
 
 /// The packing calls: every fault at every length, pairs at some.
 pub fn packing(c: &mut Comparer) {
@@ -37,7 +38,8 @@ pub fn last_bytes(c: &mut Comparer) {
     for m in 2..=11 {
         let row = make::store(&mut c.rng, 20, 20 - m, 0);
         let (y, s) = (make::check(&mut c.rng, 20, 20 - m), make::check(&mut c.rng, 20, m));
-        for (mut case, at) in [(make::unpack(&mut c.rng, m), 0), (row, 2), (y, 2), (s, 3)] {
+        let text = make::check_text(&mut c.rng, 20, m, 9);
+        for (mut case, at) in [(make::unpack(&mut c.rng, m), 0), (row, 2), (y, 2), (s, 3), (text, 4)] {
             for last in 0..=255u8 {
                 *case.buffers[at].bytes_mut().last_mut().unwrap() = last;
                 let rule = match (last, m as u32 % 5) {
@@ -74,6 +76,7 @@ fn planes_rule(list: &[Fault]) -> u64 {
 /// 4 before 3, but buffer after buffer: every two pairs of planes of a call are answered by the rule in numbers of the first that has something wrong.
 pub fn past_first(c: &mut Comparer) {
     let mut cases = vec![make::pack(&mut c.rng, 2), make::pack(&mut c.rng, 130), make::check(&mut c.rng, 6, 3), make::check(&mut c.rng, 200, 70)];
+    cases.extend([make::check_text(&mut c.rng, 6, 3, 0), make::check_text(&mut c.rng, 200, 70, 105)]);
     for (n, ku, kv, gv, gu) in [(4, 1, 1, 0, 0), (6, 1, 1, 1, 1), (130, 32, 31, 0, 5), (260, 3, 5, 4, 2)] {
         let shape = Shape { n, ku, kv, gv, gu };
         cases.extend([make::build(&mut c.rng, &shape), make::draw(&mut c.rng, &shape)]);
@@ -118,7 +121,7 @@ pub fn beginning(c: &mut Comparer) {
 }
 
 /// k at its edges, odd, even, and different from n-k.
-fn some_k(rng: &mut Rng, n: usize) -> Vec<usize> {
+pub fn some_k(rng: &mut Rng, n: usize) -> Vec<usize> {
     let mut out = vec![2, n - 2, n / 2, n / 2 + 1, n / 2 - 1, rng.between(2, n - 2)];
     for words in [64, 128, 192] {
         out.extend([words, words + 1, n.saturating_sub(words), n.saturating_sub(words + 1)]);
@@ -248,7 +251,7 @@ pub fn gaps(c: &mut Comparer) {
 }
 
 /// The case is answered by this number.
-fn answers(c: &mut Comparer, case: &Case, rule: u64) {
+pub fn answers(c: &mut Comparer, case: &Case, rule: u64) {
     let found = c.compare(case, &[]).refusal();
     if found != rule {
         c.report(case, &[], &format!("second answers {found}, the rule is {rule}"));
@@ -270,7 +273,8 @@ pub fn many_rows(c: &mut Comparer, long: bool) {
     }
 }
 
-/// Build, pack, store, draw until a word is released, check: always yes. Then one trit is changed. True if a word was released.
+/// Build, pack, make y of a text, draw until a word is released, store, check y and the text: always yes. Then one trit
+/// or one byte is changed. True if a word was released.
 pub fn round_trip(c: &mut Comparer, shape: &Shape) -> bool {
     let (n, k, m) = (shape.n, shape.ku + shape.kv, shape.n - shape.ku - shape.kv);
     let (secret, built) = loop {
@@ -292,8 +296,11 @@ pub fn round_trip(c: &mut Comparer, shape: &Shape) -> bool {
         packed_rows.push(outcome.buffers[2].clone());
     }
 
-    // the weight is one that a draw makes; then draws are made until it comes again
-    let y = c.rng.planes(1, m);
+    // y is the syndrome of a text; the weight is one that a draw makes; then draws are made until it comes again
+    let length = c.rng.pick(&TEXTS);
+    let asked = make::syndrome(&mut c.rng, m, length);
+    let made = c.compare(&asked, &["round trip".to_string()]);
+    let y = (made.buffers[2].words().to_vec(), made.buffers[3].words().to_vec());
     let mut w = 0;
     for _ in 0..100 {
         let case = make::draw_of(&mut c.rng, shape, &secret, &p, &y, 1);
@@ -354,6 +361,8 @@ pub fn round_trip(c: &mut Comparer, shape: &Shape) -> bool {
     if verdict.answer != [0, 1, in_ones, in_twos] || in_ones + in_twos != w as u64 {
         c.report(&case, &["round trip".to_string()], &format!("a released word is answered {:?}", verdict.answer));
     }
+    let on_text = make::about_text(case.clone(), asked.buffers[0].bytes().to_vec(), asked.buffers[1].bytes().to_vec());
+    check_of_text(c, &on_text, &verdict.answer);
     // one trit of s, of y, of the key changed
     for (buffer, length) in [(3, k), (3, k), (2, m), (2, m)] {
         let mut changed = case.clone();
@@ -379,6 +388,17 @@ pub fn round_trip(c: &mut Comparer, shape: &Shape) -> bool {
     }
     c.compare(&changed, &["round trip".to_string(), "one trit of the key changed".to_string()]);
     true
+}
+
+/// The check of a text is answered as that of its y; then the salt or the text is changed.
+fn check_of_text(c: &mut Comparer, case: &Case, answer: &[u64]) {
+    let found = c.compare(case, &["round trip".to_string()]);
+    if found.answer != answer {
+        c.report(case, &["round trip".to_string()], &format!("its y is answered {answer:?}"));
+    }
+    for fault in [Fault::Turn { at: 2 }, Fault::Turn { at: 3 }, Fault::Longer { at: 3 }, Fault::Shorter { at: 3 }] {
+        c.damaged(case, &[fault]);
+    }
 }
 
 pub fn round_trips(c: &mut Comparer, long: bool) {
@@ -422,6 +442,8 @@ fn by_chance(c: &mut Comparer) {
         _ => c.rng.between(2, n - 2),
     };
     let m = if wide { half } else { c.rng.between(0, 130) };
+    let length = if wide { m } else { c.rng.between(0, 300) };
+    let text = if c.rng.one_in(2) { c.rng.pick(&TEXTS) } else { length };
     let shape = if wide { Shape::wide(&mut c.rng, half) } else { Shape::random(&mut c.rng, n) };
     let case = match call {
         Call::Pack => make::pack(&mut c.rng, m),
@@ -442,6 +464,9 @@ fn by_chance(c: &mut Comparer) {
             make::store(&mut c.rng, n, k, stored)
         }
         Call::Check => make::check(&mut c.rng, n, k),
+        Call::CheckText => make::check_text(&mut c.rng, n, k, text),
+        Call::Syndrome => make::syndrome(&mut c.rng, m, text),
+        Call::Shake => make::shake(&mut c.rng, text, m + length),
         Call::Build => make::any_build(&mut c.rng, &shape),
         Call::Draw => make::any_draw(&mut c.rng, &shape),
     };
@@ -452,7 +477,7 @@ fn by_chance(c: &mut Comparer) {
         let kind = c.rng.below(6);
         if kind == 0 && !case.buffers.is_empty() {
             list.push(Fault::Turn { at: c.rng.below(case.buffers.len()) });
-        } else if kind == 1 {
+        } else if kind == 1 && !case.numbers.is_empty() {
             let at = c.rng.below(case.numbers.len());
             let step = c.rng.between(1, 2) as u64;
             let value = if c.rng.one_in(2) { case.numbers[at].wrapping_add(step) } else { case.numbers[at].wrapping_sub(step) };
@@ -463,7 +488,7 @@ fn by_chance(c: &mut Comparer) {
     }
     let outcome = c.damaged(&case, &list);
     // a check that was not refused is asked for its own weight too
-    if call == Call::Check && count == 0 && outcome.weight() > 0 {
+    if call.is_check() && count == 0 && outcome.weight() > 0 {
         let mut asked = case.clone();
         asked.numbers[4] = outcome.weight();
         c.compare(&asked, &[]);

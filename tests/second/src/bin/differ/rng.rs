@@ -59,6 +59,15 @@ impl Rng {
         }
     }
 
+    /// Bytes of a text, a salt or a message: all 0, all 255, or mixed.
+    pub fn text(&mut self, count: usize) -> Vec<u8> {
+        match self.below(8) {
+            0 => vec![0; count],
+            1 => vec![255; count],
+            _ => (0..count).map(|_| self.word() as u8).collect(),
+        }
+    }
+
     pub fn order(&mut self, places: usize) -> Vec<u16> {
         let mut out: Vec<u16> = (0..places).map(|q| q as u16).collect();
         for i in (1..places).rev() {

@@ -1,4 +1,5 @@
-//! The paper's worked cases, made by the proved code and held to the paper's own values.
+//! The paper's worked cases, made by the proved code and held to the paper's own values; hashes that are published, and
+//! texts worked by hand from the bytes of Python's hashlib.
 
 use crate::case::{Buffer, Call, Case, GAP_U, GAP_V};
 use crate::compare::Comparer;
@@ -57,7 +58,51 @@ fn check(number: u64, w: u64, y: &str, s: &str) -> Case {
     Case::new(Call::Check, vec![1, 7, 4, 2, w, 2, number], buffers)
 }
 
+/// The bytes 0 to 31, and a text.
+fn salted(text: &str) -> [Buffer; 2] {
+    [Bytes((0..32).collect()), Bytes(text.as_bytes().to_vec())]
+}
+
+/// SHAKE256 of no message, of abc and of 200 bytes a3.
+fn hashes(c: &mut Comparer) {
+    for (message, hash) in [
+        (vec![], "46b9dd2b0ba88d13233b3feb743eeb243fcd52ea62b81b82b50c27646ed5762f"),
+        (b"abc".to_vec(), "483366601360a8771c6863080cc4114d8db44530f8f1e1ee4f94ea37e78b5739"),
+        (vec![0xa3; 200], "cd8a920ed141aa0407a22d59288652e9d9f1a7ee0c1e7c1ca699424da84a904d"),
+    ] {
+        let hash = (0..32).map(|i| u8::from_str_radix(&hash[2 * i..2 * i + 2], 16).unwrap()).collect();
+        let case = Case::new(Call::Shake, vec![], vec![Bytes(message.clone()), Bytes(vec![7; 32])]);
+        expect(c, case, &[0], &[(0, Bytes(message)), (1, Bytes(hash))]);
+    }
+}
+
+/// The stream begins 105, 240 for the salt alone, 255, 46, 154 for formula 7, and 211, 252, 228 for formula 29.
+fn texts(c: &mut Comparer) {
+    for (text, y) in [("", "0220102"), ("formula 7", "1021010"), ("formula 29", "1121201"), ("formula 7", "10")] {
+        let [ones, twos] = pair(y);
+        let case = Case::new(Call::Syndrome, vec![y.len() as u64], [salted(text), [one(3), one(4)]].concat());
+        expect(c, case, &[0], &[(2, ones), (3, twos)]);
+    }
+    // y is 02, 10, 10 and 11, s is 11 or 00, and the word is 1111, 2211, 1000 and 2011
+    let asked = |number: u64, text: &str, s: u8| {
+        let buffers = [&pair("02 22")[..], &salted(text), &[Bytes(vec![s]), one(5), one(6)]].concat();
+        Case::new(Call::CheckText, vec![1, 7, 4, 2, 4, 2, number], buffers)
+    };
+    let words = [("", 4, 1, 4, 0), ("formula 7", 4, 1, 2, 2), ("formula 7", 0, 0, 1, 0), ("formula 29", 4, 0, 2, 1)];
+    for (text, s, yes, ones, twos) in words {
+        expect(c, asked(7, text, s), &[0, yes, ones, twos], &[(5, one(0)), (6, one(0))]);
+    }
+    for (number, s, refusal) in [(8, 4, 22), (7, 243, 5), (7, 22, 15), (8, 243, 22)] {
+        expect(c, asked(number, "formula 7", s), &[refusal, 0, 0, 0], &[(5, one(5)), (6, one(6))]);
+    }
+    let mut short = asked(7, "formula 7", 243);
+    short.buffers[2].bytes_mut().pop();
+    expect(c, short, &[2, 0, 0, 0], &[(5, one(5)), (6, one(6))]);
+}
+
 pub fn cases(c: &mut Comparer) {
+    hashes(c);
+    texts(c);
     let [ones, twos] = pair("12001");
     expect(c, Case::new(Call::Pack, vec![5], vec![ones, twos, Bytes(vec![0])]), &[0], &[(2, Bytes(vec![88]))]);
     let reads = |byte: u8| Case::new(Call::Unpack, vec![5], vec![Bytes(vec![byte]), one(3), one(4)]);

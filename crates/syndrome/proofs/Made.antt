@@ -1,25 +1,26 @@
 -- The output of the state that a salt and a text make, and the refusals of the call. Assumes nothing.
-use mathlib.Core.Path.{_≡_, ap, sym, _∙_, subst}
+use mathlib.Core.Path.{_≡_, refl, ap, sym, _∙_, subst}
 use mathlib.Core.Bool.{Bool}
 use mathlib.Core.List.{List, _++_}
 use Prim.Native.Nat.{ℕ, _+_, _≤_, _<_}
 use native.Mathlib.Omega.{arith}
-use borrow.Author.Tests.{lt-ltb, le-ltb, eq-eqb, ne-eqb}
-use lib.Dec.{ltb, eqb}
+use borrow.Author.Tests.{lt-ltb, le-ltb, eq-eqb, ne-eqb, eqb-true}
+use lib.Dec.{ltb, eqb, lit<}
 use lib.ListN.{length}
 use Rattle.trits.specs.Trit.{t0}
 use Rattle.trits.specs.Planes.{onesOf, twosOf, wordsFor, Reads}
 use Rattle.trits.specs.Refusal.{refuse, demand, atExit}
 use Rattle.trits.proofs.Ends.{upto-out}
 use Rattle.trits.proofs.Reading.{holds-reads}
-use Rattle.trits.proofs.Refusals.{exit-new}
+use Rattle.trits.proofs.Refusals.{exit-new, passed-refuse, passed-demand}
 use Rattle.packed.specs.Packed.{packedRow}
 use Rattle.packed.specs.Stream.{kept, streamRow, tooShort}
+use Rattle.packed.specs.Calls.{mostTrits}
 use Rattle.packed.proofs.Turned.{stream-decides}
 use Rattle.keccak.specs.Lanes.{lanesOf}
 use Rattle.shake.specs.Shake.{absorbed, blocksOf, shake256}
 use Rattle.shake.proofs.Sponge.{squeezed-held}
-use Rattle.syndrome.specs.Syndrome.{hashed, hashedRow, hashedRefusal, syndromeOf, syndromeRefusal}
+use Rattle.syndrome.specs.Syndrome.{saltBytes, hashed, hashedRow, hashedRefusal, syndromeOf, syndromeRefusal, syndromeOnes, syndromeTwos}
 use Rattle.syndrome.specs.Steps.{outputFor}
 
 -- ---- the state that absorbed the salt and then the text
@@ -84,3 +85,20 @@ pub made-reads : (m k : ℕ) (salt text wo wt : List ℕ) {r : ℕ} {ones twos :
     ones ≡ atExit r (onesOf y (wordsFor m)) wo → twos ≡ atExit r (twosOf y (wordsFor m)) wt → Reads ones twos (wordsFor k) (hashedRow k salt text)
 made-reads m k salt text wo wt {r} {ones} {twos} e z eo et =
     subst (λ (x : ℕ). Reads ones twos (wordsFor x) (hashedRow x salt text)) e (made-holds m salt text wo wt z eo et)
+
+-- ---- a call that was not refused
+
+module _ (m : ℕ) (salt text ones twos : List ℕ) (z : syndromeRefusal (syndromeOf m salt text ones twos) ≡ 0) where
+  pub syndrome-passed : (length salt ≡ saltBytes) × (hashedRefusal m salt text ≡ 0)
+  unfolding syndromeRefusal
+  syndrome-passed =
+      let a = passed-refuse (ltb mostTrits m) 1 _ (lit< tt) z in
+      let b = passed-demand (eqb (length ones) (wordsFor m)) 2 _ (lit< tt) (a .1) in
+      let c = passed-demand (eqb (length twos) (wordsFor m)) 2 _ (lit< tt) (b .1) in
+      let d = passed-demand (eqb (length salt) saltBytes) 2 _ (lit< tt) (c .1) in
+      (eqb-true _ _ (d .0), d .1)
+
+  -- its planes hold the row
+  pub syndrome-holds : Reads (syndromeOnes (syndromeOf m salt text ones twos)) (syndromeTwos (syndromeOf m salt text ones twos)) (wordsFor m) (hashedRow m salt text)
+  unfolding syndromeOnes syndromeTwos
+  syndrome-holds = made-holds m salt text ones twos z refl refl

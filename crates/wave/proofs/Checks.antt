@@ -7,10 +7,14 @@ use borrow.Author.Tests.{ne-eqb}
 use Rattle.trits.specs.Planes.{tritAt}
 use Rattle.trits.specs.declared.Counts.{Counts}
 use Rattle.packed.specs.Packed.{packedRow}
+use Rattle.syndrome.specs.Syndrome.{hashedRow}
 use Rattle.matrix.specs.Linear.{Vector}
+use Rattle.held_key.specs.Held.{rowTrits}
 use Rattle.check_tests.specs.Check.{Check, PackedCheck, checkRefusal, checkPackedRefusal, answered, checkAnswer, checkAnswerUnder, checkPackedAnswer}
 use Rattle.check_tests.specs.Check.{checkPackedAnswerUnder}
 use Rattle.check_tests.proofs.Passed.{check-passed, check-packed-passed}
+use Rattle.check_text.specs.TextCheck.{TextCheck, checkTextRefusal, checkTextAnswer}
+use Rattle.check_text.proofs.Verdicts.{text-verdict, text-once}
 use Rattle.checker.proofs.Verdicts.{check-verdict, check-packed-verdict, found-once}
 use Rattle.wave.specs.Verifier.{HeldExtending, HeldFound}
 
@@ -52,3 +56,19 @@ module _ (c : PackedCheck) (r : checkPackedAnswer c .refusal ≡ 0) where
       → HeldExtending (c .held) (c .ones) (c .twos) y s f → (q : ℕ)
       → q < c .held .n → e q ≡ f q
   packed-one-word y s e f = found-once (c .held) (c .ones) (c .twos) y s e f (check-packed-passed c packed-not-refused .0 .is-sound)
+
+-- ---- a salt and a text
+
+module _ (c : TextCheck) (r : checkTextAnswer c .refusal ≡ 0) where
+  text-not-refused : checkTextRefusal c ≡ 0
+  unfolding checkTextAnswer
+  text-not-refused = answered-number (checkTextRefusal c) _ _ r
+
+  pub text-says-yes : (checkTextAnswer c .yes ≡ 1)
+      ↔ HeldFound (c .held) (c .ones) (c .twos) (hashedRow (rowTrits (c .held)) (c .salt) (c .text)) (packedRow (c .s))
+  text-says-yes = text-verdict c text-not-refused
+
+  pub text-one-word : (y s e f : Vector) → HeldExtending (c .held) (c .ones) (c .twos) y s e
+      → HeldExtending (c .held) (c .ones) (c .twos) y s f → (q : ℕ)
+      → q < c .held .n → e q ≡ f q
+  text-one-word = text-once c text-not-refused

@@ -22,6 +22,8 @@ use Rattle.packed.specs.Packed.{bytesFor, packedRow, packedBytes, packedRefusal
 use Rattle.packed.specs.Calls.{packOf, packRefusal, packExit}
 use Rattle.packed.proofs.RoundTrip.{packed-length, packed-back, packed-accepted}
 use Rattle.packed.proofs.Turned.{pack-passed}
+use Rattle.syndrome.specs.Syndrome.{saltBytes, hashedRow, hashedRefusal}
+use Rattle.syndrome.proofs.Made.{syndrome-passed, syndrome-holds}
 use Rattle.matrix.specs.Linear.{Vector}
 use Rattle.matrix.proofs.Places.{or-false-left, or-false-right}
 use Rattle.verdict.specs.Verdict.{Key, fullCounts}
@@ -35,6 +37,8 @@ use Rattle.check_tests.specs.Check.{callRefusal, planesLengths, planesContents,
 use Rattle.check_tests.specs.Check.{checkRefusal, checkRefusalUnder, checkAnswer, packedCheckOf, checkPackedRefusal, checkPackedRefusalUnder}
 use Rattle.check_tests.specs.Check.{checkPackedAnswer}
 use Rattle.check_tests.proofs.Passed.{check-packed-passed, packed-contents}
+use Rattle.check_text.specs.TextCheck.{checkTextAnswer}
+use Rattle.check_text.proofs.Verdicts.{text-as-packed}
 use Rattle.checker.proofs.EndToEnd.{begun, offered, loaded}
 use Rattle.checker.proofs.Verdicts.{packed-agrees}
 use Rattle.scheme.specs.declared.sizes.Sizes.{Sizes}
@@ -47,7 +51,7 @@ use Rattle.calls.specs.BuildCall.{BuildCall, keyRowWords, keyExit}
 use Rattle.calls.specs.DrawCall.{DrawCall, choicesDiffer, drawLengthsDiffer, drawAnswer, wordOf, sExit}
 use Rattle.calls.proofs.Secrets.{pair-same, differs}
 use Rattle.wave.specs.Terms.{Built, builtKey, Under, HandsOut, KeyTerms}
-use Rattle.wave.specs.Verifier.{Host, packedKeyRow, carried, carriedCheck, carriedPlanes, yes, Accepts}
+use Rattle.wave.specs.Verifier.{Host, packedKeyRow, carried, carriedCheck, carriedPlanes, Signs, carriedText, yes, Accepts}
 use Rattle.wave.proofs.Written.{written-passes}
 use Rattle.wave.proofs.Passed.{DrawPassed, draw-call}
 use Rattle.wave.proofs.Checks.{packed-not-refused}
@@ -292,6 +296,23 @@ module _ (z : Sizes) (i : BuildCall) (b : Built z i) (gv gu w : ℕ) (l : DrawCa
       (ap (λ (x : ℕ). packedBytes x y) f ∙ sym y-is) (ap₂ packedBytes k t ∙ sym s-is)
       ∙ packed-answer
 
+  -- ---- the same with the salt and the text for which y was made
+
+  module _ (salt text : List ℕ) (g : Signs z salt text l) where
+    made : (length salt ≡ saltBytes) × (hashedRefusal (codim z) salt text ≡ 0)
+    made = syndrome-passed (codim z) salt text (g .ones) (g .twos) (g .not-refused)
+
+    y-made : y ≡ hashedRow (codim z) salt text
+    y-made = ap₂ tritAt (g .y-ones) (g .y-twos) ∙ syndrome-holds (codim z) salt text (g .ones) (g .twos) (g .not-refused) .trits
+
+    text-answer : checkTextAnswer (carriedText z i gv gu w l m salt text) ≡ yes (onesV e (places z)) (twosV e (places z))
+    text-answer =
+        let f : rowTrits (key .held) ≡ codim z = ap (λ (h : Held). rowTrits h) held-is ∙ size in
+        text-as-packed (carriedText z i gv gu w l m salt text) (made .0) (ap (λ (x : ℕ). hashedRefusal x salt text) f ∙ made .1)
+        ∙ ap (λ (a : List ℕ). checkPackedAnswer (packedCheckOf (key .held) (m .number) (key .ones) (key .twos) a sPacked (m .workOnes) (m .workTwos)))
+        (ap (λ (x : ℕ). packedBytes x (hashedRow x salt text)) f ∙ ap (packedBytes (codim z)) (sym y-made) ∙ sym y-is)
+        ∙ packed-answer
+
 -- ---- the word handed out is the word drawn, and so are its ones and twos
 
 module _ (z : Sizes) (i : BuildCall) (b : Built z i) (gv gu w : ℕ) (l : DrawCall) (e : Vector) (u : Under z i l)
@@ -315,3 +336,6 @@ module _ (z : Sizes) (i : BuildCall) (b : Built z i) (gv gu w : ℕ) (l : DrawCa
 
   pub end-to-end-planes : Accepts z w e (checkAnswer (carriedPlanes z i gv gu w l m))
   end-to-end-planes = accepts (planes-answer z i b gv gu w l u (h .passed) m)
+
+  pub end-to-end-text : (salt text : List ℕ) → Signs z salt text l → Accepts z w e (checkTextAnswer (carriedText z i gv gu w l m salt text))
+  end-to-end-text salt text g = accepts (text-answer z i b gv gu w l u (h .passed) m salt text g)

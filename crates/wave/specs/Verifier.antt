@@ -9,6 +9,7 @@ use Rattle.trits.specs.Planes.{wordsFor}
 use Rattle.trits.specs.Rows.{rowPart}
 use Rattle.packed.specs.Packed.{bytesFor}
 use Rattle.packed.specs.Calls.{packOf, packExit}
+use Rattle.syndrome.specs.Syndrome.{syndromeOf, syndromeRefusal, syndromeOnes, syndromeTwos}
 use Rattle.matrix.specs.Linear.{Vector}
 use Rattle.verdict.specs.Verdict.{Extending, Found}
 use Rattle.held_key.specs.declared.state.Held.{Held}
@@ -17,12 +18,13 @@ use Rattle.held_key.specs.Held.{mostKeyNumber, rowTrits, heldKey}
 use Rattle.held_key.specs.Store.{beginHeld}
 use Rattle.held_key.specs.Load.{Holding, offerAll}
 use Rattle.check_tests.specs.Check.{Check, PackedCheck}
+use Rattle.check_text.specs.TextCheck.{TextCheck}
 use Rattle.scheme.specs.declared.sizes.Sizes.{Sizes}
 use Rattle.scheme.specs.Sizes.{places, dim, codim, sized}
 use Rattle.calls.specs.BuildCall.{BuildCall, keyRowWords, keyExit}
 use Rattle.calls.specs.DrawCall.{DrawCall, sExit}
 
--- ---- what a check finds: its answer is `checkAnswer`, or `checkPackedAnswer` where y and s are packed
+-- ---- what a check finds: its answer is `checkAnswer`, `checkPackedAnswer` where y and s are packed, or `checkTextAnswer` of a salt and a text
 
 -- the whole key is any k rows that the call finds held: under it the word e of n trits has the syndrome y and extends s
 abbrev pub HeldExtending : Held → List ℕ → List ℕ → Vector → Vector → Vector → Type 0
@@ -89,6 +91,27 @@ carriedPlanes z i gv gu w l m = record {
   yTwos = l .y .twos;
   sOnes = sExit (sized z gv gu w) l .ones;
   sTwos = sExit (sized z gv gu w) l .twos;
+  workOnes = m .workOnes;
+  workTwos = m .workTwos;
+}
+
+-- or the salt and the text for which y was made by a call of `syndrome`, in planes of any content
+pub record Signs (z : Sizes) (salt text : List ℕ) (l : DrawCall) : Type 0 where
+  pub ones : List ℕ
+  pub twos : List ℕ
+  pub not-refused : syndromeRefusal (syndromeOf (codim z) salt text ones twos) ≡ 0
+  pub y-ones : l .y .ones ≡ syndromeOnes (syndromeOf (codim z) salt text ones twos)
+  pub y-twos : l .y .twos ≡ syndromeTwos (syndromeOf (codim z) salt text ones twos)
+
+abbrev pub carriedText : (z : Sizes) → BuildCall → ℕ → ℕ → ℕ → DrawCall → Host z → List ℕ → List ℕ → TextCheck
+carriedText z i gv gu w l m salt text = record {
+  held = carried z i w m .held;
+  number = m .number;
+  ones = carried z i w m .ones;
+  twos = carried z i w m .twos;
+  salt = salt;
+  text = text;
+  s = packExit (packOf (dim z) (sExit (sized z gv gu w) l .ones) (sExit (sized z gv gu w) l .twos) (m .sBytes));
   workOnes = m .workOnes;
   workTwos = m .workTwos;
 }

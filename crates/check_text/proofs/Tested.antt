@@ -1,11 +1,10 @@
 -- What the tests of a salt and a text have shown, and what a call answers and leaves. Assumes nothing.
-use mathlib.Core.Path.{_≡_, refl, sym, ap, ap₂, _∙_}
+use mathlib.Core.Path.{_≡_, refl, sym, ap, _∙_}
 use mathlib.Core.Bool.{Bool, true, false, cond}
 use mathlib.Core.List.{List}
 use Prim.Native.Nat.{ℕ, _<_}
-use native.Mathlib.Omega.{arith}
 use native.Mathlib.Decide.{ℕ-discrete}
-use borrow.Author.Tests.{eqb-true, eq-eqb, ne-eqb}
+use borrow.Author.Tests.{eqb-true}
 use lib.Dec.{eqb, lit<}
 use lib.ListN.{length}
 use Rattle.trits.specs.Planes.{zeroWords}
@@ -54,14 +53,6 @@ tested c e =
     let b = passed-first (textLengths h (length (c .salt)) (length (c .s))) _ (a .1) in
     record { key-called = called _ _ _ _ _ _ (a .0); lengths = b .0; contents = b .1 }
 
--- the tests speak of the working space by its lengths alone
-pub tested-spaces : (h : Held) (number : ℕ) (ones twos salt s a b c d : List ℕ) → length a ≡ length c → length b ≡ length d
-    → testedRefusal h number ones twos salt s a b ≡ testedRefusal h number ones twos salt s c d
-unfolding testedRefusal
-tested-spaces h number ones twos salt s a b c d e f =
-    let rest = first (textLengths h (length salt) (length s)) (textContents h ones twos s) in
-    ap₂ (λ (x y : ℕ). first (callRefusal h number (length ones) (length twos) x y) rest) e f
-
 -- ---- the call's refusal: that of the tests, and where they refuse nothing that of the hash
 
 first-first : (a b c : ℕ) → first (first a b) c ≡ first a (first b c)
@@ -107,7 +98,10 @@ tested-stays c =
     let h = c .held in
     let two = stays 2 refl refl in
     first-all Stays _ _ (call-all Stays none-stays (stays 1 refl refl) two (stays 20 refl refl) (stays 22 refl refl) h (c .number) _ _ _ _)
-    (first-all Stays _ _ (demand-all Stays (eqb (length (c .salt)) saltBytes) 2 _ two (demand-all Stays (eqb (length (c .s)) (bytesFor (h .k))) 2 0 two none-stays))
+    (first-all Stays _ _
+    (demand-all Stays (eqb (length (c .salt)) saltBytes) 2 _ two
+    (demand-all Stays (eqb (length (c .s)) (bytesFor (h .k))) 2 0 two
+    none-stays))
     (first-all Stays _ _ (planes-all (c .ones) (c .twos) (h .k) (rowTrits h) Stays (stays 3 refl refl) (stays 4 refl refl) none-stays)
     (packed-all (h .k) (c .s) Stays (stays 5 refl refl) (stays 15 refl refl) none-stays)))
 
@@ -137,6 +131,7 @@ text-zero c z plane l e =
   where
     exit : ℕ → List ℕ
     exit r = cond (eqb r 6) (zeroWords (length plane)) (spaceExit r plane)
+
     by : (t : Bool) → refuse t 6 0 ≡ checkTextRefusal c → zeroWords (length plane) ≡ exit (checkTextRefusal c)
     by true e = ap exit e
     by false e = space-zero plane {k = 0} refl refl ∙ ap exit e

@@ -1,16 +1,15 @@
 -- The verdict on a salt and a text is the one on the y that they make: the same ones, twos and yes. Assumes nothing.
 use mathlib.Core.Path.{_≡_, refl, sym, ap, ap₂, _∙_}
-use mathlib.Core.Bool.{Bool, true, false, cond}
+use mathlib.Core.Bool.{Bool, cond}
 use mathlib.Core.Logic.{_↔_}
 use mathlib.Core.List.{List}
 use Prim.Native.Nat.{ℕ, _<_}
 use native.Mathlib.Decide.{ℕ-discrete}
 use borrow.Author.Tests.{eq-eqb}
-use lib.Dec.{eqb}
 use lib.ListN.{length}
 use Rattle.trits.specs.Trit.{Trit}
 use Rattle.trits.specs.Planes.{zeroWords}
-use Rattle.trits.specs.Refusal.{demand, first, spaceExit, planesRefusal}
+use Rattle.trits.specs.Refusal.{first, spaceExit, planesRefusal}
 use Rattle.trits.specs.declared.Counts.{Counts}
 use Rattle.trits.proofs.Ends.{upto-ended}
 use Rattle.trits.proofs.Refusals.{first-goes, first-stops, passed-first}
@@ -19,14 +18,14 @@ use Rattle.packed.proofs.RoundTrip.{packed-length, packed-back, packed-accepted
 use Rattle.syndrome.specs.Syndrome.{saltBytes, hashedRow, hashedRefusal}
 use Rattle.syndrome.proofs.Made.{hashed-ended}
 use Rattle.verdict.specs.Verdict.{Extending, Found}
-use Rattle.held_key.specs.declared.state.Held.{Held}
 use Rattle.held_key.specs.Held.{rowTrits, heldKey}
 use Rattle.check_tests.specs.Check.{callRefusal, packedLengths, packedContents, packedContentsUnder, heldCounts, answered}
-use Rattle.check_tests.specs.Check.{checkPackedRefusal, checkPackedRefusalUnder, checkPackedAnswer, checkPackedAnswerUnder, checkPackedWorkOnes, checkPackedWorkTwos}
+use Rattle.check_tests.specs.Check.{checkPackedRefusal, checkPackedRefusalUnder, checkPackedAnswer, checkPackedAnswerUnder, checkPackedWorkOnes}
+use Rattle.check_tests.specs.Check.{checkPackedWorkTwos}
 use Rattle.checker.proofs.Verdicts.{found, found-once}
 use Rattle.check_text.specs.TextCheck.{TextCheck, textLengths, textContents, checkTextRefusal, checkTextCounts, checkTextAnswer, textSpaceExit}
 use Rattle.check_text.specs.TextCheck.{checkTextWorkOnes, checkTextWorkTwos, madeCheck}
-use Rattle.check_text.proofs.Tested.{testedOf, Tested, tested, text-parted, never-six}
+use Rattle.check_text.proofs.Tested.{testedOf, tested, text-parted, never-six}
 
 -- ---- as the packed check of that y, refusals too
 
@@ -51,7 +50,8 @@ module _ (c : TextCheck) (s : length (c .salt) ≡ saltBytes) (g : hashedRefusal
 
   same-contents : textContents (c .held) (c .ones) (c .twos) (c .s) ≡ packedContents (c .held) (c .ones) (c .twos) (packedBytes m y) (c .s)
   unfolding textContents packedContentsUnder
-  same-contents = ap (first (planesRefusal (c .ones) (c .twos) (c .held .k) m)) (first-goes {x = packedRefusal m (packedBytes m y)} refl (packed-accepted m y) refl)
+  same-contents =
+      ap (first (planesRefusal (c .ones) (c .twos) (c .held .k) m)) (first-goes {x = packedRefusal m (packedBytes m y)} refl (packed-accepted m y) refl)
 
   pub same-refusal : checkTextRefusal c ≡ checkPackedRefusal (madeCheck c)
   unfolding checkTextRefusal checkPackedRefusalUnder

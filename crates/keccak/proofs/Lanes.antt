@@ -1,15 +1,13 @@
 -- States that agree at the 25 places, and the five arrays of a state read back. Assumes nothing.
-use mathlib.Core.Path.{_≡_, refl, sym, ap, ap₂, _∙_}
-use mathlib.Core.Bool.{Bool, _&&_, cond}
-use mathlib.Core.List.{List, [], _∷_}
-use Prim.Native.Nat.{ℕ, zero, suc, _+_, _-_, _*_, _%_, _^_, _<_}
+use mathlib.Core.Path.{_≡_, refl, sym, ap, _∙_}
+use mathlib.Core.List.{List, []}
+use Prim.Native.Nat.{ℕ, zero, suc, _+_, _-_, _*_, _%_, _<_}
 use native.Mathlib.Nat.{mod-lt}
 use native.Mathlib.Numerals.{add-one}
 use native.Mathlib.Omega.{arith}
-use lib.Bits.{bitAnd, bitXor}
-use lib.Dec.{eqb, lit<}
+use lib.Dec.{lit<}
 use lib.ListN.{getD}
-use Rattle.keccak.specs.Keccak.{State, turned, flipped, parity, twoParities, theta, offset, rho, pi, chi, iota, round, roundsBefore, roundConstant, permuted}
+use Rattle.keccak.specs.Keccak.{State, parity, twoParities, theta, rho, pi, chi, iota, round, roundsBefore, roundConstant, permuted}
 use Rattle.keccak.specs.Lanes.{laneAt, sheetOf, lanesOf}
 
 abbrev pub Same : State → State → Type 0
@@ -118,10 +116,14 @@ ran-none start = record { reads = λ x y hx hy. refl; arrays = λ h. absurd (ome
 pub ran-next : {i constant : ℕ} {start b next : List (List ℕ)} → Ran i start b → constant ≡ roundConstant i → next ≡ lanesOf (round constant (laneAt b))
     → Ran (i + 1) start next
 unfolding roundsBefore
-ran-next {i} {constant} {start} {b} {next} h ec e = record { reads = rw (add-one i) after; arrays = λ l. e ∙ sym (same-lanes read) ∙ ap (λ (l : List (List ℕ)). lanesOf (laneAt l)) (sym e) }
+ran-next {i} {constant} {start} {b} {next} h ec e = record {
+  reads = rw (add-one i) after;
+  arrays = λ l. e ∙ sym (same-lanes read) ∙ ap (λ (l : List (List ℕ)). lanesOf (laneAt l)) (sym e);
+}
   where
     read : Same (laneAt (lanesOf (round constant (laneAt b)))) (round constant (laneAt b))
     read = lane-of (round constant (laneAt b))
+
     after : Same (laneAt next) (roundsBefore (suc i) (laneAt start))
     after x y hx hy =
         ap (λ (l : List (List ℕ)). laneAt l x y) e ∙ read x y hx hy

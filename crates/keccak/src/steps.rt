@@ -39,13 +39,25 @@ fn theta_sheet(a: [[u64; 5]; 5], x: usize) -> [u64; 5]
 {
     let sheet = a[x];
     let d = two_parities(a, x);
-    [sheet[0] ^ d, sheet[1] ^ d, sheet[2] ^ d, sheet[3] ^ d, sheet[4] ^ d]
+    [
+        sheet[0] ^ d,
+        sheet[1] ^ d,
+        sheet[2] ^ d,
+        sheet[3] ^ d,
+        sheet[4] ^ d,
+    ]
 }
 
 pub fn theta(a: [[u64; 5]; 5]) -> [[u64; 5]; 5]
     ensures { λ r. ⌜ r ≡ lanesOf (theta (laneAt a)) ⌝ }
 {
-    [theta_sheet(a, 0), theta_sheet(a, 1), theta_sheet(a, 2), theta_sheet(a, 3), theta_sheet(a, 4)]
+    [
+        theta_sheet(a, 0),
+        theta_sheet(a, 1),
+        theta_sheet(a, 2),
+        theta_sheet(a, 3),
+        theta_sheet(a, 4),
+    ]
 }
 
 // Lane (x, y) after rho.
@@ -60,13 +72,25 @@ fn rho_sheet(a: [[u64; 5]; 5], x: usize) -> [u64; 5]
     requires { ⌜ x < 5 ⌝ }
     ensures { λ r. ⌜ r ≡ sheetOf (rho (laneAt a)) x ⌝ }
 {
-    [rho_lane(a, x, 0), rho_lane(a, x, 1), rho_lane(a, x, 2), rho_lane(a, x, 3), rho_lane(a, x, 4)]
+    [
+        rho_lane(a, x, 0),
+        rho_lane(a, x, 1),
+        rho_lane(a, x, 2),
+        rho_lane(a, x, 3),
+        rho_lane(a, x, 4),
+    ]
 }
 
 pub fn rho(a: [[u64; 5]; 5]) -> [[u64; 5]; 5]
     ensures { λ r. ⌜ r ≡ lanesOf (rho (laneAt a)) ⌝ }
 {
-    [rho_sheet(a, 0), rho_sheet(a, 1), rho_sheet(a, 2), rho_sheet(a, 3), rho_sheet(a, 4)]
+    [
+        rho_sheet(a, 0),
+        rho_sheet(a, 1),
+        rho_sheet(a, 2),
+        rho_sheet(a, 3),
+        rho_sheet(a, 4),
+    ]
 }
 
 // Lane (x, y) after pi.
@@ -81,13 +105,25 @@ fn pi_sheet(a: [[u64; 5]; 5], x: usize) -> [u64; 5]
     requires { ⌜ x < 5 ⌝ }
     ensures { λ r. ⌜ r ≡ sheetOf (pi (laneAt a)) x ⌝ }
 {
-    [pi_lane(a, x, 0), pi_lane(a, x, 1), pi_lane(a, x, 2), pi_lane(a, x, 3), pi_lane(a, x, 4)]
+    [
+        pi_lane(a, x, 0),
+        pi_lane(a, x, 1),
+        pi_lane(a, x, 2),
+        pi_lane(a, x, 3),
+        pi_lane(a, x, 4),
+    ]
 }
 
 pub fn pi(a: [[u64; 5]; 5]) -> [[u64; 5]; 5]
     ensures { λ r. ⌜ r ≡ lanesOf (pi (laneAt a)) ⌝ }
 {
-    [pi_sheet(a, 0), pi_sheet(a, 1), pi_sheet(a, 2), pi_sheet(a, 3), pi_sheet(a, 4)]
+    [
+        pi_sheet(a, 0),
+        pi_sheet(a, 1),
+        pi_sheet(a, 2),
+        pi_sheet(a, 3),
+        pi_sheet(a, 4),
+    ]
 }
 
 // Lane (x, y) after chi.
@@ -102,13 +138,25 @@ fn chi_sheet(a: [[u64; 5]; 5], x: usize) -> [u64; 5]
     requires { ⌜ x < 5 ⌝ }
     ensures { λ r. ⌜ r ≡ sheetOf (chi (laneAt a)) x ⌝ }
 {
-    [chi_lane(a, x, 0), chi_lane(a, x, 1), chi_lane(a, x, 2), chi_lane(a, x, 3), chi_lane(a, x, 4)]
+    [
+        chi_lane(a, x, 0),
+        chi_lane(a, x, 1),
+        chi_lane(a, x, 2),
+        chi_lane(a, x, 3),
+        chi_lane(a, x, 4),
+    ]
 }
 
 pub fn chi(a: [[u64; 5]; 5]) -> [[u64; 5]; 5]
     ensures { λ r. ⌜ r ≡ lanesOf (chi (laneAt a)) ⌝ }
 {
-    [chi_sheet(a, 0), chi_sheet(a, 1), chi_sheet(a, 2), chi_sheet(a, 3), chi_sheet(a, 4)]
+    [
+        chi_sheet(a, 0),
+        chi_sheet(a, 1),
+        chi_sheet(a, 2),
+        chi_sheet(a, 3),
+        chi_sheet(a, 4),
+    ]
 }
 
 // Lane (x, y) after iota.

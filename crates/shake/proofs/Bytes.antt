@@ -1,12 +1,10 @@
 -- Bytes as numbers, and the bytes of the padded message. Assumes nothing.
 use mathlib.Core.Path.{_≡_, refl, sym, ap, _∙_}
-use mathlib.Core.Bool.{cond}
 use mathlib.Core.List.{List, [], _∷_, _++_}
-use Prim.Native.Nat.{ℕ, zero, suc, _+_, _-_, _*_, _/_, _^_, _≤_, _<_}
+use Prim.Native.Nat.{ℕ, zero, suc, _+_, _-_, _*_, _/_, _≤_, _<_}
 use native.Mathlib.Nat.{not-suc-le-zero, le-of-suc-le-suc, zero-add, suc-add}
 use native.Mathlib.Omega.{arith}
 use borrow.Author.Tests.{eq-eqb, ne-eqb}
-use lib.Dec.{eqb}
 use lib.ListN.{length, getD, take, drop, length-append, List·getD-append, List·getD-eq-default}
 use Rattle.trits.proofs.Lists.{getD-tabulate}
 use Rattle.shake.specs.Shake.{rate, blocksOf, paddedByte, wordOf}
@@ -21,8 +19,13 @@ module _ (bytes : List ℕ) (p : ℕ) where
   pub word-of-quads : quadOf bytes p + 4294967296 * quadOf bytes (p + 4) ≡ wordOf (λ i. getD bytes i 0) p
   unfolding quadOf pairOf wordOf
   word-of-quads =
-      omega (arith, at {i = p + 2 + 1} {j = p + 3} (omega arith), at {i = p + 4 + 1} {j = p + 5} (omega arith), at {i = p + 4 + 2} {j = p + 6} (omega arith),
-        at {i = p + 4 + 2 + 1} {j = p + 7} (omega arith))
+      omega (
+        arith,
+        at {i = p + 2 + 1} {j = p + 3} (omega arith),
+        at {i = p + 4 + 1} {j = p + 5} (omega arith),
+        at {i = p + 4 + 2} {j = p + 6} (omega arith),
+        at {i = p + 4 + 2 + 1} {j = p + 7} (omega arith),
+      )
 
 -- ---- parts of a list
 

@@ -3,7 +3,7 @@ use mathlib.Core.Path.{_≡_, refl, sym, ap, _∙_, fun-ext}
 use mathlib.Core.Logic.{_≢_}
 use mathlib.Core.Bool.{cond}
 use mathlib.Core.List.{List}
-use Prim.Native.Nat.{ℕ, zero, suc, _+_, _*_, _/_, _%_, _^_, _≤_, _<_}
+use Prim.Native.Nat.{ℕ, zero, suc, _+_, _*_, _/_, _%_, _≤_, _<_}
 use native.Mathlib.Decide.{decLt}
 use native.Mathlib.Nat.{mod-lt}
 use native.Mathlib.Numerals.{add-one}
@@ -15,9 +15,9 @@ use lib.ListN.{length, getD}
 use Rattle.trits.specs.Planes.{tabulate}
 use Rattle.trits.proofs.Lists.{length-tabulate, getD-tabulate}
 use Rattle.keccak.specs.Keccak.{State, permuted}
-use Rattle.keccak.specs.Lanes.{laneAt, sheetOf, lanesOf}
+use Rattle.keccak.specs.Lanes.{laneAt, lanesOf}
 use Rattle.keccak.proofs.Lanes.{Same, lane-of, same-lanes, same-permuted}
-use Rattle.shake.specs.Shake.{rate, paddedByte, wordOf, added, absorbed, blocksOf, stateByte, squeezed, squeezedByte, squeezedBytes}
+use Rattle.shake.specs.Shake.{rate, paddedByte, wordOf, added, absorbed, stateByte, squeezed, squeezedByte, squeezedBytes}
 use Rattle.shake.specs.Steps.{absorbedBlock}
 
 -- ---- a block is read at its own places, and a state at its 25 lanes
@@ -26,8 +26,16 @@ module _ {f g : ℕ → ℕ} (h : (i : ℕ) → i < rate → f i ≡ g i) where
   same-word : (p : ℕ) → p + 8 ≤ rate → wordOf f p ≡ wordOf g p
   unfolding wordOf
   same-word p l =
-      rw (h p (omega arith), h (p + 1) (omega arith), h (p + 2) (omega arith), h (p + 3) (omega arith), h (p + 4) (omega arith), h (p + 5) (omega arith),
-        h (p + 6) (omega arith), h (p + 7) (omega arith))
+      rw (
+        h p (omega arith),
+        h (p + 1) (omega arith),
+        h (p + 2) (omega arith),
+        h (p + 3) (omega arith),
+        h (p + 4) (omega arith),
+        h (p + 5) (omega arith),
+        h (p + 6) (omega arith),
+        h (p + 7) (omega arith),
+      )
 
   pub same-added : {a b : State} → Same a b → Same (added f a) (added g b)
   unfolding added
@@ -42,23 +50,20 @@ module _ {f g : ℕ → ℕ} (h : (i : ℕ) → i < rate → f i ≡ g i) where
 -- ---- absorbing
 
 -- a block added and permuted in arrays
-pub block-made : {f : ℕ → ℕ} (message : List ℕ) (start : ℕ) (a : List (List ℕ)) {next made : List (List ℕ)} → ((i : ℕ) → i < rate → f i ≡ paddedByte message (start + i))
-    → next ≡ lanesOf (added f (laneAt a)) → made ≡ lanesOf (permuted (laneAt next)) → made ≡ absorbedBlock message start a
+pub block-made : {f : ℕ → ℕ} (message : List ℕ) (start : ℕ) (a : List (List ℕ)) {next made : List (List ℕ)}
+    → ((i : ℕ) → i < rate → f i ≡ paddedByte message (start + i)) → next ≡ lanesOf (added f (laneAt a))
+    → made ≡ lanesOf (permuted (laneAt next)) → made ≡ absorbedBlock message start a
 unfolding absorbedBlock
 block-made {f} message start a {next} {made} h en em =
     em ∙ same-lanes (same-permuted (λ x y hx hy. ap (λ (l : List (List ℕ)). laneAt l x y) en ∙ lane-of (added f (laneAt a)) x y hx hy
-      ∙ same-added h (λ x y hx hy. refl) x y hx hy))
-
-pub absorbed-none : (message : List ℕ) {a : List (List ℕ)} → a ≡ lanesOf (λ x y. 0) → a ≡ lanesOf (absorbed message 0)
-unfolding absorbed
-absorbed-none message e = e
+    ∙ same-added h (λ x y hx hy. refl) x y hx hy))
 
 pub absorbed-next : (message : List ℕ) (j : ℕ) {a next : List (List ℕ)} → a ≡ lanesOf (absorbed message j) → next ≡ absorbedBlock message (rate * j) a
     → next ≡ lanesOf (absorbed message (j + 1))
 unfolding absorbedBlock absorbed
 absorbed-next message j {a} {next} e f =
     f ∙ same-lanes (same-permuted (same-added {f = λ i. paddedByte message (rate * j + i)} (λ i l. refl)
-      (λ x y hx hy. ap (λ (l : List (List ℕ)). laneAt l x y) e ∙ lane-of (absorbed message j) x y hx hy)))
+    (λ x y hx hy. ap (λ (l : List (List ℕ)). laneAt l x y) e ∙ lane-of (absorbed message j) x y hx hy)))
     ∙ ap (λ (k : ℕ). lanesOf (absorbed message k)) (sym (add-one j))
 
 -- ---- squeezing
@@ -90,9 +95,9 @@ module _ {s : State} {i : ℕ} {b : List (List ℕ)} (h : Gives s i b) where
   unfolding squeezed
   gives-permuted z e = record {
     reads = λ x y hx hy.
-    let d : (i + 1) / rate ≡ suc (i / rate) = omega arith in
-    ap (λ (l : List (List ℕ)). laneAt l x y) e ∙ lane-of (permuted (laneAt b)) x y hx hy ∙ same-permuted (h .reads) x y hx hy
-    ∙ ap (λ (k : ℕ). squeezed s k x y) (sym d);
+        let d : (i + 1) / rate ≡ suc (i / rate) = omega arith in
+        ap (λ (l : List (List ℕ)). laneAt l x y) e ∙ lane-of (permuted (laneAt b)) x y hx hy ∙ same-permuted (h .reads) x y hx hy
+        ∙ ap (λ (k : ℕ). squeezed s k x y) (sym d);
   }
 
   pub gives-same : ((i + 1) % rate ≡ 0 → ⊥) → Gives s (i + 1) b
@@ -105,7 +110,8 @@ module _ {s : State} {i : ℕ} {b : List (List ℕ)} (h : Gives s i b) where
 same-bytes : {a : List (List ℕ)} (s : State) → a ≡ lanesOf s → squeezedByte (laneAt a) ≡ squeezedByte s
 unfolding squeezedByte
 same-bytes {a} s e =
-    fun-ext (λ i. same-byte (same-squeezed (λ x y hx hy. ap (λ (l : List (List ℕ)). laneAt l x y) e ∙ lane-of s x y hx hy) (i / rate)) (i % rate) (mod-lt i (lit< tt)))
+    let h : Same (laneAt a) s = λ x y hx hy. ap (λ (l : List (List ℕ)). laneAt l x y) e ∙ lane-of s x y hx hy in
+    fun-ext (λ i. same-byte (same-squeezed h (i / rate)) (i % rate) (mod-lt i (lit< tt)))
 
 pub squeezed-held : {a : List (List ℕ)} (s : State) → a ≡ lanesOf s → (n : ℕ) → squeezedBytes (laneAt a) n ≡ squeezedBytes s n
 unfolding squeezedBytes

@@ -1,7 +1,7 @@
 // The bytes of the padded message.
 ghost use mathlib.Core.Path.{_≡_};
 ghost use mathlib.Core.List.{_++_};
-ghost use Prim.Native.Nat.{_+_, _≤_, _<_};
+ghost use Prim.Native.Nat.{_+_, _<_};
 ghost use lib.ListN.{length};
 ghost use Rattle.shake.specs.Shake.{paddedByte};
 ghost use Rattle.shake.specs.Steps.{ForPlace, ForBlock, padOf, blockFrom};

@@ -9,7 +9,7 @@ use lib.Dec.{ltb, eqb, lit<}
 use lib.ListN.{length}
 use Rattle.trits.specs.Trit.{t0}
 use Rattle.trits.specs.Planes.{onesOf, twosOf, wordsFor, Reads}
-use Rattle.trits.specs.Refusal.{refuse, demand, atExit}
+use Rattle.trits.specs.Refusal.{refuse, atExit}
 use Rattle.trits.proofs.Ends.{upto-out}
 use Rattle.trits.proofs.Reading.{holds-reads}
 use Rattle.trits.proofs.Refusals.{exit-new, passed-refuse, passed-demand}
@@ -99,6 +99,6 @@ module _ (m : ℕ) (salt text ones twos : List ℕ) (z : syndromeRefusal (syndro
       (eqb-true _ _ (d .0), d .1)
 
   -- its planes hold the row
-  pub syndrome-holds : Reads (syndromeOnes (syndromeOf m salt text ones twos)) (syndromeTwos (syndromeOf m salt text ones twos)) (wordsFor m) (hashedRow m salt text)
+  pub syndrome-holds : let c = syndromeOf m salt text ones twos in Reads (syndromeOnes c) (syndromeTwos c) (wordsFor m) (hashedRow m salt text)
   unfolding syndromeOnes syndromeTwos
   syndrome-holds = made-holds m salt text ones twos z refl refl

@@ -26,13 +26,7 @@ pub fn make(m: usize, salt: &[u8], text: &[u8], ones: &mut [u64], twos: &mut [u6
 }
 
 // The syndrome of a salt and a text, for a row of m trits.
-pub fn syndrome(
-    m: usize,
-    salt: &[u8],
-    text: &[u8],
-    ones: &mut [u64],
-    twos: &mut [u64],
-) -> Outcome
+pub fn syndrome(m: usize, salt: &[u8], text: &[u8], ones: &mut [u64], twos: &mut [u64]) -> Outcome
     ensures { λ r. ⌜ (let c = syndromeOf m (now (salt .entry)) (now (text .entry)) (now (ones .entry)) (now (twos .entry)) in
         (codeOf r ≡ syndromeRefusal c) × (now (ones .exit) ≡ syndromeOnes c) × (now (twos .exit) ≡ syndromeTwos c)) ⌝ }
 {

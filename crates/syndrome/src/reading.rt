@@ -32,13 +32,7 @@ pub fn too_short(m: usize, a: [[u64; 5]; 5]) -> bool
 }
 
 // The output's trits are written to the first places of planes that are 0.
-fn put_output(
-    table: &[u8; 1215],
-    m: usize,
-    a: [[u64; 5]; 5],
-    ones: &mut [u64],
-    twos: &mut [u64],
-)
+fn put_output(table: &[u8; 1215], m: usize, a: [[u64; 5]; 5], ones: &mut [u64], twos: &mut [u64])
     requires { ⌜ ForPutOutput (now table) m a (now ones) (now twos) ⌝ }
     ensures { λ _. ⌜ Reads (now (ones .exit)) (now (twos .exit)) (length (now (ones .entry))) (streamRow m (outputFor m a)) ⌝ }
 {

@@ -91,7 +91,15 @@ pub extern "C" fn wave_check_text(
         (r ≡ checkTextAnswer c) × (now («work_ones» .exit) ≡ checkTextWorkOnes c) × (now («work_twos» .exit) ≡ checkTextWorkTwos c)) ⌝ }
 {
     check_tests::tell(check_text::check_text(
-        held, number, ones, twos, salt, text, s, work_ones, work_twos,
+        held,
+        number,
+        ones,
+        twos,
+        salt,
+        text,
+        s,
+        work_ones,
+        work_twos,
     ))
 }
 

@@ -11,7 +11,7 @@ use Rattle.check_tests.specs.Check.{answered}
 use Rattle.check_tests.proofs.Answers.{answer-kept}
 use Rattle.check_tests.proofs.Passed.{whole}
 use Rattle.check_text.specs.TextCheck.{TextCheck, textCheckOf, checkTextCounts, checkTextAnswer}
-use Rattle.check_text.proofs.Tested.{testedOf, Tested, tested, tested-spaces, text-fitted, text-refused, text-decided, text-kept, text-zero}
+use Rattle.check_text.proofs.Tested.{testedOf, Tested, tested, text-fitted, text-refused, text-decided, text-kept, text-zero}
 use Rattle.check_text.proofs.check_text.Statement.{statement}
 use Rattle.check_text.proofs.check_text.Tie as tie
 

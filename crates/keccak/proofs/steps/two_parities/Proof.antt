@@ -1,7 +1,6 @@
 -- The two parities are their definitions, at x - 1 and x + 1 modulo 5.
 -- Assumes nothing.
 use Rattle.keccak.specs.Keccak.{twoParities}
-use Rattle.keccak.specs.Lanes.{laneAt}
 use borrow.Author.Needs.{needs}
 use Rattle.keccak.proofs.steps.two_parities.Statement.{statement}
 use Rattle.keccak.proofs.steps.two_parities.Tie as tie

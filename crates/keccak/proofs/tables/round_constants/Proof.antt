@@ -4,7 +4,6 @@ use mathlib.Core.Path.{refl}
 use Rattle.trits.specs.Planes.{tabulate}
 use Rattle.keccak.specs.Keccak.{roundConstant, constantBefore, registerBit, register}
 use Rattle.keccak.specs.Steps.{constantsOf}
-use borrow.Author.Needs.{needs}
 use Rattle.keccak.proofs.tables.round_constants.Statement.{statement}
 use Rattle.keccak.proofs.tables.round_constants.Tie as tie
 

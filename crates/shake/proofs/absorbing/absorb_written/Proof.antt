@@ -29,7 +29,8 @@ returns c =
     let after-fill = after-add-block .before .before .before in
     let s = after-fill .before .before .before .before .args in
     let message = now (s .first) ++ now (s .last) in
-    block-made message (s .start) (s .a) (block-written message (s .start) 136 (after-fill .fill .ensures)) (after-add-block .add-block .ensures) (c .permute .ensures)
+    let written = block-written message (s .start) 136 (after-fill .fill .ensures) in
+    block-made message (s .start) (s .a) written (after-add-block .add-block .ensures) (c .permute .ensures)
 
 pub absorb-written-spec : {M : Type 1} → statement M
 absorb-written-spec =

@@ -22,7 +22,8 @@ abbrev μ-loop : tie.MeasureT-loop
 μ-loop output₀ b₀ i₀ output b i = length output₀ - i
 
 -- the output with one byte more
-written : (c : tie.After-byte-of Inv-loop μ-loop) → let l = c .before .before .loop in let a = c .before .before .before .before .args in
+written : (c : tie.After-byte-of Inv-loop μ-loop) → let l = c .before .before .loop in
+    let a = c .before .before .before .before .args in
     Patched (squeezedByte (laneAt (a .a))) 0 (l .i + 1) (now (a .output)) (set (l .output) (l .i) (c .byte-of .result))
 written c =
     let l = c .before .before .loop in

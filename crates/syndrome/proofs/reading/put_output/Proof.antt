@@ -19,7 +19,7 @@ use Rattle.syndrome.proofs.reading.put_output.Statement.{statement}
 use Rattle.syndrome.proofs.reading.put_output.Tie as tie
 
 abbrev Inv-loop : tie.InvT-loop
-Inv-loop table m ones₀ twos₀ b₀ at₀ i₀ ones twos b at i = 
+Inv-loop table m ones₀ twos₀ b₀ at₀ i₀ ones twos b at i =
     Stands m (outputFor m b₀) at i × Reads ones twos (length ones₀) (streamRow at (outputFor m b₀)) × Gives (laneAt b₀) i b
 
 abbrev μ-loop : tie.MeasureT-loop
@@ -65,9 +65,11 @@ byte c =
     c .before .before .before .byte-of .ensures ∙ gives-at (in-loop .before .loop .inv .2) (start-from-in-loop in-loop .args .m + 136) (more in-loop)
 
 -- the row after it
-one-more : (c : tie.After-put-next Inv-loop μ-loop) → let in-loop = in-loop-from-put-next c in let s = start-from-in-loop in-loop in
+one-more : (c : tie.After-put-next Inv-loop μ-loop) → let in-loop = in-loop-from-put-next c in
+    let s = start-from-in-loop in-loop in
     Stands (s .args .m) (output-of in-loop) (c .put-next .result) (in-loop .before .loop .i + 1)
-    × Reads (c .put-next .last .1 .1 .1 .0) (c .put-next .last .1 .1 .1 .1 .0) (length (now (s .args .ones))) (streamRow (c .put-next .result) (output-of in-loop))
+    × Reads (c .put-next .last .1 .1 .1 .0) (c .put-next .last .1 .1 .1 .1 .0) (length (now (s .args .ones)))
+    (streamRow (c .put-next .result) (output-of in-loop))
 one-more c =
     let in-loop = in-loop-from-put-next c in
     let l = in-loop .before .loop in

@@ -16,7 +16,7 @@ use Rattle.syndrome.proofs.reading.too_short.Statement.{statement}
 use Rattle.syndrome.proofs.reading.too_short.Tie as tie
 
 abbrev Inv-loop : tie.InvT-loop
-Inv-loop m end left₀ b₀ i₀ left b i = 
+Inv-loop m end left₀ b₀ i₀ left b i =
     (i ≤ end) × (left ≡ m - 5 * given (outputFor m b₀) i) × Gives (laneAt b₀) i b
 
 abbrev μ-loop : tie.MeasureT-loop

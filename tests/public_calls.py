@@ -37,7 +37,7 @@ def faults_of(head):
 def calls(document):
     """The calls of the list: crate, path within it."""
     part = document.split('## The public calls\n')[1].split('\n## ')[0]
-    return re.findall(r'^- `([a-z_]+)::([a-z_:]+)`', part, re.M)
+    return re.findall(r'^- `([a-z_]+)::([a-z0-9_:]+)`', part, re.M)
 
 
 def test_calls(document):

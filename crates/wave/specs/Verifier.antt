@@ -67,7 +67,11 @@ packedKeyRow z i m j =
 abbrev pub carried : (z : Sizes) → BuildCall → ℕ → Host z → Holding
 carried z i w m = offerAll (packedKeyRow z i m) (dim z) (record { held = beginHeld (m .before) (m .number) (z .n) (dim z) w; ones = m .ones; twos = m .twos })
 
--- then it checks y and the s that the draw handed out, each packed by a call of `pack`
+-- the s that the draw handed out, packed by a call of `pack`
+abbrev pub packedSignature : (z : Sizes) → ℕ → ℕ → ℕ → DrawCall → Host z → List ℕ
+packedSignature z gv gu w l m = packExit (packOf (dim z) (sExit (sized z gv gu w) l .ones) (sExit (sized z gv gu w) l .twos) (m .sBytes))
+
+-- then it checks y, packed by a call of `pack` too, and that s
 abbrev pub carriedCheck : (z : Sizes) → BuildCall → ℕ → ℕ → ℕ → DrawCall → Host z → PackedCheck
 carriedCheck z i gv gu w l m = record {
   held = carried z i w m .held;
@@ -75,7 +79,7 @@ carriedCheck z i gv gu w l m = record {
   ones = carried z i w m .ones;
   twos = carried z i w m .twos;
   y = packExit (packOf (codim z) (l .y .ones) (l .y .twos) (m .yBytes));
-  s = packExit (packOf (dim z) (sExit (sized z gv gu w) l .ones) (sExit (sized z gv gu w) l .twos) (m .sBytes));
+  s = packedSignature z gv gu w l m;
   workOnes = m .workOnes;
   workTwos = m .workTwos;
 }
@@ -111,7 +115,7 @@ carriedText z i gv gu w l m salt text = record {
   twos = carried z i w m .twos;
   salt = salt;
   text = text;
-  s = packExit (packOf (dim z) (sExit (sized z gv gu w) l .ones) (sExit (sized z gv gu w) l .twos) (m .sBytes));
+  s = packedSignature z gv gu w l m;
   workOnes = m .workOnes;
   workTwos = m .workTwos;
 }

@@ -48,6 +48,7 @@ fn theta_sheet(a: [[u64; 5]; 5], x: usize) -> [u64; 5]
     ]
 }
 
+// To each lane come the parities of two columns beside it.
 pub fn theta(a: [[u64; 5]; 5]) -> [[u64; 5]; 5]
     ensures { λ r. ⌜ r ≡ lanesOf (theta (laneAt a)) ⌝ }
 {
@@ -68,6 +69,7 @@ fn rho_lane(a: [[u64; 5]; 5], x: usize, y: usize) -> u64
     turn(a[x][y], super::tables::offset(x, y))
 }
 
+// The lanes at x after rho.
 fn rho_sheet(a: [[u64; 5]; 5], x: usize) -> [u64; 5]
     requires { ⌜ x < 5 ⌝ }
     ensures { λ r. ⌜ r ≡ sheetOf (rho (laneAt a)) x ⌝ }
@@ -81,6 +83,7 @@ fn rho_sheet(a: [[u64; 5]; 5], x: usize) -> [u64; 5]
     ]
 }
 
+// Each lane is turned by its offset.
 pub fn rho(a: [[u64; 5]; 5]) -> [[u64; 5]; 5]
     ensures { λ r. ⌜ r ≡ lanesOf (rho (laneAt a)) ⌝ }
 {
@@ -101,6 +104,7 @@ fn pi_lane(a: [[u64; 5]; 5], x: usize, y: usize) -> u64
     a[(x + 3 * y) % 5][x]
 }
 
+// The lanes at x after pi.
 fn pi_sheet(a: [[u64; 5]; 5], x: usize) -> [u64; 5]
     requires { ⌜ x < 5 ⌝ }
     ensures { λ r. ⌜ r ≡ sheetOf (pi (laneAt a)) x ⌝ }
@@ -114,6 +118,7 @@ fn pi_sheet(a: [[u64; 5]; 5], x: usize) -> [u64; 5]
     ]
 }
 
+// The lanes change places.
 pub fn pi(a: [[u64; 5]; 5]) -> [[u64; 5]; 5]
     ensures { λ r. ⌜ r ≡ lanesOf (pi (laneAt a)) ⌝ }
 {
@@ -134,6 +139,7 @@ fn chi_lane(a: [[u64; 5]; 5], x: usize, y: usize) -> u64
     a[x][y] ^ (!a[(x + 1) % 5][y] & a[(x + 2) % 5][y])
 }
 
+// The lanes at x after chi.
 fn chi_sheet(a: [[u64; 5]; 5], x: usize) -> [u64; 5]
     requires { ⌜ x < 5 ⌝ }
     ensures { λ r. ⌜ r ≡ sheetOf (chi (laneAt a)) x ⌝ }
@@ -147,6 +153,7 @@ fn chi_sheet(a: [[u64; 5]; 5], x: usize) -> [u64; 5]
     ]
 }
 
+// To each lane come bits of the second lane after it, where those of the first are 0.
 pub fn chi(a: [[u64; 5]; 5]) -> [[u64; 5]; 5]
     ensures { λ r. ⌜ r ≡ lanesOf (chi (laneAt a)) ⌝ }
 {
@@ -170,6 +177,7 @@ fn iota_lane(a: [[u64; 5]; 5], constant: u64, x: usize, y: usize) -> u64
     a[x][y]
 }
 
+// The lanes at x after iota.
 fn iota_sheet(a: [[u64; 5]; 5], constant: u64, x: usize) -> [u64; 5]
     requires { ⌜ x < 5 ⌝ }
     ensures { λ r. ⌜ r ≡ sheetOf (iota constant (laneAt a)) x ⌝ }
@@ -183,6 +191,7 @@ fn iota_sheet(a: [[u64; 5]; 5], constant: u64, x: usize) -> [u64; 5]
     ]
 }
 
+// The round's constant comes to lane (0, 0).
 pub fn iota(a: [[u64; 5]; 5], constant: u64) -> [[u64; 5]; 5]
     ensures { λ r. ⌜ r ≡ lanesOf (iota constant (laneAt a)) ⌝ }
 {

@@ -8,7 +8,7 @@ use borrow.Author.Tests.{eq-eqb, ne-eqb}
 use lib.ListN.{length, getD, take, drop, length-append, List·getD-append, List·getD-eq-default}
 use Rattle.trits.proofs.Lists.{getD-tabulate}
 use Rattle.shake.specs.Shake.{rate, blocksOf, paddedByte, wordOf}
-use Rattle.shake.specs.Steps.{pairOf, quadOf, padOf, blockFrom}
+use Rattle.shake.specs.Steps.{twoBytes, fourBytes, padOf, blockFrom}
 
 -- ---- numbers of two, four and eight bytes
 
@@ -16,9 +16,9 @@ module _ (bytes : List ℕ) (p : ℕ) where
   at : {i j : ℕ} → i ≡ j → getD bytes i 0 ≡ getD bytes j 0
   at e = ap (λ (k : ℕ). getD bytes k 0) e
 
-  pub word-of-quads : quadOf bytes p + 4294967296 * quadOf bytes (p + 4) ≡ wordOf (λ i. getD bytes i 0) p
-  unfolding quadOf pairOf wordOf
-  word-of-quads =
+  pub word-of-fours : fourBytes bytes p + 4294967296 * fourBytes bytes (p + 4) ≡ wordOf (λ i. getD bytes i 0) p
+  unfolding fourBytes twoBytes wordOf
+  word-of-fours =
       omega (
         arith,
         at {i = p + 2 + 1} {j = p + 3} (omega arith),
@@ -63,18 +63,18 @@ module _ (message : List ℕ) (i : ℕ) where
 
 -- a message in two parts
 module _ (first last : List ℕ) where
-  pub size : length (first ++ last) ≡ length first + length last
-  size = length-append first last
+  pub parts-size : length (first ++ last) ≡ length first + length last
+  parts-size = length-append first last
 
   pub in-first : (i : ℕ) → i < length first → getD first i 0 ≡ paddedByte (first ++ last) i
-  in-first i h = sym (padded-inside (first ++ last) i (omega (arith, size)) ∙ List·getD-append first last 0 i h)
+  in-first i h = sym (padded-inside (first ++ last) i (omega (arith, parts-size)) ∙ List·getD-append first last 0 i h)
 
   pub in-last : (i at : ℕ) → i ≡ length first + at → at < length last → getD last at 0 ≡ paddedByte (first ++ last) i
   in-last i at e h =
-      sym (padded-inside (first ++ last) i (omega (arith, size)) ∙ ap (λ (k : ℕ). getD (first ++ last) k 0) e ∙ append-past first last at)
+      sym (padded-inside (first ++ last) i (omega (arith, parts-size)) ∙ ap (λ (k : ℕ). getD (first ++ last) k 0) e ∙ append-past first last at)
 
   pub in-padding : (i : ℕ) → length first + length last ≤ i → padOf (length first + length last) i ≡ paddedByte (first ++ last) i
-  in-padding i h = ap (λ (k : ℕ). padOf k i) (sym size) ∙ sym (padded-past (first ++ last) i (omega (arith, size)))
+  in-padding i h = ap (λ (k : ℕ). padOf k i) (sym parts-size) ∙ sym (padded-past (first ++ last) i (omega (arith, parts-size)))
 
   -- a block that lies in the last part
   pub block-in-last : (start at n : ℕ) → start ≡ length first + at → n ≡ rate → at + rate ≤ length last → (i : ℕ) → i < rate

@@ -10,11 +10,11 @@ use Rattle.keccak.specs.Lanes.{laneAt, lanesOf}
 use Rattle.shake.specs.Shake.{rate, paddedByte, added}
 
 -- two and four bytes from place p on as a number
-unfoldable pub pairOf : List ℕ → ℕ → ℕ
-pairOf bytes p = getD bytes p 0 + 256 * getD bytes (p + 1) 0
+unfoldable pub twoBytes : List ℕ → ℕ → ℕ
+twoBytes bytes p = getD bytes p 0 + 256 * getD bytes (p + 1) 0
 
-unfoldable pub quadOf : List ℕ → ℕ → ℕ
-quadOf bytes p = pairOf bytes p + 65536 * pairOf bytes (p + 2)
+unfoldable pub fourBytes : List ℕ → ℕ → ℕ
+fourBytes bytes p = twoBytes bytes p + 65536 * twoBytes bytes (p + 2)
 
 -- what the padding puts at place i of a message of so many bytes
 unfoldable pub padOf : ℕ → ℕ → ℕ

@@ -4,7 +4,7 @@ ghost use Prim.Native.Nat.{ℕ, _+_, _*_, _≤_, _<_};
 ghost use lib.ListN.{length, getD};
 ghost use Rattle.keccak.specs.Lanes.{laneAt, sheetOf, lanesOf};
 ghost use Rattle.shake.specs.Shake.{rate, wordOf, added};
-ghost use Rattle.shake.specs.Steps.{pairOf, quadOf};
+ghost use Rattle.shake.specs.Steps.{twoBytes, fourBytes};
 
 // A byte as a number of 64 bits.
 fn wide(b: u8) -> u64
@@ -14,19 +14,19 @@ fn wide(b: u8) -> u64
 }
 
 // Two bytes from place p on as a number, the first lowest.
-fn pair(bytes: &[u8], p: usize) -> u64
+fn two_bytes(bytes: &[u8], p: usize) -> u64
     requires { ⌜ p + 2 ≤ length (now bytes) ⌝ }
-    ensures { λ r. ⌜ (r ≡ pairOf (now (bytes .entry)) p) × (r < 65536) ⌝ }
+    ensures { λ r. ⌜ (r ≡ twoBytes (now (bytes .entry)) p) × (r < 65536) ⌝ }
 {
     wide(bytes[p]) + 256 * wide(bytes[p + 1])
 }
 
 // Four bytes.
-fn quad(bytes: &[u8], p: usize) -> u64
+fn four_bytes(bytes: &[u8], p: usize) -> u64
     requires { ⌜ p + 4 ≤ length (now bytes) ⌝ }
-    ensures { λ r. ⌜ (r ≡ quadOf (now (bytes .entry)) p) × (r < 4294967296) ⌝ }
+    ensures { λ r. ⌜ (r ≡ fourBytes (now (bytes .entry)) p) × (r < 4294967296) ⌝ }
 {
-    pair(bytes, p) + 65536 * pair(bytes, p + 2)
+    two_bytes(bytes, p) + 65536 * two_bytes(bytes, p + 2)
 }
 
 // Eight bytes.
@@ -34,7 +34,7 @@ fn word(bytes: &[u8], p: usize) -> u64
     requires { ⌜ p + 8 ≤ length (now bytes) ⌝ }
     ensures { λ r. ⌜ r ≡ wordOf (λ (i : ℕ). getD (now (bytes .entry)) i 0) p ⌝ }
 {
-    quad(bytes, p) + 4294967296 * quad(bytes, p + 4)
+    four_bytes(bytes, p) + 4294967296 * four_bytes(bytes, p + 4)
 }
 
 // Lane (x, y) after the block.

@@ -9,7 +9,7 @@ use denote.Ref.{now}
 use borrow.Author.Needs.{needs}
 use Rattle.keccak.specs.Lanes.{lanesOf, sheetOf}
 use Rattle.shake.specs.Shake.{rate, absorbed, blocksOf}
-use Rattle.shake.proofs.Bytes.{size}
+use Rattle.shake.proofs.Bytes.{parts-size}
 use Rattle.shake.proofs.Sponge.{absorbed-next}
 use Rattle.shake.proofs.absorbing.absorb.Statement.{statement}
 use Rattle.shake.proofs.absorbing.absorb.Tie as tie
@@ -40,7 +40,7 @@ mul-absorb-block c =
 absorb-block-requires : tie.Need-absorb-block-requires Inv-loop μ-loop
 absorb-block-requires c κs =
     let s = c .before .before .before .before in
-    record { message = s .pre; place = omega (arith, size (now (s .args .first)) (now (s .args .last))) }
+    record { message = s .pre; place = omega (arith, parts-size (now (s .args .first)) (now (s .args .last))) }
 
 add-j : tie.Need-add-j Inv-loop μ-loop
 add-j c = search needs
@@ -60,7 +60,7 @@ unfolding blocksOf
 returns c =
     let at-loop = c .before in
     let s = at-loop .before .before .before .args in
-    let l = size (now (s .first)) (now (s .last)) in
+    let l = parts-size (now (s .first)) (now (s .last)) in
     let e : at-loop .loop .j ≡ length (now (s .first) ++ now (s .last)) / rate + 1 = omega (arith, l) in
     rw e at (at-loop .loop .inv .1)
 

@@ -6,7 +6,7 @@ use Prim.Native.Nat.{_+_, _-_}
 use lib.ListN.{length}
 use denote.Ref.{now}
 use borrow.Author.Needs.{needs}
-use Rattle.shake.proofs.Bytes.{size, block-in-last}
+use Rattle.shake.proofs.Bytes.{parts-size, block-in-last}
 use Rattle.shake.proofs.Sponge.{block-made}
 use Rattle.shake.proofs.absorbing.absorb_block.Statement.{statement}
 use Rattle.shake.proofs.absorbing.absorb_block.Tie as tie
@@ -23,7 +23,7 @@ sub-at c = search needs
 add-end : tie.Need-add-end
 add-end c =
     let s = c .before .before .before in
-    omega (arith, s .pre .message .short, s .pre .message .fits, s .pre .place, size (now (s .args .first)) (now (s .args .last)))
+    omega (arith, s .pre .message .short, s .pre .message .fits, s .pre .place, parts-size (now (s .args .first)) (now (s .args .last)))
 
 absorb-written-requires-2 : tie.Need-absorb-written-requires-2
 absorb-written-requires-2 c κs = search needs

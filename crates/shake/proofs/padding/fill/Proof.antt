@@ -9,7 +9,7 @@ use denote.Ref.{now}
 use Rattle.trits.proofs.Patches.{Patched, patch-none, patch-more, patched-all}
 use Rattle.shake.specs.Shake.{paddedByte}
 use Rattle.shake.specs.Steps.{blockFrom}
-use Rattle.shake.proofs.Bytes.{size}
+use Rattle.shake.proofs.Bytes.{parts-size}
 use Rattle.shake.proofs.padding.fill.Statement.{statement}
 use Rattle.shake.proofs.padding.fill.Tie as tie
 
@@ -27,7 +27,7 @@ add-padded-byte : tie.Need-add-padded-byte Inv-loop μ-loop
 add-padded-byte c =
     let s = c .before .before .before .before .before in
     let p = s .pre in
-    omega (arith, p .message .short, p .message .fits, p .place, size (now (s .args .first)) (now (s .args .last)))
+    omega (arith, p .message .short, p .message .fits, p .place, parts-size (now (s .args .first)) (now (s .args .last)))
 
 padded-byte-requires : tie.Need-padded-byte-requires Inv-loop μ-loop
 padded-byte-requires c κs =

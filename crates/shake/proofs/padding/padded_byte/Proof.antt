@@ -4,7 +4,7 @@ use native.Mathlib.Omega.{arith}
 use mathlib.Core.Path.{_∙_}
 use denote.Ref.{now}
 use borrow.Author.Needs.{needs}
-use Rattle.shake.proofs.Bytes.{size, in-first, in-last, in-padding}
+use Rattle.shake.proofs.Bytes.{parts-size, in-first, in-last, in-padding}
 use Rattle.shake.proofs.padding.padded_byte.Statement.{statement}
 use Rattle.shake.proofs.padding.padded_byte.Tie as tie
 
@@ -36,7 +36,7 @@ pad-requires : tie.Need-pad-requires
 pad-requires c κs =
     let s = c .before .before .before .before in
     let p = s .pre in
-    let l = size (now (s .args .first)) (now (s .args .last)) in
+    let l = parts-size (now (s .args .first)) (now (s .args .last)) in
     (omega (arith, p .message .short, p .message .fits), omega (arith, p .message .short, p .message .fits, p .place, l))
 
 returns-3 : tie.Need-returns-3

@@ -2,9 +2,9 @@
 -- Assumes nothing.
 use native.Mathlib.Omega.{arith}
 use borrow.Author.Needs.{needs}
-use Rattle.shake.specs.Steps.{pairOf}
-use Rattle.shake.proofs.block.pair.Statement.{statement}
-use Rattle.shake.proofs.block.pair.Tie as tie
+use Rattle.shake.specs.Steps.{twoBytes}
+use Rattle.shake.proofs.block.two_bytes.Statement.{statement}
+use Rattle.shake.proofs.block.two_bytes.Tie as tie
 
 shared-slice-read-wide : tie.Need-shared-slice-read-wide
 shared-slice-read-wide c = search needs
@@ -28,14 +28,14 @@ add-result : tie.Need-add-result
 add-result c = search needs
 
 returns : tie.Need-returns
-unfolding pairOf
+unfolding twoBytes
 returns c =
     let first = c .before .before .wide .ensures in
     let second = c .wide2 .ensures in
     (omega (arith, first .0, second .0), omega (arith, first .1, second .1))
 
-pub pair-spec : {M : Type 1} → statement M
-pair-spec =
+pub two-bytes-spec : {M : Type 1} → statement M
+two-bytes-spec =
     tie.close
     (tie.spec
     shared-slice-read-wide

@@ -14,7 +14,7 @@ use lib.Pow.{shl-shr, shr-lt, mod-pow-add}
 use Rattle.trits.specs.Trit.{anyTo}
 use Rattle.trits.proofs.Lists.{getD-tabulate}
 use Rattle.trits.proofs.Tests.{any-none}
-use Rattle.keccak.specs.Keccak.{State, turned, walk, offsetBefore, offset, iota, roundConstant}
+use Rattle.keccak.specs.Keccak.{State, turned, walk, offsetBefore, offset, iota, register, registerBit, constantBefore, roundConstant}
 use Rattle.keccak.specs.Steps.{constantsOf}
 
 -- ---- a lane turned
@@ -101,7 +101,12 @@ none-at-origin = refl
 pub origin-not-met : (t : ℕ) → t < 24 → at-origin t ≡ false
 origin-not-met t h = any-none 24 at-origin none-at-origin t h
 
--- ---- the table of round constants
+-- ---- the round constants
+
+-- that of round 1 is 8082 in hex
+second-constant : roundConstant 1 ≡ 32898
+unfolding roundConstant constantBefore registerBit register
+second-constant = refl
 
 pub constant-at : {table : List ℕ} → table ≡ constantsOf → (i : ℕ) → i < 24 → getD table i 0 ≡ roundConstant i
 unfolding constantsOf

@@ -1,10 +1,10 @@
 -- A refusal is judged before anything is touched; else the hash and the word are judged, and both planes of the working space are zeroed.
 -- Assumes nothing.
-use native.Mathlib.Omega.{arith}
 use Prim.Native.Nat.{ℕ}
 use mathlib.Core.Path.{_≡_, sym, ap, _∙_}
-use denote.Ref.{now}
+use native.Mathlib.Omega.{arith}
 use borrow.Author.Needs.{needs}
+use denote.Ref.{now}
 use Rattle.trits.specs.Refusal.{codeOf}
 use Rattle.trits.proofs.Refusals.{positive}
 use Rattle.check_tests.specs.Check.{answered}

@@ -1,10 +1,10 @@
 -- The hash decides; where it refuses nothing the working space holds y, and the full word is judged.
 -- Assumes nothing.
-use native.Mathlib.Omega.{arith}
 use Prim.Native.Nat.{ℕ}
 use mathlib.Core.Path.{_≡_, sym, ap, _∙_}
-use denote.Ref.{now}
+use native.Mathlib.Omega.{arith}
 use borrow.Author.Needs.{needs}
+use denote.Ref.{now}
 use Rattle.trits.specs.Trit.{Trit}
 use Rattle.trits.specs.Planes.{wordsFor, Reads}
 use Rattle.trits.specs.Refusal.{codeOf}

@@ -1,10 +1,10 @@
 -- The held rows and s are tested in the order of `textContents`, and the first refusal is returned.
 -- Assumes nothing.
-use native.Mathlib.Omega.{arith}
 use Prim.Native.Nat.{ℕ, _*_}
 use mathlib.Core.Path.{_≡_, sym, ap, _∙_}
-use denote.Ref.{now}
+use native.Mathlib.Omega.{arith}
 use borrow.Author.Needs.{needs}
+use denote.Ref.{now}
 use Rattle.trits.specs.Planes.{wordsFor}
 use Rattle.trits.specs.Refusal.{codeOf, planesRefusal}
 use Rattle.trits.proofs.Refusals.{first-stops, first-goes}

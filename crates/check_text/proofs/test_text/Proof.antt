@@ -1,9 +1,9 @@
 -- State and lengths, then the lengths of salt and s, then the contents: the first refusal is returned.
 -- Assumes nothing.
 use mathlib.Core.Path.{_≡_, sym, _∙_}
+use borrow.Author.Needs.{needs}
 use lib.ListN.{length}
 use denote.Ref.{now}
-use borrow.Author.Needs.{needs}
 use Rattle.trits.specs.Refusal.{codeOf}
 use Rattle.trits.proofs.Refusals.{first-stops, first-goes}
 use Rattle.check_tests.proofs.Passed.{Called, called, whole}

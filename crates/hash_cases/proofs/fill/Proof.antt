@@ -1,10 +1,10 @@
 -- A turn writes one byte; the next is seven more, modulo 256.
 -- Assumes nothing.
-use native.Mathlib.Omega.{arith}
 use Prim.Native.Nat.{_+_, _-_, _*_, _%_, _≤_}
 use mathlib.Core.Path.{_≡_, refl}
-use lib.ListN.{length}
+use native.Mathlib.Omega.{arith}
 use borrow.Author.Needs.{needs}
+use lib.ListN.{length}
 use Rattle.trits.proofs.Patches.{Patched, patch-none, patch-more, patched-all}
 use Rattle.hash_cases.proofs.fill.Statement.{statement}
 use Rattle.hash_cases.proofs.fill.Tie as tie

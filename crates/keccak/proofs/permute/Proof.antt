@@ -43,7 +43,7 @@ loop-again c =
     let at-loop = in-loop .before in
     let constants = at-loop .before .round-constants .ensures in (
       omega arith,
-      ran-next (at-loop .loop .inv .1) (constant-at constants (at-loop .loop .i) (in-loop .loop-test .taken)) (c .round .ensures),
+      ran-next (at-loop .loop .inv .1) (constant-at constants (at-loop .loop .i) (omega arith)) (c .round .ensures),
     )
 
 returns : tie.Need-returns Inv-loop μ-loop

@@ -1,7 +1,7 @@
 -- Each step works on the arrays that the step before made (`round-made`).
 -- Assumes nothing.
-use Rattle.keccak.proofs.Lanes.{round-made}
 use borrow.Author.Needs.{needs}
+use Rattle.keccak.proofs.Lanes.{round-made}
 use Rattle.keccak.proofs.round.Statement.{statement}
 use Rattle.keccak.proofs.round.Tie as tie
 

@@ -1,9 +1,9 @@
 -- The message is the last of two parts, the first being empty; the output is that of the state which it makes (`squeezed-held`).
 -- Assumes nothing.
 use mathlib.Core.Path.{_∙_}
+use borrow.Author.Needs.{needs}
 use lib.ListN.{length}
 use denote.Ref.{now}
-use borrow.Author.Needs.{needs}
 use Rattle.shake.specs.Shake.{shake256}
 use Rattle.shake.specs.Shake.{absorbed, blocksOf}
 use Rattle.shake.proofs.Sponge.{squeezed-held}

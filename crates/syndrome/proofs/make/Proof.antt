@@ -1,9 +1,9 @@
 -- The planes are written once the output is known to give m trits (`hashed-decides`, `row-hashed`).
 -- Assumes nothing.
 use mathlib.Core.Path.{sym, _∙_}
+use borrow.Author.Needs.{needs}
 use lib.Dec.{lit<}
 use denote.Ref.{now}
-use borrow.Author.Needs.{needs}
 use Rattle.trits.proofs.Refusals.{exit-kept, exit-new}
 use Rattle.trits.proofs.Reading.{reads-words}
 use Rattle.packed.proofs.Turned.{stream-long}

@@ -2,9 +2,9 @@
 -- Assumes nothing.
 use mathlib.Core.Path.{sym, _∙_}
 use native.Mathlib.Omega.{arith}
+use borrow.Author.Needs.{needs}
 use lib.Dec.{lit<}
 use denote.Ref.{now}
-use borrow.Author.Needs.{needs}
 use Rattle.trits.proofs.Refusals.{exit-kept}
 use Rattle.syndrome.specs.Syndrome.{syndromeOnes, syndromeTwos}
 use Rattle.syndrome.proofs.Made.{made-size, made-ones, made-twos, made-salt, made-passed}

@@ -1,11 +1,11 @@
 -- The working space is made y, which is 0 past its length; then it is weighed.
 -- Assumes nothing.
-use native.Mathlib.Omega.{arith}
 use Prim.Native.Nat.{ℕ}
 use mathlib.Core.Path.{_≡_, ap, _∙_}
+use native.Mathlib.Omega.{arith}
+use borrow.Author.Needs.{needs}
 use lib.ListN.{length}
 use denote.Ref.{now}
-use borrow.Author.Needs.{needs}
 use Rattle.trits.specs.Trit.{Trit}
 use Rattle.trits.specs.Refusal.{planesRefusal}
 use Rattle.packed.specs.Packed.{packedRow, bytesFor, packedRefusal}

@@ -1,8 +1,8 @@
 -- Each byte is printed in its turn.
 -- Assumes nothing.
 use Prim.Native.Nat.{_-_, _≤_}
-use lib.ListN.{length}
 use borrow.Author.Needs.{needs}
+use lib.ListN.{length}
 use Rattle.hash_cases.proofs.show.hex.Statement.{statement}
 use Rattle.hash_cases.proofs.show.hex.Tie as tie
 

@@ -1,9 +1,9 @@
 -- The three lanes are read where the definition reads them; `!` flips each of 64 bits.
 -- Assumes nothing.
 use mathlib.Core.Path.{refl}
+use borrow.Author.Needs.{needs}
 use Rattle.keccak.specs.Keccak.{chi, flipped}
 use Rattle.keccak.specs.Lanes.{laneAt}
-use borrow.Author.Needs.{needs}
 use Rattle.keccak.proofs.steps.chi_lane.Statement.{statement}
 use Rattle.keccak.proofs.steps.chi_lane.Tie as tie
 

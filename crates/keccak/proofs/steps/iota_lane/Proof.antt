@@ -1,8 +1,8 @@
 -- The constant comes to the lane where x and y are 0, and to no other.
 -- Assumes nothing.
+use borrow.Author.Needs.{needs}
 use Rattle.keccak.specs.Lanes.{laneAt}
 use Rattle.keccak.proofs.Rules.{iota-origin, iota-elsewhere}
-use borrow.Author.Needs.{needs}
 use Rattle.keccak.proofs.steps.iota_lane.Statement.{statement}
 use Rattle.keccak.proofs.steps.iota_lane.Tie as tie
 

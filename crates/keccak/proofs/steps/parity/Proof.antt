@@ -1,9 +1,9 @@
 -- The five lanes of the sheet are those of the state at x.
 -- Assumes nothing.
 use mathlib.Core.Path.{refl}
+use borrow.Author.Needs.{needs}
 use Rattle.keccak.specs.Keccak.{parity}
 use Rattle.keccak.specs.Lanes.{laneAt}
-use borrow.Author.Needs.{needs}
 use Rattle.keccak.proofs.steps.parity.Statement.{statement}
 use Rattle.keccak.proofs.steps.parity.Tie as tie
 

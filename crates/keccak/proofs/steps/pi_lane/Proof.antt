@@ -1,9 +1,9 @@
 -- The lane is read where the definition reads it.
 -- Assumes nothing.
 use mathlib.Core.Path.{refl}
+use borrow.Author.Needs.{needs}
 use Rattle.keccak.specs.Keccak.{pi}
 use Rattle.keccak.specs.Lanes.{laneAt}
-use borrow.Author.Needs.{needs}
 use Rattle.keccak.proofs.steps.pi_lane.Statement.{statement}
 use Rattle.keccak.proofs.steps.pi_lane.Tie as tie
 

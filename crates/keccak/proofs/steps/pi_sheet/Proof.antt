@@ -1,7 +1,7 @@
 -- Its lanes are the five of the step at x.
 -- Assumes nothing.
-use Rattle.keccak.specs.Lanes.{sheetOf}
 use borrow.Author.Needs.{needs}
+use Rattle.keccak.specs.Lanes.{sheetOf}
 use Rattle.keccak.proofs.steps.pi_sheet.Statement.{statement}
 use Rattle.keccak.proofs.steps.pi_sheet.Tie as tie
 

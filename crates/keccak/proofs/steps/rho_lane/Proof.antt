@@ -1,9 +1,9 @@
 -- The lane is turned by its offset, which is below 64.
 -- Assumes nothing.
+use borrow.Author.Needs.{needs}
 use Rattle.keccak.specs.Keccak.{rho}
 use Rattle.keccak.specs.Lanes.{laneAt}
 use Rattle.keccak.proofs.Rules.{offset-small}
-use borrow.Author.Needs.{needs}
 use Rattle.keccak.proofs.steps.rho_lane.Statement.{statement}
 use Rattle.keccak.proofs.steps.rho_lane.Tie as tie
 

@@ -1,7 +1,7 @@
 -- Its sheets are the five of the step.
 -- Assumes nothing.
-use Rattle.keccak.specs.Lanes.{lanesOf}
 use borrow.Author.Needs.{needs}
+use Rattle.keccak.specs.Lanes.{lanesOf}
 use Rattle.keccak.proofs.steps.theta.Statement.{statement}
 use Rattle.keccak.proofs.steps.theta.Tie as tie
 

@@ -1,8 +1,8 @@
 -- Each of the five lanes is xored with the same two parities.
 -- Assumes nothing.
+use borrow.Author.Needs.{needs}
 use Rattle.keccak.specs.Keccak.{theta}
 use Rattle.keccak.specs.Lanes.{laneAt, sheetOf}
-use borrow.Author.Needs.{needs}
 use Rattle.keccak.proofs.steps.theta_sheet.Statement.{statement}
 use Rattle.keccak.proofs.steps.theta_sheet.Tie as tie
 

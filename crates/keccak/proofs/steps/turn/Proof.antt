@@ -1,7 +1,7 @@
 -- The bits that stay are moved up, and those that leave come below them (`turned-by-shifts`).
 -- Assumes nothing.
-use Rattle.keccak.proofs.Rules.{not-turned, turned-by-shifts}
 use borrow.Author.Needs.{needs}
+use Rattle.keccak.proofs.Rules.{not-turned, turned-by-shifts}
 use Rattle.keccak.proofs.steps.turn.Statement.{statement}
 use Rattle.keccak.proofs.steps.turn.Tie as tie
 

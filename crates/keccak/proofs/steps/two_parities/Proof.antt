@@ -1,7 +1,10 @@
 -- The two parities are their definitions, at x - 1 and x + 1 modulo 5.
 -- Assumes nothing.
-use Rattle.keccak.specs.Keccak.{twoParities}
+use Prim.Native.Nat.{ℕ}
+use mathlib.Core.Path.{ap, ap₂, _∙_}
 use borrow.Author.Needs.{needs}
+use lib.Bits.{bitXor}
+use Rattle.keccak.specs.Keccak.{turned, twoParities}
 use Rattle.keccak.proofs.steps.two_parities.Statement.{statement}
 use Rattle.keccak.proofs.steps.two_parities.Tie as tie
 
@@ -22,7 +25,9 @@ turn-requires c κs = search needs
 
 returns : tie.Need-returns
 unfolding twoParities
-returns c = cc
+returns c =
+    let after-parity2 = c .before in
+    ap₂ bitXor (after-parity2 .before .parity .ensures) (c .turn .ensures ∙ ap (λ (p : ℕ). turned p 1) (after-parity2 .parity2 .ensures))
 
 pub two-parities-spec : {M : Type 1} → statement M
 two-parities-spec =

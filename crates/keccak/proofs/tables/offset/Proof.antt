@@ -1,9 +1,9 @@
 -- What stands at each place of the table is what the walk puts there: antt computes the 25 offsets and compares them (`lane-of`).
 -- Assumes nothing.
+use borrow.Author.Needs.{needs}
 use Rattle.keccak.specs.Keccak.{walk, offsetBefore, offset}
 use Rattle.keccak.specs.Lanes.{laneAt, sheetOf, lanesOf}
 use Rattle.keccak.proofs.Lanes.{lane-of}
-use borrow.Author.Needs.{needs}
 use Rattle.keccak.proofs.tables.offset.Statement.{statement}
 use Rattle.keccak.proofs.tables.offset.Tie as tie
 

@@ -1,12 +1,12 @@
 -- After j turns the state is that after j blocks.
 -- Assumes nothing.
-use native.Mathlib.Omega.{arith}
 use Prim.Native.Nat.{_+_, _-_, _/_, _≤_}
 use mathlib.Core.Path.{_≡_, refl}
 use mathlib.Core.List.{_++_}
+use native.Mathlib.Omega.{arith}
+use borrow.Author.Needs.{needs}
 use lib.ListN.{length}
 use denote.Ref.{now}
-use borrow.Author.Needs.{needs}
 use Rattle.keccak.specs.Lanes.{lanesOf, sheetOf}
 use Rattle.shake.specs.Shake.{rate, absorbed, blocksOf}
 use Rattle.shake.proofs.Bytes.{parts-size}

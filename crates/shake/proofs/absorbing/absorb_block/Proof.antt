@@ -1,11 +1,11 @@
 -- A block that lies in the last part is read where it lies (`block-in-last`); any other is written out.
 -- Assumes nothing.
-use native.Mathlib.Omega.{arith}
-use mathlib.Core.List.{_++_}
 use Prim.Native.Nat.{_+_, _-_}
+use mathlib.Core.List.{_++_}
+use native.Mathlib.Omega.{arith}
+use borrow.Author.Needs.{needs}
 use lib.ListN.{length}
 use denote.Ref.{now}
-use borrow.Author.Needs.{needs}
 use Rattle.shake.proofs.Bytes.{parts-size, block-in-last}
 use Rattle.shake.proofs.Sponge.{block-made}
 use Rattle.shake.proofs.absorbing.absorb_block.Statement.{statement}

@@ -1,8 +1,8 @@
 -- The block is written out, added and permuted (`block-made`).
 -- Assumes nothing.
 use mathlib.Core.List.{_++_}
-use denote.Ref.{now}
 use borrow.Author.Needs.{needs}
+use denote.Ref.{now}
 use Rattle.shake.proofs.Bytes.{block-written}
 use Rattle.shake.proofs.Sponge.{block-made}
 use Rattle.shake.proofs.absorbing.absorb_written.Statement.{statement}

@@ -1,12 +1,12 @@
 -- The eight bytes of the lane are added where it is one of the first 17.
 -- Assumes nothing.
+use Prim.Native.Nat.{_+_, _*_}
 use mathlib.Core.Path.{sym, ap, _∙_}
 use mathlib.Core.List.{[]}
-use Prim.Native.Nat.{_+_, _*_}
-use lib.Bits.{bitXor}
-use lib.ListN.{getD}
 use borrow.Author.Tests.{lt-ltb, le-ltb}
 use borrow.Author.Needs.{needs}
+use lib.Bits.{bitXor}
+use lib.ListN.{getD}
 use Rattle.keccak.specs.Lanes.{laneAt}
 use Rattle.shake.specs.Shake.{added}
 use Rattle.shake.proofs.block.add_lane.Statement.{statement}

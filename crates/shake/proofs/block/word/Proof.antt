@@ -1,8 +1,8 @@
 -- Two numbers of four bytes make the one of eight (`word-of-fours`).
 -- Assumes nothing.
 use native.Mathlib.Omega.{arith}
-use denote.Ref.{now}
 use borrow.Author.Needs.{needs}
+use denote.Ref.{now}
 use Rattle.shake.proofs.Bytes.{word-of-fours}
 use Rattle.shake.proofs.block.word.Statement.{statement}
 use Rattle.shake.proofs.block.word.Tie as tie

@@ -1,9 +1,9 @@
 -- A turn writes one byte of the padded message.
 -- Assumes nothing.
-use native.Mathlib.Omega.{arith}
 use Prim.Native.Nat.{_+_, _-_, _≤_}
 use mathlib.Core.Path.{refl}
 use mathlib.Core.List.{_++_}
+use native.Mathlib.Omega.{arith}
 use lib.ListN.{length}
 use denote.Ref.{now}
 use Rattle.trits.proofs.Patches.{Patched, patch-none, patch-more, patched-all}

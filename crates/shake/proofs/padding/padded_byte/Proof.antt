@@ -1,9 +1,9 @@
 -- The byte is one of the first part, one of the last part, or one of the padding.
 -- Assumes nothing.
-use native.Mathlib.Omega.{arith}
 use mathlib.Core.Path.{_∙_}
-use denote.Ref.{now}
+use native.Mathlib.Omega.{arith}
 use borrow.Author.Needs.{needs}
+use denote.Ref.{now}
 use Rattle.shake.proofs.Bytes.{parts-size, in-first, in-last, in-padding}
 use Rattle.shake.proofs.padding.padded_byte.Statement.{statement}
 use Rattle.shake.proofs.padding.padded_byte.Tie as tie

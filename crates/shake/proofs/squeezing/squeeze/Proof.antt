@@ -1,13 +1,13 @@
 -- A turn writes one byte of the output, and goes on to the state of the next (`Gives`).
 -- Assumes nothing.
-use native.Mathlib.Omega.{arith}
 use Prim.Native.Nat.{_+_, _-_, _≤_}
 use mathlib.Core.Path.{refl, _∙_}
+use native.Mathlib.Omega.{arith}
 use native.Mathlib.Nat.{mod-lt}
+use borrow.Author.Needs.{needs}
 use lib.Dec.{lit<}
 use lib.ListN.{length, set}
 use denote.Ref.{now}
-use borrow.Author.Needs.{needs}
 use Rattle.trits.proofs.Patches.{Patched, patch-none, patch-more, patched-all}
 use Rattle.keccak.specs.Lanes.{laneAt}
 use Rattle.shake.specs.Shake.{squeezedByte, squeezedBytes}

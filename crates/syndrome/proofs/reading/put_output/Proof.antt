@@ -1,14 +1,14 @@
 -- After each byte the row holds the first trits of the output, as many as the bytes read so far give (`Stands`, `reads-byte`).
 -- Assumes nothing.
-use native.Mathlib.Omega.{arith}
 use Prim.Native.Nat.{ℕ, _+_, _-_, _<_}
 use mathlib.Core.List.{List}
 use mathlib.Core.Path.{_≡_, refl, sym, _∙_}
+use native.Mathlib.Omega.{arith}
 use native.Mathlib.Nat.{mod-lt}
+use borrow.Author.Needs.{needs}
 use lib.Dec.{lit<}
 use lib.ListN.{length, getD}
 use denote.Ref.{now}
-use borrow.Author.Needs.{needs}
 use Rattle.trits.specs.Planes.{Reads}
 use Rattle.packed.specs.Stream.{streamRow}
 use Rattle.packed.proofs.Putting.{Stands, stands-none, stands-more, stands-byte, reads-byte, stands-all}

@@ -1,11 +1,11 @@
 -- What is missing is counted down byte by byte of the output (`missing-turn`), each taken from its own state (`Gives`).
 -- Assumes nothing.
-use native.Mathlib.Omega.{arith}
 use Prim.Native.Nat.{_+_, _-_, _*_, _≤_}
 use mathlib.Core.Path.{_≡_, refl, ap, _∙_}
+use native.Mathlib.Omega.{arith}
 use native.Mathlib.Nat.{mod-lt}
-use lib.Dec.{lit<}
 use borrow.Author.Needs.{needs}
+use lib.Dec.{lit<}
 use Rattle.packed.specs.Steps.{missing}
 use Rattle.packed.specs.Stream.{kept}
 use Rattle.packed.proofs.Keeping.{given, missing-turn, long-enough, counted-out}

@@ -1,9 +1,9 @@
 -- Both planes are made 0, and then the trits of the output are put.
 -- Assumes nothing.
 use mathlib.Core.Path.{ap, _∙_}
+use borrow.Author.Needs.{needs}
 use lib.ListN.{length}
 use denote.Ref.{now}
-use borrow.Author.Needs.{needs}
 use Rattle.trits.proofs.Ends.{zeros-hold}
 use Rattle.trits.proofs.Lists.{length-zeros}
 use Rattle.packed.specs.Packed.{packedRow}

@@ -5,10 +5,27 @@ use Prim.Native.Nat.{ℕ, zero, suc, _+_, _-_, _*_, _/_, _≤_, _<_}
 use native.Mathlib.Nat.{not-suc-le-zero, le-of-suc-le-suc, zero-add, suc-add}
 use native.Mathlib.Omega.{arith}
 use borrow.Author.Tests.{eq-eqb, ne-eqb}
-use lib.ListN.{length, getD, take, drop, length-append, List·getD-append, List·getD-eq-default}
+use lib.ListN.{length, getD, take, drop, replicate, length-append, List·getD-append, List·getD-eq-default}
 use Rattle.trits.proofs.Lists.{getD-tabulate}
 use Rattle.shake.specs.Shake.{rate, blocksOf, paddedByte, wordOf}
 use Rattle.shake.specs.Steps.{twoBytes, fourBytes, padOf, blockFrom}
+
+-- ---- the padding, worked out: of no byte, of 135, which leave one place in their block, and of 136, which leave none
+
+abbrev Padding : ℕ → ℕ → ℕ → Type 0
+Padding size i byte = paddedByte (replicate size 0) i ≡ byte
+
+padding-of-none : (blocksOf [] ≡ 1) × Padding 0 0 31 × Padding 0 1 0 × Padding 0 135 128
+unfolding blocksOf paddedByte
+padding-of-none = (refl, refl, refl, refl)
+
+padding-of-135 : (blocksOf (replicate 135 0) ≡ 1) × Padding 135 134 0 × Padding 135 135 159
+unfolding blocksOf paddedByte
+padding-of-135 = (refl, refl, refl)
+
+padding-of-136 : (blocksOf (replicate 136 0) ≡ 2) × Padding 136 135 0 × Padding 136 136 31 × Padding 136 271 128
+unfolding blocksOf paddedByte
+padding-of-136 = (refl, refl, refl, refl)
 
 -- ---- numbers of two, four and eight bytes
 

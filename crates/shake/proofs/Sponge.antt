@@ -20,6 +20,13 @@ use Rattle.keccak.proofs.Lanes.{Same, lane-of, same-lanes, same-permuted}
 use Rattle.shake.specs.Shake.{rate, paddedByte, wordOf, added, absorbed, stateByte, squeezed, squeezedByte, squeezedBytes}
 use Rattle.shake.specs.Steps.{absorbedBlock}
 
+-- ---- the lanes of a block, worked out: bytes 8 to 15 come to lane (1, 0), the last eight to (1, 3), and none to (2, 3)
+
+added-lanes : (added (λ i. i) (λ x y. 0) 1 0 ≡ 1084818905618843912) × (added (λ i. i) (λ x y. 0) 1 3 ≡ 9765639646188044672)
+    × (added (λ i. i) (λ x y. 7) 2 3 ≡ 7)
+unfolding added wordOf
+added-lanes = (refl, refl, refl)
+
 -- ---- a block is read at its own places, and a state at its 25 lanes
 
 module _ {f g : ℕ → ℕ} (h : (i : ℕ) → i < rate → f i ≡ g i) where

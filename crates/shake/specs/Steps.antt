@@ -28,6 +28,11 @@ blockFrom message start n = tabulate (λ i. paddedByte message (start + i)) n
 unfoldable pub absorbedBlock : List ℕ → ℕ → List (List ℕ) → List (List ℕ)
 absorbedBlock message start a = lanesOf (permuted (added (λ i. paddedByte message (start + i)) (laneAt a)))
 
+-- a number of bytes, and a place, after which a block, and a byte, can still be counted in a word
+pub record ForPad (size i : ℕ) : Type 0 where
+  pub block-fits : size + rate < 18446744073709551616
+  pub byte-fits : i + 1 < 18446744073709551616
+
 -- the two parts of a message: the first is short, so that no place of the padded message is past the numbers of a word
 pub record ForMessage (first last : List ℕ) : Type 0 where
   pub short : length first ≤ rate

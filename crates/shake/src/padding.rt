@@ -1,14 +1,13 @@
 // The bytes of the padded message.
 ghost use mathlib.Core.Path.{_≡_};
 ghost use mathlib.Core.List.{_++_};
-ghost use Prim.Native.Nat.{_+_, _<_};
 ghost use lib.ListN.{length};
 ghost use Rattle.shake.specs.Shake.{paddedByte};
-ghost use Rattle.shake.specs.Steps.{ForPlace, ForBlock, padOf, blockFrom};
+ghost use Rattle.shake.specs.Steps.{ForPad, ForPlace, ForBlock, padOf, blockFrom};
 
 // What the padding puts at place i of a message of so many bytes.
 fn pad(size: usize, i: usize) -> u8
-    requires { ⌜ (size < 9223372036854776000) × (i < 9223372036854776200) ⌝ }
+    requires { ⌜ ForPad size i ⌝ }
     ensures { λ r. ⌜ r ≡ padOf size i ⌝ }
 {
     if i + 1 == 136 * (size / 136 + 1) {

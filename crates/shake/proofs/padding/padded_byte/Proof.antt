@@ -35,9 +35,9 @@ add-pad c =
 pad-requires : tie.Need-pad-requires
 pad-requires c κs =
     let s = c .before .before .before .before in
-    let p = s .pre in
+    let p = s .pre .message in
     let l = parts-size (now (s .args .first)) (now (s .args .last)) in
-    (omega (arith, p .message .short, p .message .fits), omega (arith, p .message .short, p .message .fits, p .place, l))
+    record { block-fits = omega (arith, p .short, p .fits); byte-fits = omega (arith, p .short, p .fits, s .pre .place, l) }
 
 returns-3 : tie.Need-returns-3
 returns-3 c =

@@ -114,7 +114,8 @@ never-six c g = by (ℕ-discrete (testedOf c) 0)
     by (no n) = ap (λ (x : ℕ). eqb x 6) (sym (text-refused c refl n)) ∙ tested-stays c .left n .1
 
 -- untouched where a test refused
-pub text-kept : (c : TextCheck) {k : ℕ} → k ≡ testedOf c → (k ≡ 0 → ⊥) → (plane : List ℕ) → plane ≡ textSpaceExit (checkTextRefusal c) plane
+pub text-kept : (c : TextCheck) {k : ℕ} → k ≡ testedOf c → (k ≡ 0 → ⊥) → (plane : List ℕ)
+    → plane ≡ textSpaceExit (checkTextRefusal c) plane
 unfolding textSpaceExit
 text-kept c {k} e n plane =
     let (h, six) = tested-stays c .left (λ z. n (e ∙ z)) in

@@ -113,8 +113,8 @@ pub ran-none : (start : List (List ℕ)) → Ran 0 start start
 unfolding roundsBefore
 ran-none start = record { reads = λ x y hx hy. refl; arrays = λ h. absurd (omega arith) }
 
-pub ran-next : {i constant : ℕ} {start b next : List (List ℕ)} → Ran i start b → constant ≡ roundConstant i → next ≡ lanesOf (round constant (laneAt b))
-    → Ran (i + 1) start next
+pub ran-next : {i constant : ℕ} {start b next : List (List ℕ)} → Ran i start b → constant ≡ roundConstant i
+    → next ≡ lanesOf (round constant (laneAt b)) → Ran (i + 1) start next
 unfolding roundsBefore
 ran-next {i} {constant} {start} {b} {next} h ec e = record {
   reads = rw (add-one i) after;

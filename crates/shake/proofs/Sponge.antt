@@ -65,8 +65,8 @@ block-made {f} message start a {next} {made} h en em =
     em ∙ same-lanes (same-permuted (λ x y hx hy. ap (λ (l : List (List ℕ)). laneAt l x y) en ∙ lane-of (added f (laneAt a)) x y hx hy
     ∙ same-added h (λ x y hx hy. refl) x y hx hy))
 
-pub absorbed-next : (message : List ℕ) (j : ℕ) {a next : List (List ℕ)} → a ≡ lanesOf (absorbed message j) → next ≡ absorbedBlock message (rate * j) a
-    → next ≡ lanesOf (absorbed message (j + 1))
+pub absorbed-next : (message : List ℕ) (j : ℕ) {a next : List (List ℕ)} → a ≡ lanesOf (absorbed message j)
+    → next ≡ absorbedBlock message (rate * j) a → next ≡ lanesOf (absorbed message (j + 1))
 unfolding absorbedBlock absorbed
 absorbed-next message j {a} {next} e f =
     f ∙ same-lanes (same-permuted (same-added {f = λ i. paddedByte message (rate * j + i)} (λ i l. refl)
@@ -128,6 +128,7 @@ pub length-squeezed : (s : State) (n : ℕ) → length (squeezedBytes s n) ≡ n
 unfolding squeezedBytes
 length-squeezed s n = length-tabulate n (squeezedByte s)
 
-pub gives-at : {s : State} {i : ℕ} {b : List (List ℕ)} → Gives s i b → (n : ℕ) → i < n → stateByte (laneAt b) (i % rate) ≡ getD (squeezedBytes s n) i 0
+pub gives-at : {s : State} {i : ℕ} {b : List (List ℕ)} → Gives s i b → (n : ℕ) → i < n
+    → stateByte (laneAt b) (i % rate) ≡ getD (squeezedBytes s n) i 0
 unfolding squeezedBytes
 gives-at {s} {i} g n l = gives-byte g ∙ sym (getD-tabulate n (squeezedByte s) i 0 l)

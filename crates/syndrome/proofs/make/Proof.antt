@@ -24,7 +24,9 @@ too-short-requires c κs = search needs
 returns : tie.Need-returns
 returns c =
     let s = start-from-too-short (c .before) .args in
-    let e = hashed-decides (s .m) (now (s .salt)) (now (s .text)) (c .before .before .absorb .ensures) (sym (c .if1 .taken) ∙ c .before .too-short .ensures) in
+    let after-too-short = c .before in
+    let made = after-too-short .before .absorb .ensures in
+    let e = hashed-decides (s .m) (now (s .salt)) (now (s .text)) made (sym (c .if1 .taken) ∙ after-too-short .too-short .ensures) in
     (e, exit-kept _ _ e (lit< tt), exit-kept _ _ e (lit< tt))
 
 write-output-requires : tie.Need-write-output-requires

@@ -79,7 +79,8 @@ returns c =
     let after-write-packed = write-packed-from-weigh-made-arg2 (after-weigh-made .before) in
     let a = start-from-write-packed after-write-packed .args in
     after-weigh-made .weigh-made .ensures
-    ∙ ap (λ (y : ℕ → Trit). heldCounts (a .held) (now (a .ones)) (now (a .twos)) y (packedRow (now (a .s)))) (after-write-packed .write-packed .ensures .trits)
+    ∙ ap (λ (y : ℕ → Trit). heldCounts (a .held) (now (a .ones)) (now (a .twos)) y (packedRow (now (a .s))))
+    (after-write-packed .write-packed .ensures .trits)
 
 pub weigh-packed-spec : {M : Type 1} → statement M
 weigh-packed-spec =

@@ -4,8 +4,8 @@ ghost use mathlib.Core.Bool.{true};
 ghost use Prim.Native.Nat.{_≤_};
 ghost use lib.ListN.{length};
 ghost use Rattle.trits.specs.Trit.{sumOf};
-ghost use Rattle.trits.specs.Refusal.{codeOf};
-ghost use Rattle.held_key.specs.Held.{sound};
+ghost use Rattle.trits.specs.Refusal.{codeOf, planesRefusal};
+ghost use Rattle.held_key.specs.Held.{sound, rowTrits};
 ghost use Rattle.held_key.specs.Steps.{Whole};
 ghost use Rattle.check_tests.specs.Check.{callRefusal, planesLengths, planesContents, packedLengths, packedContents};
 ghost use Rattle.check_tests.specs.Check.{checkOf, checkRefusal, packedCheckOf, checkPackedRefusal, told, answered};
@@ -112,6 +112,15 @@ pub fn test_call(
     Outcome::Refused(Refusal::Size)
 }
 
+// The contents of the held rows.
+pub fn test_rows(held: Held, ones: &[u64], twos: &[u64]) -> Outcome
+    requires { ⌜ Whole held (now ones) (now twos) ⌝ }
+    ensures { λ r. ⌜ codeOf r ≡ planesRefusal (now (ones .entry)) (now (twos .entry)) (held .k) (rowTrits held) ⌝ }
+{
+    let m = held_key::state::row_trits(held);
+    planes::faults::test_planes(ones, twos, held.k as usize, m)
+}
+
 // The contents of a check in planes: the held rows, y, s.
 fn test_contents(
     held: Held,
@@ -127,17 +136,16 @@ fn test_contents(
     ensures { λ r. ⌜ codeOf r ≡ planesContents held (now (ones .entry)) (now (twos .entry)) (now («y_ones» .entry)) (now («y_twos» .entry))
         (now («s_ones» .entry)) (now («s_twos» .entry)) ⌝ }
 {
-    let m = held_key::state::row_trits(held);
-    let k = held.k as usize;
-    let rows = planes::faults::test_planes(ones, twos, k, m);
+    let rows = test_rows(held, ones, twos);
     if trits::refusal::code(rows) != 0 {
         return rows;
     }
+    let m = held_key::state::row_trits(held);
     let y = planes::faults::test_planes(y_ones, y_twos, 1, m);
     if trits::refusal::code(y) != 0 {
         return y;
     }
-    planes::faults::test_planes(s_ones, s_twos, 1, k)
+    planes::faults::test_planes(s_ones, s_twos, 1, held.k as usize)
 }
 
 // The contents of a packed check: the held rows, y, s.
@@ -146,17 +154,16 @@ fn test_packed_contents(held: Held, ones: &[u64], twos: &[u64], y: &[u8], s: &[u
     requires { ⌜ packedLengths held (length (now y)) (length (now s)) ≡ 0 ⌝ }
     ensures { λ r. ⌜ codeOf r ≡ packedContents held (now (ones .entry)) (now (twos .entry)) (now (y .entry)) (now (s .entry)) ⌝ }
 {
-    let m = held_key::state::row_trits(held);
-    let k = held.k as usize;
-    let rows = planes::faults::test_planes(ones, twos, k, m);
+    let rows = test_rows(held, ones, twos);
     if trits::refusal::code(rows) != 0 {
         return rows;
     }
+    let m = held_key::state::row_trits(held);
     let tested = packing::faults::test_bytes(m, y);
     if trits::refusal::code(tested) != 0 {
         return tested;
     }
-    packing::faults::test_bytes(k, s)
+    packing::faults::test_bytes(held.k as usize, s)
 }
 
 // Whether y and s in planes have their lengths.

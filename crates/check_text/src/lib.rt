@@ -36,13 +36,11 @@ fn test_contents(held: Held, ones: &[u64], twos: &[u64], s: &[u8]) -> Outcome
     requires { ⌜ length (now s) ≡ bytesFor (held .k) ⌝ }
     ensures { λ r. ⌜ codeOf r ≡ textContents held (now (ones .entry)) (now (twos .entry)) (now (s .entry)) ⌝ }
 {
-    let m = held_key::state::row_trits(held);
-    let k = held.k as usize;
-    let rows = planes::faults::test_planes(ones, twos, k, m);
+    let rows = check_tests::test_rows(held, ones, twos);
     if trits::refusal::code(rows) != 0 {
         return rows;
     }
-    packing::faults::test_bytes(k, s)
+    packing::faults::test_bytes(held.k as usize, s)
 }
 
 // The first refusal that does not wait for the hash.

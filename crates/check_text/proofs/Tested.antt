@@ -10,6 +10,7 @@ use lib.ListN.{length}
 use Rattle.trits.specs.Planes.{zeroWords}
 use Rattle.trits.specs.Refusal.{refuse, first, spaceStays, spaceExit, planesRefusal}
 use Rattle.trits.proofs.Refusals.{passed-first, passed-demand, first-goes, first-stops, demand-all, first-all, planes-all, space-kept, space-zero}
+use Rattle.trits.proofs.Stages.{first-nested}
 use Rattle.packed.specs.Packed.{bytesFor, packedRefusal}
 use Rattle.packed.specs.Stream.{tooShort}
 use Rattle.packed.proofs.Turned.{packed-all}
@@ -55,13 +56,6 @@ tested c e =
 
 -- ---- the call's refusal: that of the tests, and where they refuse nothing that of the hash
 
-first-first : (a b c : ℕ) → first (first a b) c ≡ first a (first b c)
-first-first a b c = by (ℕ-discrete a 0)
-  where
-    by : Dec (a ≡ 0) → first (first a b) c ≡ first a (first b c)
-    by (yes z) = ap (λ (x : ℕ). first x c) (sym (first-goes {x = a} {y = b} refl z refl)) ∙ first-goes {x = a} {y = first b c} refl z refl
-    by (no n) = sym (first-stops {x = a} c (first-stops {x = a} b refl n) n) ∙ first-stops {x = a} (first b c) refl n
-
 pub text-parted : (c : TextCheck) → first (testedOf c) (hashedRefusal (rowTrits (c .held)) (c .salt) (c .text)) ≡ checkTextRefusal c
 unfolding testedRefusal checkTextRefusal
 text-parted c =
@@ -70,7 +64,7 @@ text-parted c =
     let lengths = textLengths h (length (c .salt)) (length (c .s)) in
     let contents = textContents h (c .ones) (c .twos) (c .s) in
     let hash = hashedRefusal (rowTrits h) (c .salt) (c .text) in
-    first-first call (first lengths contents) hash ∙ ap (first call) (first-first lengths contents hash)
+    sym (first-nested call (first lengths contents) hash) ∙ ap (first call) (sym (first-nested lengths contents hash))
 
 -- the tests refuse
 pub text-refused : (c : TextCheck) {k : ℕ} → k ≡ testedOf c → (k ≡ 0 → ⊥) → k ≡ checkTextRefusal c

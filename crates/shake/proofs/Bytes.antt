@@ -1,11 +1,11 @@
 -- Bytes as numbers, and the bytes of the padded message. Assumes nothing.
 use mathlib.Core.Path.{_≡_, refl, sym, ap, _∙_}
-use mathlib.Core.List.{List, [], _∷_, _++_}
-use Prim.Native.Nat.{ℕ, zero, suc, _+_, _-_, _*_, _/_, _≤_, _<_}
-use native.Mathlib.Nat.{not-suc-le-zero, le-of-suc-le-suc, zero-add, suc-add}
+use mathlib.Core.List.{List, [], _++_}
+use Prim.Native.Nat.{ℕ, _+_, _*_, _/_, _≤_, _<_}
 use native.Mathlib.Omega.{arith}
 use borrow.Author.Tests.{eq-eqb, ne-eqb}
 use lib.ListN.{length, getD, take, drop, replicate, length-append, List·getD-append, List·getD-eq-default}
+use lib.Seq.{getD-take, getD-drop, getD-append-add}
 use Rattle.trits.proofs.Lists.{getD-tabulate}
 use Rattle.shake.specs.Shake.{rate, blocksOf, paddedByte, wordOf}
 use Rattle.shake.specs.Steps.{twoBytes, fourBytes, padOf, blockFrom}
@@ -44,23 +44,6 @@ module _ (bytes : List ℕ) (p : ℕ) where
         at {i = p + 4 + 2 + 1} {j = p + 7} (omega arith),
       )
 
--- ---- parts of a list
-
-take-at : (l : List ℕ) (size i : ℕ) → i < size → getD (take size l) i 0 ≡ getD l i 0
-take-at l zero i h = absurd (not-suc-le-zero h)
-take-at [] (suc size) i h = refl
-take-at (x ∷ l) (suc size) zero h = refl
-take-at (x ∷ l) (suc size) (suc i) h = take-at l size i (le-of-suc-le-suc h)
-
-drop-at : (l : List ℕ) (start i : ℕ) → getD (drop start l) i 0 ≡ getD l (start + i) 0
-drop-at l zero i = ap (λ (k : ℕ). getD l k 0) (sym (zero-add i))
-drop-at [] (suc start) i = refl
-drop-at (x ∷ l) (suc start) i = drop-at l start i ∙ ap (λ (k : ℕ). getD (x ∷ l) k 0) (sym (suc-add start i))
-
-append-past : (first last : List ℕ) (i : ℕ) → getD (first ++ last) (length first + i) 0 ≡ getD last i 0
-append-past [] last i = ap (λ (k : ℕ). getD last k 0) (zero-add i)
-append-past (x ∷ first) last i = ap (λ (k : ℕ). getD (x ∷ (first ++ last)) k 0) (suc-add (length first) i) ∙ append-past first last i
-
 -- ---- the padded message
 
 module _ (message : List ℕ) (i : ℕ) where
@@ -88,7 +71,7 @@ module _ (first last : List ℕ) where
 
   pub in-last : (i at : ℕ) → i ≡ length first + at → at < length last → getD last at 0 ≡ paddedByte (first ++ last) i
   in-last i at e h =
-      sym (padded-inside (first ++ last) i (omega (arith, parts-size)) ∙ ap (λ (k : ℕ). getD (first ++ last) k 0) e ∙ append-past first last at)
+      sym (padded-inside (first ++ last) i (omega (arith, parts-size)) ∙ ap (λ (k : ℕ). getD (first ++ last) k 0) e ∙ getD-append-add first last at 0)
 
   pub in-padding : (i : ℕ) → length first + length last ≤ i → padOf (length first + length last) i ≡ paddedByte (first ++ last) i
   in-padding i h = ap (λ (k : ℕ). padOf k i) (sym parts-size) ∙ sym (padded-past (first ++ last) i (omega (arith, parts-size)))
@@ -97,7 +80,7 @@ module _ (first last : List ℕ) where
   pub block-in-last : (start at n : ℕ) → start ≡ length first + at → n ≡ rate → at + rate ≤ length last → (i : ℕ) → i < rate
       → getD (take n (drop at last)) i 0 ≡ paddedByte (first ++ last) (start + i)
   block-in-last start at n e r h i l =
-      take-at (drop at last) n i (omega arith) ∙ drop-at last at i ∙ in-last (start + i) (at + i) (omega arith) (omega arith)
+      getD-take n (drop at last) i 0 (omega arith) ∙ getD-drop at last i 0 ∙ in-last (start + i) (at + i) (omega arith) (omega arith)
 
 -- ---- what the padding puts
 

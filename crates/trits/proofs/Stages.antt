@@ -39,7 +39,7 @@ last-stage zero = refl
 last-stage (suc a) = rw (ne-eqb (suc a) 0 (λ z. omega arith))
 
 -- three groups of tests, gathered either way
-first-nested : (a b c : ℕ) → first a (first b c) ≡ first (first a b) c
+pub first-nested : (a b c : ℕ) → first a (first b c) ≡ first (first a b) c
 unfolding first
 first-nested zero b c = refl
 first-nested (suc a) b c = let e = ne-eqb (suc a) 0 (λ z. omega arith) in rw (e, e)

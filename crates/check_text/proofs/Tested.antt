@@ -76,6 +76,11 @@ text-decided c z = first-goes {x = testedOf c} refl z refl ∙ text-parted c
 
 -- ---- the working space
 
+-- zero after 6
+zero-after-six : (plane : List ℕ) → zeroWords (length plane) ≡ textSpaceExit 6 plane
+unfolding textSpaceExit
+zero-after-six plane = refl
+
 -- a refusal that leaves it: none of the tests gives 6
 record Stays (r : ℕ) : Type 0 where
   left : (r ≡ 0 → ⊥) → (spaceStays r ≡ true) × (eqb r 6 ≡ false)
@@ -125,8 +130,8 @@ text-zero c z plane l e =
     e ∙ ap zeroWords l ∙ by (tooShort (rowTrits (c .held)) (hashed (rowTrits (c .held)) (c .salt) (c .text))) (text-decided c z)
   where
     exit : ℕ → List ℕ
-    exit r = cond (eqb r 6) (zeroWords (length plane)) (spaceExit r plane)
+    exit r = textSpaceExit r plane
 
     by : (t : Bool) → refuse t 6 0 ≡ checkTextRefusal c → zeroWords (length plane) ≡ exit (checkTextRefusal c)
-    by true e = ap exit e
+    by true e = zero-after-six plane ∙ ap exit e
     by false e = space-zero plane {k = 0} refl refl ∙ ap exit e

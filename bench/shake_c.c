@@ -13,12 +13,12 @@ static const uint64_t constants[24] = {
     0x8000000080008081, 0x8000000000008080, 0x0000000080000001, 0x8000000080008008,
 };
 
-/* by how many bits a lane is turned; lane (x, y) stands at 5y + x */
+/* by how many bits a lane is rotated; lane (x, y) stands at 5y + x */
 static const int offsets[25] = {
     0, 1, 62, 28, 27, 36, 44, 6, 55, 20, 3, 10, 43, 25, 39, 41, 45, 15, 21, 8, 18, 2, 61, 56, 14,
 };
 
-static uint64_t turned(uint64_t lane, int k) {
+static uint64_t rotated(uint64_t lane, int k) {
     return lane << k | lane >> (-k & 63);
 }
 
@@ -26,11 +26,11 @@ static uint64_t turned(uint64_t lane, int k) {
 static inline __attribute__((always_inline)) void keccak_round(const uint64_t *a, uint64_t *b, uint64_t constant) {
     uint64_t parity[5], added[5], row[5];
     EACH(x) parity[x] = a[x] ^ a[x + 5] ^ a[x + 10] ^ a[x + 15] ^ a[x + 20];
-    EACH(x) added[x] = parity[(x + 4) % 5] ^ turned(parity[(x + 1) % 5], 1);
+    EACH(x) added[x] = parity[(x + 4) % 5] ^ rotated(parity[(x + 1) % 5], 1);
     EACH(y) {
         EACH(x) {
             int from = 5 * x + (x + 3 * y) % 5;
-            row[x] = turned(a[from] ^ added[from % 5], offsets[from]);
+            row[x] = rotated(a[from] ^ added[from % 5], offsets[from]);
         }
         EACH(x) b[5 * y + x] = row[x] ^ (~row[(x + 1) % 5] & row[(x + 2) % 5]);
     }

@@ -91,13 +91,13 @@ same-permuted h = same-rounds 24 h
 
 -- ---- the code's round: each step works on the arrays that the step before made
 
-pub round-made : (constant : ℕ) (a : List (List ℕ)) {mixed turned moved chosen made : List (List ℕ)} → mixed ≡ lanesOf (theta (laneAt a))
-    → turned ≡ lanesOf (rho (laneAt mixed)) → moved ≡ lanesOf (pi (laneAt turned)) → chosen ≡ lanesOf (chi (laneAt moved))
+pub round-made : (constant : ℕ) (a : List (List ℕ)) {mixed rotated moved chosen made : List (List ℕ)} → mixed ≡ lanesOf (theta (laneAt a))
+    → rotated ≡ lanesOf (rho (laneAt mixed)) → moved ≡ lanesOf (pi (laneAt rotated)) → chosen ≡ lanesOf (chi (laneAt moved))
     → made ≡ lanesOf (iota constant (laneAt chosen)) → made ≡ lanesOf (round constant (laneAt a))
 unfolding round
-round-made constant a {mixed} {turned} {moved} {chosen} {made} et er ep ec ei =
+round-made constant a {mixed} {rotated} {moved} {chosen} {made} et er ep ec ei =
     let t : Same (laneAt mixed) (theta (laneAt a)) = rw et (lane-of _) in
-    let r : Same (laneAt turned) (rho (theta (laneAt a))) = λ x y hx hy. rw er (lane-of _ x y hx hy) ∙ same-rho t x y hx hy in
+    let r : Same (laneAt rotated) (rho (theta (laneAt a))) = λ x y hx hy. rw er (lane-of _ x y hx hy) ∙ same-rho t x y hx hy in
     let p : Same (laneAt moved) (pi (rho (theta (laneAt a)))) = λ x y hx hy. rw ep (lane-of _ x y hx hy) ∙ same-pi r x y hx hy in
     let k : Same (laneAt chosen) (chi (pi (rho (theta (laneAt a))))) = λ x y hx hy. rw ec (lane-of _ x y hx hy) ∙ same-chi p x y hx hy in
     ei ∙ same-lanes (same-iota k constant)

@@ -1,4 +1,4 @@
--- What the standard's rules make: a lane turned by shifts, offsets below 64, a walk that meets each place but (0, 0) once. Assumes nothing.
+-- What the standard's rules make: a lane rotated by shifts, offsets below 64, a walk that meets each place but (0, 0) once. Assumes nothing.
 use mathlib.Core.Path.{_≡_, refl, sym, ap, ap₂, _∙_}
 use mathlib.Core.List.{List}
 use mathlib.Core.Bool.{Bool, _&&_, cond, true, false, not}
@@ -14,14 +14,14 @@ use lib.Pow.{shl-shr, shr-lt, mod-pow-add}
 use Rattle.trits.specs.Trit.{anyTo}
 use Rattle.trits.proofs.Lists.{getD-tabulate}
 use Rattle.trits.proofs.Tests.{any-none}
-use Rattle.keccak.specs.Keccak.{State, turned, walk, offsetBefore, offset, iota, register, registerBit, constantBefore, roundConstant}
+use Rattle.keccak.specs.Keccak.{State, rotated, walk, offsetBefore, offset, iota, register, registerBit, constantBefore, roundConstant}
 use Rattle.keccak.specs.Steps.{constantsOf}
 
--- ---- a lane turned
+-- ---- a lane rotated
 
-pub not-turned : (lane : ℕ) {k : ℕ} → k ≡ 0 → lane < 2 ^ 64 → lane ≡ turned lane k
-unfolding turned
-not-turned lane {k} e h =
+pub not-rotated : (lane : ℕ) {k : ℕ} → k ≡ 0 → lane < 2 ^ 64 → lane ≡ rotated lane k
+unfolding rotated
+not-rotated lane {k} e h =
     sym (ap (λ (i : ℕ). lane * 2 ^ i % 2 ^ 64 + lane / 2 ^ (64 - i)) e
     ∙ ap₂ (λ (a b : ℕ). a + b) (ap (λ (a : ℕ). a % 2 ^ 64) (mul-one lane) ∙ mod-eq-of-lt h) (div-eq-of-lt h) ∙ add-zero lane)
 
@@ -39,9 +39,9 @@ module _ (lane k : ℕ) (hk : k < 64) (h : lane < 2 ^ 64) where
   come-back : lane / 2 ^ (64 - k) < 2 ^ k
   come-back = let e : k + (64 - k) ≡ 64 = omega arith in shr-lt k (64 - k) (rw e h)
 
-  pub turned-by-shifts : bitOr (lane * 2 ^ k % 2 ^ 64) (lane / 2 ^ (64 - k)) ≡ turned lane k
-  unfolding turned
-  turned-by-shifts =
+  pub rotated-by-shifts : bitOr (lane * 2 ^ k % 2 ^ 64) (lane / 2 ^ (64 - k)) ≡ rotated lane k
+  unfolding rotated
+  rotated-by-shifts =
       ap (λ (a : ℕ). bitOr a (lane / 2 ^ (64 - k))) moved-up ∙ or-shifted (lane % 2 ^ (64 - k)) k (lane / 2 ^ (64 - k)) come-back
       ∙ ap (λ (a : ℕ). a + lane / 2 ^ (64 - k)) (sym moved-up)
 

@@ -9,26 +9,26 @@ use lib.Dec.{eqb, ltb}
 abbrev pub State : Type 0
 State = ℕ → ℕ → ℕ
 
--- a lane turned by k bits: bit z goes to bit z + k, and those at the end come to the beginning
-unfoldable pub turned : ℕ → ℕ → ℕ
-turned lane k = lane * 2 ^ k % 2 ^ 64 + lane / 2 ^ (64 - k)
+-- a lane rotated by k bits: bit z goes to bit z + k, and those at the end come to the beginning
+unfoldable pub rotated : ℕ → ℕ → ℕ
+rotated lane k = lane * 2 ^ k % 2 ^ 64 + lane / 2 ^ (64 - k)
 
 -- a lane with each of its bits the other way
 unfoldable pub flipped : ℕ → ℕ
 flipped lane = 2 ^ 64 - 1 - lane
 
--- ---- theta (3.2.1): to each lane come the parities of the columns at x - 1 and, turned by one, at x + 1
+-- ---- theta (3.2.1): to each lane come the parities of the columns at x - 1 and, rotated by one, at x + 1
 
 unfoldable pub parity : State → ℕ → ℕ
 parity a x = bitXor (bitXor (bitXor (bitXor (a x 0) (a x 1)) (a x 2)) (a x 3)) (a x 4)
 
 unfoldable pub twoParities : State → ℕ → ℕ
-twoParities a x = bitXor (parity a ((x + 4) % 5)) (turned (parity a ((x + 1) % 5)) 1)
+twoParities a x = bitXor (parity a ((x + 4) % 5)) (rotated (parity a ((x + 1) % 5)) 1)
 
 unfoldable pub theta : State → State
 theta a x y = bitXor (a x y) (twoParities a x)
 
--- ---- rho (3.2.2): each lane is turned by its offset
+-- ---- rho (3.2.2): each lane is rotated by its offset
 
 -- the walk over the places: it begins at (1, 0), and goes from (x, y) to (y, 2x + 3y)
 pub record Place : Type 0 where
@@ -48,7 +48,7 @@ unfoldable pub offset : ℕ → ℕ → ℕ
 offset x y = offsetBefore 24 x y
 
 unfoldable pub rho : State → State
-rho a x y = turned (a x y) (offset x y)
+rho a x y = rotated (a x y) (offset x y)
 
 -- ---- pi (3.2.3): the lanes change places
 

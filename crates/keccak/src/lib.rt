@@ -11,8 +11,8 @@ fn round(a: [[u64; 5]; 5], constant: u64) -> [[u64; 5]; 5]
     ensures { λ r. ⌜ r ≡ lanesOf (round constant (laneAt a)) ⌝ }
 {
     let mixed = steps::theta(a);
-    let turned = steps::rho(mixed);
-    let moved = steps::pi(turned);
+    let rotated = steps::rho(mixed);
+    let moved = steps::pi(rotated);
     let chosen = steps::chi(moved);
     steps::iota(chosen, constant)
 }

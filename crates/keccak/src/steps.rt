@@ -1,13 +1,13 @@
 // The five steps of a round, each on a whole state; a sheet is the array of the lanes at one x.
 ghost use mathlib.Core.Path.{_≡_};
 ghost use Prim.Native.Nat.{_<_};
-ghost use Rattle.keccak.specs.Keccak.{turned, parity, twoParities, theta, rho, pi, chi, iota};
+ghost use Rattle.keccak.specs.Keccak.{rotated, parity, twoParities, theta, rho, pi, chi, iota};
 ghost use Rattle.keccak.specs.Lanes.{laneAt, sheetOf, lanesOf};
 
-// A lane turned by k bits.
-fn turn(lane: u64, k: u32) -> u64
+// A lane rotated by k bits.
+fn rotate(lane: u64, k: u32) -> u64
     requires { ⌜ k < 64 ⌝ }
-    ensures { λ r. ⌜ r ≡ turned lane k ⌝ }
+    ensures { λ r. ⌜ r ≡ rotated lane k ⌝ }
 {
     if k == 0 {
         return lane;
@@ -29,7 +29,7 @@ fn two_parities(a: [[u64; 5]; 5], x: usize) -> u64
     requires { ⌜ x < 5 ⌝ }
     ensures { λ r. ⌜ r ≡ twoParities (laneAt a) x ⌝ }
 {
-    parity(a, (x + 4) % 5) ^ turn(parity(a, (x + 1) % 5), 1)
+    parity(a, (x + 4) % 5) ^ rotate(parity(a, (x + 1) % 5), 1)
 }
 
 // The lanes at x after theta.
@@ -66,7 +66,7 @@ fn rho_lane(a: [[u64; 5]; 5], x: usize, y: usize) -> u64
     requires { ⌜ (x < 5) × (y < 5) ⌝ }
     ensures { λ r. ⌜ r ≡ rho (laneAt a) x y ⌝ }
 {
-    turn(a[x][y], super::tables::offset(x, y))
+    rotate(a[x][y], super::tables::offset(x, y))
 }
 
 // The lanes at x after rho.
@@ -83,7 +83,7 @@ fn rho_sheet(a: [[u64; 5]; 5], x: usize) -> [u64; 5]
     ]
 }
 
-// Each lane is turned by its offset.
+// Each lane is rotated by its offset.
 pub fn rho(a: [[u64; 5]; 5]) -> [[u64; 5]; 5]
     ensures { λ r. ⌜ r ≡ lanesOf (rho (laneAt a)) ⌝ }
 {

@@ -1,4 +1,4 @@
-// The round constants, and the offsets by which lanes are turned.
+// The round constants, and the offsets by which lanes are rotated.
 ghost use mathlib.Core.Path.{_≡_};
 ghost use Prim.Native.Nat.{_<_};
 ghost use Rattle.keccak.specs.Keccak.{offset};

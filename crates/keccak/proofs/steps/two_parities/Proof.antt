@@ -4,7 +4,7 @@ use Prim.Native.Nat.{ℕ}
 use mathlib.Core.Path.{ap, ap₂, _∙_}
 use borrow.Author.Needs.{needs}
 use lib.Bits.{bitXor}
-use Rattle.keccak.specs.Keccak.{turned, twoParities}
+use Rattle.keccak.specs.Keccak.{rotated, twoParities}
 use Rattle.keccak.proofs.steps.two_parities.Statement.{statement}
 use Rattle.keccak.proofs.steps.two_parities.Tie as tie
 
@@ -20,16 +20,16 @@ add-parity-2 c = search needs
 parity-requires-2 : tie.Need-parity-requires-2
 parity-requires-2 c κs = search needs
 
-turn-requires : tie.Need-turn-requires
-turn-requires c κs = search needs
+rotate-requires : tie.Need-rotate-requires
+rotate-requires c κs = search needs
 
 returns : tie.Need-returns
 unfolding twoParities
 returns c =
     let after-parity2 = c .before in
-    ap₂ bitXor (after-parity2 .before .parity .ensures) (c .turn .ensures ∙ ap (λ (p : ℕ). turned p 1) (after-parity2 .parity2 .ensures))
+    ap₂ bitXor (after-parity2 .before .parity .ensures) (c .rotate .ensures ∙ ap (λ (p : ℕ). rotated p 1) (after-parity2 .parity2 .ensures))
 
 pub two-parities-spec : {M : Type 1} → statement M
 two-parities-spec =
     tie.close
-    (tie.spec add-parity parity-requires add-parity-2 parity-requires-2 turn-requires returns)
+    (tie.spec add-parity parity-requires add-parity-2 parity-requires-2 rotate-requires returns)

@@ -55,7 +55,7 @@ fn take_rows(
         (zipV subT (tritAt (now («work_ones» .entry)) (now («work_twos» .entry)))
         (timesKey (held .k) (heldKey held (now (ones .entry)) (now (twos .entry))) (tritAt (now («s_ones» .entry)) (now («s_twos» .entry))))) ⌝ }
 {
-    let k = held.k as usize;
+    let k = held.rows as usize; // all are stored
     let mut i = 0;
     while i < k {
         let t = planes::places::trit_at(s_ones, s_twos, i);
@@ -93,7 +93,7 @@ fn take_by_table(
         (zipV subT (tritAt (now («work_ones» .entry)) (now («work_twos» .entry)))
         (timesKey (held .k) (heldKey held (now (ones .entry)) (now (twos .entry))) (packedRow (now (s .entry))))) ⌝ }
 {
-    let k = held.k as usize;
+    let k = held.rows as usize; // all are stored
     let mut counts = Counts { ones: 0, twos: 0 };
     let mut i = 0;
     while i < k {

@@ -23,11 +23,11 @@ use Rattle.checker.proofs.weighing.take_by_table.Tie as tie
 
 abbrev Inv-loop : tie.InvT-loop
 Inv-loop held ones twos s work-ones₀ work-twos₀ table k counts₀ i₀ work-ones work-twos counts i =
-    (i ≤ held .k) × (counts ≡ countsV (packedRow s) i)
+    (i ≤ held .rows) × (counts ≡ countsV (packedRow s) i)
     × Reads work-ones work-twos (length work-ones₀) (zipV subT (tritAt work-ones₀ work-twos₀) (timesKey i (heldKey held ones twos) (packedRow s)))
 
 abbrev μ-loop : tie.MeasureT-loop
-μ-loop held ones twos s work-ones₀ work-twos₀ table k counts₀ i₀ work-ones work-twos counts i = held .k - i
+μ-loop held ones twos s work-ones₀ work-twos₀ table k counts₀ i₀ work-ones work-twos counts i = held .rows - i
 
 -- The places that the answers look back to, each from a later one.
 abbrev start-from-slice-known2 : tie.After-slice-known2 Inv-loop μ-loop → tie.Start Inv-loop μ-loop
@@ -72,13 +72,15 @@ loop-holds c =
 
 shared-slice-read-trit : tie.Need-shared-slice-read-trit Inv-loop μ-loop
 shared-slice-read-trit c =
-    omega (arith, start-from-at-loop (c .before .before) .pre .s-size)
+    let p = start-from-at-loop (c .before .before) .pre in
+    omega (arith, p .s-size, p .whole .all-rows)
 
 trit-requires : tie.Need-trit-requires Inv-loop μ-loop
 trit-requires c κs =
     let start = start-from-at-loop (c .before .before) in
     let s = now (start .args .s) in
-    let b = bytes-small s (bytes-passed _ s (start .pre .s-tested) .0) (c .before .before .loop .i / 5) (omega (arith, start .pre .s-size)) in record {
+    let b = bytes-small s (bytes-passed _ s (start .pre .s-tested) .0) (c .before .before .loop .i / 5)
+    (omega (arith, start .pre .s-size, start .pre .whole .all-rows)) in record {
       is-table = start .pre .is-table;
       byte = omega (arith, b);
       digit = omega (arith, b);
@@ -94,6 +96,7 @@ count-trit-requires c κs =
         ap sumOf (at-loop .loop .inv .1),
         counts-le v (at-loop .loop .i),
         sizes (start .args .held) (start .pre .whole .is-sound),
+        start .pre .whole .all-rows,
       ),
       trit-lt c,
     )
@@ -107,14 +110,14 @@ take-row-requires c κs =
       whole = start .pre .whole;
       readable = start .pre .readable;
       work = record { row = v .row; size = v .size ∙ start .pre .work .size };
-      row-in = omega arith;
+      row-in = omega (arith, start .pre .whole .all-rows);
       trit = trit-lt after-trit;
     }
 
 add-i : tie.Need-add-i Inv-loop μ-loop
 add-i c =
     let start = start-from-take-row (c .before .before .before .before) in
-    omega (arith, sizes (start .args .held) (start .pre .whole .is-sound))
+    omega (arith, sizes (start .args .held) (start .pre .whole .is-sound), start .pre .whole .all-rows)
 
 loop-less : tie.Need-loop-less Inv-loop μ-loop
 loop-less c =
@@ -148,7 +151,7 @@ returns c =
     let start = start-from-at-loop (c .before) in
     let a = start .args in
     let l = c .before .loop in
-    let e : l .i ≡ a .held .k = omega arith in (
+    let e : l .i ≡ a .held .k = omega (arith, start .pre .whole .all-rows) in (
       l .inv .1 ∙ ap (countsV (packedRow (now (a .s)))) e,
       reads-to (l .inv .2) (ap (λ (x : ℕ). zipV subT (tritAt (now (a .work-ones)) (now (a .work-twos)))
           (timesKey x (heldKey (a .held) (now (a .ones)) (now (a .twos))) (packedRow (now (a .s))))) e),

@@ -18,11 +18,11 @@ use Rattle.checker.proofs.weighing.take_rows.Tie as tie
 
 abbrev Inv-loop : tie.InvT-loop
 Inv-loop held ones twos s-ones s-twos work-ones₀ work-twos₀ k i₀ work-ones work-twos i =
-    (i ≤ held .k)
+    (i ≤ held .rows)
     × Reads work-ones work-twos (length work-ones₀) (zipV subT (tritAt work-ones₀ work-twos₀) (timesKey i (heldKey held ones twos) (tritAt s-ones s-twos)))
 
 abbrev μ-loop : tie.MeasureT-loop
-μ-loop held ones twos s-ones s-twos work-ones₀ work-twos₀ k i₀ work-ones work-twos i = held .k - i
+μ-loop held ones twos s-ones s-twos work-ones₀ work-twos₀ k i₀ work-ones work-twos i = held .rows - i
 
 -- The places that the answers look back to, each from a later one.
 abbrev start-from-slice-known2 : tie.After-slice-known2 Inv-loop μ-loop → tie.Start Inv-loop μ-loop
@@ -55,7 +55,7 @@ loop-holds c =
 trit-at-requires : tie.Need-trit-at-requires Inv-loop μ-loop
 trit-at-requires c κs =
     let p = start-from-at-loop (c .before) .pre in
-    (p .s-twos, omega (arith, p .s-trits))
+    (p .s-twos, omega (arith, p .s-trits, p .whole .all-rows))
 
 take-row-requires : tie.Need-take-row-requires Inv-loop μ-loop
 take-row-requires c κs =
@@ -65,14 +65,14 @@ take-row-requires c κs =
       whole = start .pre .whole;
       readable = start .pre .readable;
       work = record { row = v .row; size = v .size ∙ start .pre .work .size };
-      row-in = omega arith;
+      row-in = omega (arith, start .pre .whole .all-rows);
       trit = omega (arith, c .before .before .trit-at .ensures, number-lt (tritAt (now (start .args .s-ones)) (now (start .args .s-twos)) (at-loop .loop .i)));
     }
 
 add-i : tie.Need-add-i Inv-loop μ-loop
 add-i c =
     let start = start-from-take-row (c .before .before .before .before) in
-    omega (arith, sizes (start .args .held) (start .pre .whole .is-sound))
+    omega (arith, sizes (start .args .held) (start .pre .whole .is-sound), start .pre .whole .all-rows)
 
 loop-less : tie.Need-loop-less Inv-loop μ-loop
 loop-less c =
@@ -104,7 +104,7 @@ returns c =
     let start = start-from-at-loop (c .before) in
     let a = start .args in
     let l = c .before .loop in
-    let e : l .i ≡ a .held .k = omega arith in
+    let e : l .i ≡ a .held .k = omega (arith, start .pre .whole .all-rows) in
     reads-to (l .inv .1) (ap (λ (x : ℕ). zipV subT (tritAt (now (a .work-ones)) (now (a .work-twos)))
     (timesKey x (heldKey (a .held) (now (a .ones)) (now (a .twos))) (tritAt (now (a .s-ones)) (now (a .s-twos))))) e)
 

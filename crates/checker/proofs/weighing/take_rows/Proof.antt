@@ -19,7 +19,8 @@ use Rattle.checker.proofs.weighing.take_rows.Tie as tie
 abbrev Inv-loop : tie.InvT-loop
 Inv-loop held ones twos s-ones s-twos work-ones₀ work-twos₀ k i₀ work-ones work-twos i =
     (i ≤ held .rows)
-    × Reads work-ones work-twos (length work-ones₀) (zipV subT (tritAt work-ones₀ work-twos₀) (timesKey i (heldKey held ones twos) (tritAt s-ones s-twos)))
+    × Reads work-ones work-twos (length work-ones₀)
+    (zipV subT (tritAt work-ones₀ work-twos₀) (timesKey i (heldKey held ones twos) (tritAt s-ones s-twos)))
 
 abbrev μ-loop : tie.MeasureT-loop
 μ-loop held ones twos s-ones s-twos work-ones₀ work-twos₀ k i₀ work-ones work-twos i = held .rows - i

@@ -4,7 +4,6 @@ use mathlib.Core.Bool.{Bool, cond}
 use mathlib.Core.Logic.{_↔_}
 use mathlib.Core.List.{List}
 use Prim.Native.Nat.{ℕ, _<_}
-use native.Mathlib.Decide.{ℕ-discrete}
 use borrow.Author.Tests.{eq-eqb}
 use lib.ListN.{length}
 use Rattle.trits.specs.Trit.{Trit}
@@ -12,7 +11,8 @@ use Rattle.trits.specs.Planes.{zeroWords}
 use Rattle.trits.specs.Refusal.{first, spaceExit, planesRefusal}
 use Rattle.trits.specs.declared.Counts.{Counts}
 use Rattle.trits.proofs.Ends.{upto-ended}
-use Rattle.trits.proofs.Refusals.{first-goes, first-stops, passed-first}
+use Rattle.trits.proofs.Refusals.{first-goes, passed-first}
+use Rattle.trits.proofs.Stages.{last-stage}
 use Rattle.packed.specs.Packed.{bytesFor, packedRow, packedBytes, packedRefusal}
 use Rattle.packed.proofs.RoundTrip.{packed-length, packed-back, packed-accepted}
 use Rattle.syndrome.specs.Syndrome.{saltBytes, hashedRow, hashedRefusal}
@@ -28,13 +28,6 @@ use Rattle.check_text.specs.TextCheck.{checkTextWorkOnes, checkTextWorkT
 use Rattle.check_text.proofs.Tested.{testedOf, tested, text-parted, never-six}
 
 -- ---- as the packed check of that y, refusals too
-
-first-none : (a : ℕ) → first a 0 ≡ a
-first-none a = by (ℕ-discrete a 0)
-  where
-    by : Dec (a ≡ 0) → first a 0 ≡ a
-    by (yes z) = sym (first-goes {x = a} {y = 0} refl z refl) ∙ sym z
-    by (no n) = sym (first-stops {x = a} 0 refl n)
 
 -- a salt of 32 bytes, and an output that gives as many trits as a row has
 module _ (c : TextCheck) (s : length (c .salt) ≡ saltBytes) (g : hashedRefusal (rowTrits (c .held)) (c .salt) (c .text) ≡ 0) where
@@ -57,7 +50,7 @@ module _ (c : TextCheck) (s : length (c .salt) ≡ saltBytes) (g : hashedRefusal
   unfolding checkTextRefusal checkPackedRefusalUnder
   same-refusal =
       let call = callRefusal (c .held) (c .number) (length (c .ones)) (length (c .twos)) (length (c .workOnes)) (length (c .workTwos)) in
-      ap (first call) (ap₂ first same-lengths (ap (first (textContents (c .held) (c .ones) (c .twos) (c .s))) g ∙ first-none _ ∙ same-contents))
+      ap (first call) (ap₂ first same-lengths (ap (first (textContents (c .held) (c .ones) (c .twos) (c .s))) g ∙ sym (last-stage _) ∙ same-contents))
 
   same-counts : checkTextCounts c ≡ heldCounts (c .held) (c .ones) (c .twos) (packedRow (packedBytes m y)) (packedRow (c .s))
   same-counts =

@@ -1,4 +1,4 @@
-/* The build of a key in plain C: ranks, the secret matrix, the column rule, and the rows of R. Its input is taken to be right. */
+/* The build of a key in plain C: ranks, the secret matrix, the column rule with the columns cleared below, then above, and the rows of R. Its input is taken to be right. */
 
 static size_t rank(const uint64_t *o, const uint64_t *t, size_t rows, size_t w, size_t n, uint64_t *wo, uint64_t *wt) {
     size_t count = 0;
@@ -45,6 +45,10 @@ static uint64_t c_build(wave_sizes z, const uint64_t *hu_ones, size_t, const uin
                 p[j] = p[j + left];
                 p[j + left] = x;
             }
+        }
+        for (size_t j = rows; j-- > 0;) {
+            size_t q = p[j], c = q < half ? q : 64 * hw + q - half;
+            clear_rows(work_ones, work_twos, w, c, j, 0, j);
         }
         for (size_t i = 0; i < k; i++) {
             size_t q = p[rows + i], c = q < half ? q : 64 * hw + q - half;

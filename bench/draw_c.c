@@ -12,7 +12,7 @@ static int dot(const uint64_t *ao, const uint64_t *at2, const uint64_t *bo, cons
     return (ones + 2 * twos) % 3;
 }
 
-/* the matrix is copied to the front and eliminated at the first places of the order */
+/* the matrix is copied to the front, and the first places of the order are tried there */
 static size_t reduce(uint64_t *o, uint64_t *t, const uint64_t *ho, const uint64_t *ht, size_t r, size_t w, const uint16_t *order, size_t first) {
     size_t count = 0;
     memcpy(o, ho, 8 * r * w);
@@ -21,14 +21,16 @@ static size_t reduce(uint64_t *o, uint64_t *t, const uint64_t *ho, const uint64_
     return count;
 }
 
-/* the pivots take their values: row c times z */
+/* z becomes z - e; then the pivots take their values, from the last row on: row c times z, which z loses there */
 static void solve(uint64_t *o, uint64_t *t, size_t r, size_t w, const uint16_t *order, size_t first, uint64_t *zo, uint64_t *zt, uint64_t *eo, uint64_t *et) {
     add(zo, zt, et, eo, w);
-    for (size_t i = 0, c = 0; i < first && c < r; i++)
-        if (at(o, t, 64 * c * w + order[i])) {
-            put(eo, et, order[i], dot(o + c * w, t + c * w, zo, zt, w));
-            c++;
-        }
+    for (size_t c = r; c-- > 0;) {
+        size_t i = c;
+        while (i < first && !at(o, t, 64 * c * w + order[i])) i++;
+        int x = dot(o + c * w, t + c * w, zo, zt, w);
+        put(eo, et, order[i], x);
+        put(zo, zt, order[i], (at(zo, zt, order[i]) + 2 * x) % 3);
+    }
 }
 
 static uint64_t make(wave_sizes z, const uint64_t *hu1, const uint64_t *hu2, const uint64_t *hv1, const uint64_t *hv2, const uint64_t *b1, const uint64_t *b2,

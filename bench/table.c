@@ -1,6 +1,7 @@
 /* Times our calls against the same in plain C at gcc -O3 and at gcc -O3 -march=native, in one run that takes turns, and
    prints four tables: the two published sizes, growth with n, rows of other lengths, and the hash. The three sides'
-   answers and buffers are compared byte for byte in each turn. An argument is the least number of turns. */
+   answers and buffers are compared byte for byte in each turn. An argument is the least number of turns.
+   With BEFORE defined, build and draw have a fourth side, those of an earlier revision, and a fifth table. */
 #include "clock.h"
 #include "plain.h"
 #include <stdio.h>
@@ -20,7 +21,16 @@ static double steps; /* of the time stamp counter in a nanosecond */
 static const side ours = {bench_sum, bench_weight, bench_both_set, bench_past_end, wave_unpack, bench_check, wave_check,
                           bench_weigh, bench_weigh_packed, wave_shake256, wave_syndrome, wave_check_text,
                           wave_build, wave_draw, 0};
+#ifdef BEFORE
+/* the calls of an earlier revision, whose archive has its names changed so */
+extern __typeof__(wave_build) before_wave_build;
+extern __typeof__(wave_draw) before_wave_draw;
+static const side before = {.build = before_wave_build, .draw = before_wave_draw};
+static const side *const sides[] = {&ours, &plain_o3, &plain_native, &before};
+#else
 static const side *const sides[] = {&ours, &plain_o3, &plain_native};
+#endif
+enum { SIDES = sizeof sides / sizeof *sides };
 
 /* ---- what goes in */
 
@@ -270,29 +280,36 @@ static const act acts[ACTS] = {
 /* ---- the clock */
 
 /* of each side: the least own time, for one of the call's many */
-typedef struct { double ns[3]; } figures;
+typedef struct { double ns[4]; } figures;
+
+/* how many sides have the call: an earlier revision has build and draw alone */
+static int having(const act *c) {
+    return c->run == run_build || c->run == run_draw ? SIDES : 3;
+}
 
 static figures measure(const act *c, const input *a) {
-    figures f = {{1e30, 1e30, 1e30}};
-    uint64_t *out[3];
+    figures f = {{1e30, 1e30, 1e30, 1e30}};
+    uint64_t *out[SIDES];
     double began = now();
     size_t again = 1, left = 0;
-    for (int s = 0; s < 3; s++) out[s] = room(space(a), 8);
+    int count = having(c);
+    for (int s = 0; s < count; s++) out[s] = room(space(a), 8);
     for (int turn = 0; turn < turns || now() - began < SECONDS * 1e9; turn++) {
-        for (int s = 0; s < 3; s++) {
+        for (int s = 0; s < count; s++) {
             double t = own();
             for (size_t i = 0; i < again; i++) left = c->run(sides[s], a, out[s]);
             t = (own() - t) / again / c->times;
             if (t < f.ns[s]) f.ns[s] = t;
         }
         if (turn == 0) again = 1 + LEAST / (f.ns[1] * c->times);
-        if (*out[0] || memcmp(out[0], out[1], 8 * left) || memcmp(out[0], out[2], 8 * left)) {
-            printf("%s at n %llu: answers %llu, %llu, %llu, and the results %s\n", c->name, (unsigned long long)a->z.n, (unsigned long long)*out[0], (unsigned long long)*out[1],
-                   (unsigned long long)*out[2], memcmp(out[0], out[1], 8 * left) || memcmp(out[0], out[2], 8 * left) ? "differ" : "are the same");
-            exit(1);
-        }
+        for (int s = 0; s < count; s++)
+            if (*out[s] || memcmp(out[0], out[s], 8 * left)) {
+                printf("%s at n %llu: the answer of side %d is %llu, and its results %s ours\n", c->name, (unsigned long long)a->z.n, s, (unsigned long long)*out[s],
+                       memcmp(out[0], out[s], 8 * left) ? "differ from" : "are the same as");
+                exit(1);
+            }
     }
-    for (int s = 0; s < 3; s++) free(out[s]);
+    for (int s = 0; s < count; s++) free(out[s]);
     return f;
 }
 
@@ -383,6 +400,12 @@ static void hashing(void) {
     line(&acts[SHAKE], MESSAGE, &f, 0);
 }
 
+/* build and draw beside those of an earlier revision, at the two published sizes */
+static void earlier(const input *a, const figures *f) {
+    for (int i = BUILD; i <= DRAW; i++)
+        printf("| %-5s | %5s | %13s | %13s | %12.2f |\n", acts[i].name, number(a->z.n), number(f[i].ns[3]), number(f[i].ns[0]), f[i].ns[0] / f[i].ns[3]);
+}
+
 int main(int count, char **argument) {
     static const char *const submission[ACTS] = {
         [UNPACK] = "205,829,565 (with a check)", [CHECK] = "1,230,598", [CHECK_PACKED] = "1,230,598",
@@ -399,5 +422,9 @@ int main(int count, char **argument) {
     growth(first);
     lengths();
     hashing();
+    if (SIDES > 3) {
+        printf("\n| call  |     n |    before, ns |       now, ns | now / before |\n|---|---|---|---|---|\n");
+        earlier(&a, first), earlier(&b, second);
+    }
     return 0;
 }

@@ -1,4 +1,4 @@
--- The loop of the column rule in planes: places are tried in order, and those whose column has no pivot go to the end. Assumes nothing.
+-- The first pass, the loop of the column rule in planes: places are tried in order, and those whose column has no pivot go to the end. Assumes nothing.
 use mathlib.Core.Path.{_≡_, refl, sym, ap, _∙_, subst}
 use mathlib.Core.Bool.{Bool, true, false, cond}
 use mathlib.Core.List.{List}
@@ -7,10 +7,11 @@ use native.Mathlib.Decide.{decLt}
 use native.Mathlib.Omega.{arith}
 use borrow.Author.Tests.{lt-ltb, le-ltb}
 use lib.Dec.{ltb}
-use lib.ListN.{length, getD}
+use lib.ListN.{length, getD, take}
 use Rattle.trits.specs.Rows.{matrixAt}
 use Rattle.matrix.specs.Linear.{Matrix, rank, range}
 use Rattle.matrix.specs.Orders.{Order}
+use Rattle.matrix.specs.Passes.{Lowered}
 use Rattle.matrix.specs.Steps.{pivotRow, hasPivot, stepOf}
 use Rattle.matrix.proofs.Dimension.{Reaches}
 use Rattle.matrix.proofs.Places.{elem-at}
@@ -18,10 +19,10 @@ use Rattle.matrix.proofs.Orders.{order-good}
 use Rattle.matrix.proofs.Rank.{full-reaches}
 use Rattle.matrix.proofs.Steps.{has-row, has-none, step-has, step-none, pick-first, pick-second}
 use Rattle.grid.specs.Steps.{Rows, Grid}
+use Rattle.elimination.specs.Step.{Stepped}
 use Rattle.scheme.specs.Build.{swap, Arrangement, arranged}
 use Rattle.scheme_laws.proofs.Build.{State, begin, turned, taken, left, finished, swap-length}
 use Rattle.build_matrix.specs.Steps.{colOf, placedAt}
-use Rattle.build_key.specs.Steps.{Keyed}
 
 -- ---- columns
 
@@ -140,15 +141,14 @@ turn-facts {r} {H = H} {start} a e l =
     let n = next-place (arrange-some a s) l in
     record { some = s; first = n .0; last = n .1; low = n .2 }
 
--- the end
+-- the end of the first pass
 pub arrange-done : {r half hw w : ℕ} {H : Matrix} {start : List ℕ} {f j : ℕ} {ones twos order : List ℕ} → Arranging r half hw w H start f j ones twos order
     → r ≤ j
-    → (order ≡ arranged r (length start) H start .order) × Keyed r (length start) H (placedAt half hw w ones twos) order
+    → (order ≡ arranged r (length start) H start .order) × Lowered r (length start) H (placedAt half hw w ones twos) (take r order)
 arrange-done {r} {half} {hw} {w} {H} {start} {f} {j} {ones} {twos} {order} a h =
     let e : j ≡ r = omega (arith, a .kept) in
-    let d = finished r (length start) H start f order (placedAt half hw w ones twos)
-    (subst (λ (z : ℕ). State r (length start) H start f z order (placedAt half hw w ones twos)) e (a .state)) in
-    (sym (ap (λ (a : Arrangement). a .order) (d .0)), record { entry = d .1 })
+    let t = subst (λ (z : ℕ). State r (length start) H start f z order (placedAt half hw w ones twos)) e (a .state) in
+    (sym (ap (λ (a : Arrangement). a .order) (finished r (length start) H start f order (placedAt half hw w ones twos) t)), t .lowered)
 
 -- ---- an order that one column changed, or left
 
@@ -157,3 +157,7 @@ yes-list x y e f = f ∙ pick-first x y e
 
 pub no-list : {b : Bool} {l : List ℕ} (x y : List ℕ) → b ≡ false → l ≡ y → l ≡ cond b x y
 no-list x y e f = f ∙ pick-second x y e
+
+-- a step's answer is the test of its column
+pub stepped-as : {b b′ : Bool} {r w c at : ℕ} {o₀ t₀ o t : List ℕ} → b ≡ b′ → Stepped b r w c at o₀ t₀ o t → Stepped b′ r w c at o₀ t₀ o t
+stepped-as {r = r} {w} {c} {at} {o₀} {t₀} {o} {t} e s = subst (λ (x : Bool). Stepped x r w c at o₀ t₀ o t) e s

@@ -1,3 +1,4 @@
--- The laws: the loop of the column rule in planes, the key's rows.
+-- The laws: the first pass in planes, by the column rule; the last pass, and the key after both; the key's rows.
 pub mod Arranging
+pub mod LastPass
 pub mod Written

@@ -2,12 +2,13 @@
 use mathlib.Core.Path.{_≡_}
 use mathlib.Core.List.{List}
 use Prim.Native.Nat.{ℕ, _+_, _*_, _≤_, _<_}
-use lib.ListN.{getD, length}
+use lib.ListN.{getD, length, take}
 use Rattle.trits.specs.Trit.{upTo}
 use Rattle.trits.specs.Planes.{onesOf, twosOf, Reads}
 use Rattle.trits.specs.Rows.{rowsOf, matrixAt}
 use Rattle.matrix.specs.Linear.{Vector, Matrix, column, rank, range}
 use Rattle.matrix.specs.Orders.{Order}
+use Rattle.matrix.specs.Passes.{Lowered}
 use Rattle.grid.specs.Steps.{Rows}
 use Rattle.scheme.specs.Build.{rowOfR}
 use Rattle.build_matrix.specs.Steps.{colOf, placedAt}
@@ -52,6 +53,18 @@ pub record ForArrange (ones twos : List ℕ) (rows w half hw : ℕ) (order : Lis
   pub half-small : hw ≤ 4294967296
   pub is-order : Order (length order) order
   pub rank-full : rank rows (length order) (placedAt half hw w ones twos) (range (length order)) ≡ rows
+
+-- the grid after the first pass, and the order that it left
+pub record ForClearAbove (ones twos : List ℕ) (rows w half hw : ℕ) (order : List ℕ) : Type 0 where
+  pub grid : Rows ones twos rows w
+  pub small : length ones ≤ 4294967296
+  pub half-fits : half ≤ 64 * hw
+  pub words : hw + hw ≤ w
+  pub places-fit : length order ≤ half + half
+  pub half-small : hw ≤ 4294967296
+  pub is-order : Order (length order) order
+  pub enough : rows ≤ length order
+  pub lowered : Lowered rows (length order) (placedAt half hw w ones twos) (placedAt half hw w ones twos) (take rows order)
 
 -- a grid, one of its columns, and a row in which nothing is put yet
 pub record ForPutColumn (ones twos : List ℕ) (rows w c : ℕ) (ko kt : List ℕ) : Type 0 where

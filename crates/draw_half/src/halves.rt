@@ -1,14 +1,38 @@
 // The two halves of a draw, each in rows of a grid: row x is what its matrix is multiplied with, row e becomes the word.
 ghost use mathlib.Core.Path.{_≡_};
-ghost use Prim.Native.Nat.{_+_};
+ghost use Prim.Native.Nat.{_+_, _*_};
 ghost use lib.Dec.{eqb};
 ghost use lib.ListN.{length, take};
 ghost use Rattle.trits.specs.Planes.{tritAt};
 ghost use Rattle.trits.specs.Rows.{matrixAt};
 ghost use Rattle.matrix.specs.Linear.{rank};
-ghost use Rattle.grid.specs.Steps.{Rows};
-ghost use Rattle.draw_half.specs.Steps.{wordV, wordU, SolvedWhere, ForDrawV, ForDrawU};
+ghost use Rattle.grid.specs.Steps.{Rows, Grid, putRow};
+ghost use Rattle.draw_half.specs.Steps.{wordV, wordU, completed, SolvedWhere, ForComplete, ForDrawV, ForDrawU};
 use draw_walk::walk;
+use grid::two_rows;
+
+// Row e, which holds what is supplied, becomes the word: x - e is solved at the pivots, and what is left of it is taken from x.
+pub fn complete(
+    ones: &mut [u64],
+    twos: &mut [u64],
+    rows: usize,
+    w: usize,
+    r: usize,
+    order: &[u16],
+    m: usize,
+    x: usize,
+    e: usize,
+)
+    requires { ⌜ ForComplete (now ones) (now twos) rows w r (now order) m x e ⌝ }
+    ensures { λ _. ⌜ Grid (now (ones .exit)) (now (twos .exit)) rows w
+        (putRow e (completed (64 * w) (matrixAt w (now (ones .entry)) (now (twos .entry))) (take m (now (order .entry))) r
+        (matrixAt w (now (ones .entry)) (now (twos .entry)) x) (matrixAt w (now (ones .entry)) (now (twos .entry)) e))
+        (matrixAt w (now (ones .entry)) (now (twos .entry)))) ⌝ }
+{
+    two_rows::take_from(ones, twos, rows, w, e, x);
+    walk::solve_pivots(ones, twos, rows, w, r, order, m, e);
+    two_rows::take_from(ones, twos, rows, w, e, x);
+}
 
 // V: the whole order's places that are no pivot take the trits, and the pivots what the syndrome asks; false where the first part lacks rank.
 pub fn draw_v(
@@ -29,7 +53,7 @@ pub fn draw_v(
     requires { ⌜ ForDrawV (now ones) (now twos) rows w r (now ho) (now ht) (now order) g (now vo) (now vt) x e ⌝ }
     ensures { λ t. ⌜ t ≡ eqb (rank r (length (now (order .entry))) (matrixAt w (now (ho .entry)) (now (ht .entry))) (take (r + g) (now (order .entry)))) r ⌝ }
     ensures { λ _. ⌜ Rows (now (ones .exit)) (now (twos .exit)) rows w ⌝ }
-    ensures { λ t. ⌜ SolvedWhere t r x e (matrixAt w (now (ones .entry)) (now (twos .entry))) (matrixAt w (now (ones .exit)) (now (twos .exit)))
+    ensures { λ t. ⌜ SolvedWhere t r e (matrixAt w (now (ones .entry)) (now (twos .entry))) (matrixAt w (now (ones .exit)) (now (twos .exit)))
         (wordV r (length (now (order .entry))) (matrixAt w (now (ho .entry)) (now (ht .entry))) (now (order .entry)) g
         (tritAt (now (vo .entry)) (now (vt .entry)))
         (matrixAt w (now (ones .entry)) (now (twos .entry)) x)) ⌝ }
@@ -39,8 +63,7 @@ pub fn draw_v(
         return false;
     }
     walk::supply(ones, twos, rows, w, r, order, order.len(), vo, vt, e);
-    grid::two_rows::sub_rows(ones, twos, rows, w, x, e);
-    walk::solve_pivots(ones, twos, rows, w, r, order, first, x, e);
+    complete(ones, twos, rows, w, r, order, first, x, e);
     true
 }
 
@@ -68,7 +91,7 @@ pub fn draw_u(
     requires { ⌜ ForDrawU (now ones) (now twos) rows w r (now ho) (now ht) (now order) g (now bo) (now bt) (now co) (now ct) (now uo) (now ut) ev x e ⌝ }
     ensures { λ t. ⌜ t ≡ eqb (rank r (length (now (order .entry))) (matrixAt w (now (ho .entry)) (now (ht .entry))) (take (r + g) (now (order .entry)))) r ⌝ }
     ensures { λ _. ⌜ Rows (now (ones .exit)) (now (twos .exit)) rows w ⌝ }
-    ensures { λ t. ⌜ SolvedWhere t r x e (matrixAt w (now (ones .entry)) (now (twos .entry))) (matrixAt w (now (ones .exit)) (now (twos .exit)))
+    ensures { λ t. ⌜ SolvedWhere t r e (matrixAt w (now (ones .entry)) (now (twos .entry))) (matrixAt w (now (ones .exit)) (now (twos .exit)))
         (wordU r (length (now (order .entry))) (matrixAt w (now (ho .entry)) (now (ht .entry))) (tritAt (now (bo .entry)) (now (bt .entry)))
         (tritAt (now (co .entry)) (now (ct .entry)))
         (now (order .entry)) g (tritAt (now (uo .entry)) (now (ut .entry))) (matrixAt w (now (ones .entry)) (now (twos .entry)) ev)
@@ -96,7 +119,6 @@ pub fn draw_u(
         ev,
         e,
     );
-    grid::two_rows::sub_rows(ones, twos, rows, w, x, e);
-    walk::solve_pivots(ones, twos, rows, w, r, order, first, x, e);
+    complete(ones, twos, rows, w, r, order, first, x, e);
     true
 }

@@ -1,2 +1,2 @@
-// One half of a draw, in rows of a grid: the matrix reduced, the other places supplied, and the pivots solved.
+// One half of a draw, in rows of a grid: the matrix lowered, the other places supplied, and the pivots solved.
 pub mod halves; // the word of V, and the word of U

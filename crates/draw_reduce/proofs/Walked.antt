@@ -2,27 +2,24 @@
 use mathlib.Core.Path.{_≡_, refl, sym, ap, ap₂, _∙_, subst, fun-ext}
 use mathlib.Core.Bool.{Bool, true, false, cond, _&&_, and-false}
 use mathlib.Core.List.{List, [], _∷_, _++_, append-assoc, append-nil}
-use Prim.Native.Nat.{ℕ, suc, _+_, _≤_, _<_}
-use native.Mathlib.Decide.{decLt}
+use Prim.Native.Nat.{ℕ, zero, suc, _+_, _≤_, _<_}
+use native.Mathlib.Decide.{decLt, ℕ-discrete}
 use native.Mathlib.Omega.{arith}
 use borrow.Author.Tests.{eq-eqb, ne-eqb, eqb-true, eqb-false, lt-ltb, le-ltb}
 use lib.Dec.{eqb, ltb}
-use lib.ListN.{length, take, drop, take-append-drop}
-use Rattle.trits.specs.Trit.{Trit, t0, t1, subT, mulT, isSet, putV, dotV}
-use Rattle.trits.proofs.Arithmetic.{add-zero-r, mul-assoc, add-neg, mul-zero}
-use Rattle.matrix.specs.Linear.{Vector, Matrix, zeros, times, elem, pivots, rank, without}
+use lib.ListN.{length, getD, take, drop, take-append-drop}
+use lib.Seq.{getD-at}
+use Rattle.trits.specs.Trit.{Trit, t0, t1, subT, mulT, isSet}
+use Rattle.trits.proofs.Arithmetic.{add-zero-r, mul-zero}
+use Rattle.matrix.specs.Linear.{Vector, Matrix, elem, pivots, without}
 use Rattle.matrix.specs.Orders.{Distinct, Order}
-use Rattle.matrix.specs.Steps.{swapRows, clearRows, pivotRow, hasPivot, stepOf, Stage, tried, eliminate, eliminated, begun}
-use Rattle.matrix.proofs.Field.{mul-one, square}
-use Rattle.matrix.proofs.Dots.{put-same, put-other}
+use Rattle.matrix.specs.Steps.{swapRows, scaleRow, pivoted, pivotRow, hasPivot, stepOf, Stage, tried, eliminate, eliminated, begun, firstSet}
 use Rattle.matrix.proofs.Places.{Below, or-false-left, or-false-right, false-or-false}
 use Rattle.matrix.proofs.Orders.{order-good}
-use Rattle.matrix.proofs.Greedy.{pivots-kept}
-use Rattle.matrix.proofs.Elimination.{Reduced, reduced-cong}
-use Rattle.matrix.proofs.Steps.{has-row, has-none, step-has, step-none}
-use Rattle.matrix.proofs.Kept.{tried-cells, tried-kept, tried-count, eliminate-pivots, eliminated-reduced}
+use Rattle.matrix.proofs.Steps.{has-row, has-none, step-has, step-none, step-one, step-below}
+use Rattle.matrix.proofs.Kept.{tried-cells, tried-kept, tried-count, eliminate-pivots}
 use Rattle.scheme_laws.proofs.Draws.{parts, first-below}
-use Rattle.draw_reduce.specs.Steps.{over, isNext, taken, passed}
+use Rattle.draw_reduce.specs.Steps.{over, isNext, taken, passed, pivotPlace}
 
 -- ---- what one step leaves of a column
 
@@ -30,56 +27,52 @@ use Rattle.draw_reduce.specs.Steps.{over, isNext, taken, passed}
 abbrev pub ZeroFrom : ℕ → ℕ → Matrix → ℕ → Type 0
 ZeroFrom r c A q = (i : ℕ) → c ≤ i → i < r → A i q ≡ t0
 
-module _ (r at p : ℕ) (A : Matrix) (e : hasPivot r at p A ≡ true) where
+-- the rows from `at` on are 0 at q
+module _ (r at p : ℕ) (A : Matrix) (e : hasPivot r at p A ≡ true) (q : ℕ) (z : ZeroFrom r at A q) where
   abbrev moved : Matrix
   moved = swapRows at (pivotRow r A p at) A
 
-  moved-set : isSet (moved at p) ≡ true
-  moved-set = rw (eq-eqb at at refl) (has-row r at p A e .2)
+  abbrev scaled : Matrix
+  scaled = scaleRow at (A (pivotRow r A p at) p) (swapRows at (pivotRow r A p at) A)
 
-  -- a column that has a pivot becomes a unit column
-  step-unit : (i : ℕ) → stepOf r at p A i p ≡ putV zeros at t1 i
-  step-unit i = ap (λ (B : Matrix). B i p) (step-has r at p A e) ∙ go (eqb i at) refl
+  own-zero : A at q ≡ t0
+  own-zero = let f = has-row r at p A e in z at (omega arith) (omega (arith, f .0, f .1))
+
+  -- exchanged rows have 0 there, so the column stays
+  moved-keep : (i : ℕ) → moved i q ≡ A i q
+  moved-keep i = go (eqb i at) refl (eqb i (pivotRow r A p at)) refl
     where
-      go : (s : Bool) → eqb i at ≡ s → clearRows at p moved i p ≡ putV zeros at t1 i
-      go true k = rw k (square (moved at p) moved-set)
-      go false k =
-          ap (λ (s : Bool). cond s (mulT (moved at p) (moved at p)) (subT (moved i p) (mulT (mulT (moved i p) (moved at p)) (moved at p)))) k
-          ∙ ap (subT (moved i p)) (mul-assoc (moved i p) (moved at p) (moved at p) ∙ ap (mulT (moved i p)) (square (moved at p) moved-set)
-          ∙ mul-one (moved i p))
-          ∙ add-neg (moved i p) ∙ sym (put-other zeros at t1 i (eqb-false i at k))
-
-  -- row `at` is among those that are 0 at q
-  own-zero : (q : ℕ) → ZeroFrom r at A q → A at q ≡ t0
-  own-zero q z = let f = has-row r at p A e in z at (omega arith) (omega (arith, f .0, f .1))
-
-  -- exchanged rows have 0 at q, so the column there stays
-  moved-keep : (q : ℕ) → ZeroFrom r at A q → (i : ℕ) → moved i q ≡ A i q
-  moved-keep q z i = go (eqb i at) refl (eqb i (pivotRow r A p at)) refl
-    where
-      here : A at q ≡ t0
-      here = own-zero q z
-
       there : A (pivotRow r A p at) q ≡ t0
       there = let f = has-row r at p A e in z (pivotRow r A p at) (f .0) (f .1)
 
       go : (s : Bool) → eqb i at ≡ s → (t : Bool) → eqb i (pivotRow r A p at) ≡ t → moved i q ≡ A i q
-      go true k t l = rw k (there ∙ sym here ∙ ap (λ (x : ℕ). A x q) (sym (eqb-true i at k)))
-      go false k true l = rw (k, l) (here ∙ sym there ∙ ap (λ (x : ℕ). A x q) (sym (eqb-true i (pivotRow r A p at) l)))
+      go true k t l = rw k (there ∙ sym own-zero ∙ ap (λ (x : ℕ). A x q) (sym (eqb-true i at k)))
+      go false k true l = rw (k, l) (own-zero ∙ sym there ∙ ap (λ (x : ℕ). A x q) (sym (eqb-true i (pivotRow r A p at) l)))
       go false k false l = rw (k, l)
 
-  stepped-keep : (q : ℕ) → ZeroFrom r at A q → (i : ℕ) → clearRows at p moved i q ≡ A i q
-  stepped-keep q z i = go (eqb i at) refl
+  scaled-keep : (i : ℕ) → scaled i q ≡ A i q
+  scaled-keep i = go (eqb i at) refl
     where
-      none : moved at q ≡ t0
-      none = moved-keep q z at ∙ own-zero q z
+      x : Trit
+      x = A (pivotRow r A p at) p
 
-      go : (s : Bool) → eqb i at ≡ s → clearRows at p moved i q ≡ A i q
-      go true k = rw k (ap (mulT (moved at p)) none ∙ mul-zero (moved at p) ∙ sym (own-zero q z) ∙ ap (λ (x : ℕ). A x q) (sym (eqb-true i at k)))
-      go false k =
-          ap (λ (s : Bool). cond s (mulT (moved at p) (moved at q)) (subT (moved i q) (mulT (mulT (moved i p) (moved at p)) (moved at q)))) k
-          ∙ ap (λ (x : Trit). subT (moved i q) (mulT (mulT (moved i p) (moved at p)) x)) none
-          ∙ ap (subT (moved i q)) (mul-zero (mulT (moved i p) (moved at p))) ∙ add-zero-r (moved i q) ∙ moved-keep q z i
+      go : (s : Bool) → eqb i at ≡ s → scaled i q ≡ A i q
+      go true k =
+          let own : A i q ≡ t0 = ap (λ (j : ℕ). A j q) (eqb-true i at k) ∙ own-zero in
+          ap (λ (s : Bool). cond s (mulT x (moved i q)) (moved i q)) k ∙ ap (mulT x) (moved-keep i ∙ own) ∙ mul-zero x ∙ sym own
+      go false k = ap (λ (s : Bool). cond s (mulT x (moved i q)) (moved i q)) k ∙ moved-keep i
+
+  stepped-keep : (i : ℕ) → pivoted at p (pivotRow r A p at) A i q ≡ A i q
+  stepped-keep i = go (ltb at i)
+    where
+      less : subT (scaled i q) (mulT (scaled i p) (scaled at q)) ≡ A i q
+      less =
+          ap (λ (x : Trit). subT (scaled i q) (mulT (scaled i p) x)) (scaled-keep at ∙ own-zero)
+          ∙ ap (subT (scaled i q)) (mul-zero (scaled i p)) ∙ add-zero-r (scaled i q) ∙ scaled-keep i
+
+      go : (s : Bool) → cond s (subT (scaled i q) (mulT (scaled i p) (scaled at q))) (scaled i q) ≡ A i q
+      go true = less
+      go false = scaled-keep i
 
 -- a step leaves a column whose rows from `at` on are 0
 step-keep : (r at p : ℕ) (A : Matrix) (q : ℕ) → ZeroFrom r at A q → (i : ℕ) → stepOf r at p A i q ≡ A i q
@@ -96,6 +89,13 @@ tried-more : (r p : ℕ) (s : Stage) → length (s .kept) ≤ length (tried r p 
 tried-more r p s = subst (λ (k : ℕ). length (s .kept) ≤ k) (sym (tried-count r p s)) (by (hasPivot r (length (s .kept)) p (s .cells)))
   where
     by : (t : Bool) → length (s .kept) ≤ cond t (suc (length (s .kept))) (length (s .kept))
+    by true = omega arith
+    by false = omega arith
+
+tried-most : (r p : ℕ) (s : Stage) → length (tried r p s .kept) ≤ suc (length (s .kept))
+tried-most r p s = subst (λ (k : ℕ). k ≤ suc (length (s .kept))) (sym (tried-count r p s)) (by (hasPivot r (length (s .kept)) p (s .cells)))
+  where
+    by : (t : Bool) → cond t (suc (length (s .kept))) (length (s .kept)) ≤ suc (length (s .kept))
     by true = omega arith
     by false = omega arith
 
@@ -157,13 +157,17 @@ module _ (r q : ℕ) (qs : List ℕ) (s : Stage) where
     count-one : length (next .kept) ≡ suc at
     count-one = tried-count r q s ∙ ap (λ (t : Bool). cond t (suc at) at) e
 
-    unit : (i : ℕ) → next .cells i q ≡ putV zeros at t1 i
-    unit i = ap (λ (B : Matrix). B i q) (tried-cells r q s) ∙ step-unit r at q (s .cells) e i
+    below : (i : ℕ) → at < i → next .cells i q ≡ t0
+    below i l = ap (λ (B : Matrix). B i q) (tried-cells r q s) ∙ step-below r at q (s .cells) e i l
+
+    stays : (i : ℕ) → end i q ≡ next .cells i q
+    stays = later-keep r qs next q (λ i a b. below i (omega (arith, a, count-one)))
 
     end-one : end at q ≡ t1
-    end-one =
-        later-keep r qs next q (λ i a b. unit i ∙ put-other zeros at t1 i (λ z. omega (arith, a, z, count-one))) at
-        ∙ unit at ∙ put-same zeros at t1
+    end-one = stays at ∙ ap (λ (B : Matrix). B at q) (tried-cells r q s) ∙ step-one r at q (s .cells) e
+
+    end-below : (i : ℕ) → at < i → end i q ≡ t0
+    end-below i l = stays i ∙ below i l
 
     walk-one : taken r end at (q ∷ qs) ≡ q ∷ taken r end (length (next .kept)) qs
     walk-one =
@@ -181,13 +185,13 @@ module _ (r q : ℕ) (qs : List ℕ) (s : Stage) where
     same : (i : ℕ) → next .cells i q ≡ s .cells i q
     same i = ap (λ (B : Matrix). B i q) (tried-cells r q s ∙ step-none r at q (s .cells) e)
 
-    end-none : at < r → end at q ≡ t0
-    end-none h =
-        later-keep r qs next q (λ i a b. same i ∙ has-none r at q (s .cells) e i (omega (arith, a, count-none)) b) at
-        ∙ same at ∙ has-none r at q (s .cells) e at (omega arith) h
+    end-none : (i : ℕ) → at ≤ i → i < r → end i q ≡ t0
+    end-none i h l =
+        later-keep r qs next q (λ i a b. same i ∙ has-none r at q (s .cells) e i (omega (arith, a, count-none)) b) i
+        ∙ same i ∙ has-none r at q (s .cells) e i h l
 
     walk-none : taken r end at (q ∷ qs) ≡ taken r end (length (next .kept)) qs
-    walk-none = taken-not r end at q qs (next-unset r end at q end-none) ∙ ap (λ (k : ℕ). taken r end k qs) (sym count-none)
+    walk-none = taken-not r end at q qs (next-unset r end at q (end-none at (omega arith))) ∙ ap (λ (k : ℕ). taken r end k qs) (sym count-none)
 
 -- the kept places and those that the walk then takes are the places kept in the end
 walk-kept : (r : ℕ) (ps : List ℕ) (s : Stage) → s .kept ++ taken r (eliminate r ps s .cells) (length (s .kept)) ps ≡ eliminate r ps s .kept
@@ -210,6 +214,39 @@ walk-kept r (q ∷ qs) s = go (walk-kept r qs (tried r q s)) (hasPivot r (length
 pub walk-taken : (r n : ℕ) (H : Matrix) (ps : List ℕ) → Below n ps → taken r (eliminated r H ps) 0 ps ≡ pivots r n H ps
 unfolding eliminated
 walk-taken r n H ps b = walk-kept r ps (begun H) ∙ eliminate-pivots r n H ps b
+
+-- ---- each row's pivot is the first place at which it is not 0
+
+module _ (v : Vector) (q : ℕ) (qs : List ℕ) where
+  pub first-set : isSet (v q) ≡ true → firstSet v (q ∷ qs) ≡ q
+  unfolding firstSet
+  first-set e = ap (λ (t : Bool). cond t q (firstSet v qs)) e
+
+  pub first-unset : isSet (v q) ≡ false → firstSet v (q ∷ qs) ≡ firstSet v qs
+  unfolding firstSet
+  first-unset e = ap (λ (t : Bool). cond t q (firstSet v qs)) e
+
+-- the search for row c's pivot may begin at position d, where row c is at least d rows past those that have theirs
+first-kept : (r c : ℕ) → c < r → (ps : List ℕ) (s : Stage) (d : ℕ) → d + length (s .kept) ≤ c → c < length (eliminate r ps s .kept)
+    → firstSet (eliminate r ps s .cells c) (drop d ps) ≡ getD (eliminate r ps s .kept) c 0
+unfolding eliminate
+first-kept r c h [] s d a b = absurd (omega arith)
+first-kept r c h (q ∷ qs) s (suc d) a b = first-kept r c h qs (tried r q s) d (omega (arith, tried-most r q s)) b
+first-kept r c h (q ∷ qs) s zero a b =
+    go (first-kept r c h qs (tried r q s) 0) (hasPivot r (length (s .kept)) q (s .cells)) refl (ℕ-discrete c (length (s .kept)))
+  where
+    go : (0 + length (tried r q s .kept) ≤ c → c < length (eliminate r qs (tried r q s) .kept)
+        → firstSet (end r q qs s c) qs ≡ getD (eliminate r qs (tried r q s) .kept) c 0)
+        → (t : Bool) → hasPivot r (length (s .kept)) q (s .cells) ≡ t → Dec (c ≡ length (s .kept))
+        → firstSet (end r q qs s c) (q ∷ qs) ≡ getD (eliminate r qs (tried r q s) .kept) c 0
+    go ih true e (yes d) =
+        first-set (end r q qs s c) q qs (ap (λ (i : ℕ). isSet (end r q qs s i q)) d ∙ ap isSet (end-one r q qs s e))
+        ∙ sym (ap (λ (l : List ℕ). getD l c 0) (sym (walk-kept r (q ∷ qs) s) ∙ ap (λ (l : List ℕ). s .kept ++ l) (walk-one r q qs s e))
+        ∙ getD-at (s .kept) q _ 0 c (sym d))
+    go ih true e (no f) =
+        first-unset (end r q qs s c) q qs (ap isSet (end-below r q qs s e c (omega arith))) ∙ ih (omega (arith, count-one r q qs s e)) b
+    go ih false e d =
+        first-unset (end r q qs s c) q qs (ap isSet (end-none r q qs s e c (omega arith) h)) ∙ ih (omega (arith, count-none r q qs s e)) b
 
 -- ---- the places passed over are the others
 
@@ -277,11 +314,6 @@ unfolding taken
 taken-full r A c [] h = refl
 taken-full r A c (q ∷ qs) h = taken-not r A c q qs (next-unset r A c q (λ l. absurd (omega arith))) ∙ taken-full r A c qs h
 
-pub passed-full : (r : ℕ) (A : Matrix) (c : ℕ) (qs : List ℕ) → r ≤ c → passed r A c qs ≡ qs
-unfolding passed
-passed-full r A c [] h = refl
-passed-full r A c (q ∷ qs) h = passed-not r A c q qs (next-unset r A c q (λ l. absurd (omega arith))) ∙ ap (λ (l : List ℕ). q ∷ l) (passed-full r A c qs h)
-
 -- ---- an order, whose first k places were tried
 
 module _ (r n : ℕ) (H : Matrix) (k : ℕ) (order : List ℕ) (o : Order n order) where
@@ -292,6 +324,13 @@ module _ (r n : ℕ) (H : Matrix) (k : ℕ) (order : List ℕ) (o : Order n orde
   first-passed = walk-passed r n H (take k order) (first-below n k order o) (parts n k order o .0)
 
   module _ (full : length (pivots r n H (take k order)) ≡ r) where
+    -- each row's pivot is found again
+    pub first-pivot : (c : ℕ) → c < r → pivotPlace (eliminated r H (take k order)) (take k order) c ≡ getD (pivots r n H (take k order)) c 0
+    unfolding eliminated
+    first-pivot c h =
+        let e = eliminate-pivots r n H (take k order) (first-below n k order o) in
+        first-kept r c h (take k order) (begun H) c (omega arith) (omega (arith, ap (λ (l : List ℕ). length l) e, full)) ∙ ap (λ (l : List ℕ). getD l c 0) e
+
     pub order-taken : taken r (eliminated r H (take k order)) 0 order ≡ pivots r n H (take k order)
     order-taken =
         let F : Matrix = eliminated r H (take k order) in
@@ -312,9 +351,6 @@ module _ (r : ℕ) (F A : Matrix) where
   pub over-rest : (c : ℕ) → r ≤ c → over r F A c ≡ A c
   over-rest c h = fun-ext (λ q. ap (λ (t : Bool). cond t (F c q) (A c q)) (le-ltb c r h))
 
-  pub times-over : (n : ℕ) (v : Vector) (c : ℕ) → c < r → times n (over r F A) v c ≡ times n F v c
-  times-over n v c h = ap (λ (u : Vector). dotV u v n) (over-row c h)
-
 -- the walk reads the first r rows
 pub next-cong : (r : ℕ) (A B : Matrix) (c q : ℕ) → ((i : ℕ) → i < r → A i ≡ B i) → isNext r A c q ≡ isNext r B c q
 next-cong r A B c q e = by (decLt c r)
@@ -323,13 +359,6 @@ next-cong r A B c q e = by (decLt c r)
     by (yes h) = ap (λ (u : Vector). ltb c r && isSet (u q)) (e c h)
     by (no h) = ap (λ (t : Bool). t && isSet (A c q)) (le-ltb c r (omega arith)) ∙ sym (ap (λ (t : Bool). t && isSet (B c q)) (le-ltb c r (omega arith)))
 
-pub taken-cong : (r : ℕ) (A B : Matrix) → ((i : ℕ) → i < r → A i ≡ B i) → (qs : List ℕ) (c : ℕ) → taken r A c qs ≡ taken r B c qs
-unfolding taken
-taken-cong r A B e [] c = refl
-taken-cong r A B e (q ∷ qs) c =
-    ap (λ (t : Bool). cond t (q ∷ taken r A (suc c) qs) (taken r A c qs)) (next-cong r A B c q e)
-    ∙ ap₂ (λ (x y : List ℕ). cond (isNext r B c q) (q ∷ x) y) (taken-cong r A B e qs (suc c)) (taken-cong r A B e qs c)
-
 pub passed-cong : (r : ℕ) (A B : Matrix) → ((i : ℕ) → i < r → A i ≡ B i) → (qs : List ℕ) (c : ℕ) → passed r A c qs ≡ passed r B c qs
 unfolding passed
 passed-cong r A B e [] c = refl
@@ -337,24 +366,5 @@ passed-cong r A B e (q ∷ qs) c =
     ap (λ (t : Bool). cond t (passed r A (suc c) qs) (q ∷ passed r A c qs)) (next-cong r A B c q e)
     ∙ ap₂ (λ (x y : List ℕ). cond (isNext r B c q) x (q ∷ y)) (passed-cong r A B e qs (suc c)) (passed-cong r A B e qs c)
 
-module _ (r : ℕ) (F A : Matrix) (c : ℕ) (qs : List ℕ) where
-  pub taken-over : taken r (over r F A) c qs ≡ taken r F c qs
-  taken-over = taken-cong r (over r F A) F (over-row r F A) qs c
-
-  pub over-passed : passed r (over r F A) c qs ≡ passed r F c qs
-  over-passed = passed-cong r (over r F A) F (over-row r F A) qs c
-
--- what the definitions ask of the grid's matrix: it is reduced at the pivots
-pub order-reduced : (r n : ℕ) (H A : Matrix) (k : ℕ) (order : List ℕ) → Order n order
-    → Reduced r n H (over r (eliminated r H (take k order)) A) (pivots r n H (take k order))
-order-reduced r n H A k order o =
-    let F : Matrix = eliminated r H (take k order) in
-    let ps : List ℕ = pivots r n H (take k order) in
-    let b = first-below n k order o in
-    reduced-cong r n H F (over r F A) ps (pivots-kept r n H (take k order) b .below) (λ i q l m. sym (ap (λ (u : Vector). u q) (over-row r F A i l)))
-    (eliminated-reduced r n H (take k order) b)
-
--- a rank that is full is that of r pivots
-pub rank-full : (r n : ℕ) (H : Matrix) (ps : List ℕ) → rank r n H ps ≡ r → length (pivots r n H ps) ≡ r
-unfolding rank
-rank-full r n H ps e = e
+pub over-passed : (r : ℕ) (F A : Matrix) (c : ℕ) (qs : List ℕ) → passed r (over r F A) c qs ≡ passed r F c qs
+over-passed r F A c qs = passed-cong r (over r F A) F (over-row r F A) qs c

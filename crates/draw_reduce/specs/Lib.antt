@@ -1,2 +1,2 @@
--- The definitions that the contracts cite: the walk along an order in a reduced matrix.
+-- The definitions that the contracts cite: the walk along an order in a lowered matrix.
 pub mod Steps

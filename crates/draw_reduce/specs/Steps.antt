@@ -1,14 +1,15 @@
--- The walk along an order in a reduced matrix, which finds the pivots again. No rule of the paper:
+-- The walk along an order in a lowered matrix, which finds the pivots again. No rule of the paper:
 -- code is tied to it, and its laws to `pivots` and `without`. Assumes nothing.
 use mathlib.Core.Path.{_≡_}
 use mathlib.Core.Bool.{Bool, _&&_, cond}
 use mathlib.Core.List.{List, [], _∷_}
 use Prim.Native.Nat.{ℕ, suc, _*_, _≤_}
 use lib.Dec.{ltb}
-use lib.ListN.{length}
+use lib.ListN.{length, drop}
 use Rattle.trits.specs.Trit.{isSet}
 use Rattle.matrix.specs.Linear.{Matrix}
 use Rattle.matrix.specs.Orders.{Order}
+use Rattle.matrix.specs.Steps.{firstSet}
 use Rattle.grid.specs.Steps.{Rows}
 
 -- the rows below r are those of B, the others those of A
@@ -28,6 +29,10 @@ taken r A c (q ∷ qs) = cond (isNext r A c q) (q ∷ taken r A (suc c) qs) (tak
 unfoldable pub passed : ℕ → Matrix → ℕ → List ℕ → List ℕ
 passed r A c [] = []
 passed r A c (q ∷ qs) = cond (isNext r A c q) (passed r A (suc c) qs) (q ∷ passed r A c qs)
+
+-- the place of row c's pivot: the first of the places from position c on at which the row is not 0
+abbrev pub pivotPlace : Matrix → List ℕ → ℕ → ℕ
+pivotPlace A ps c = firstSet (A c) (drop c ps)
 
 -- a grid, an order of its places, and how many of them are tried
 pub record ForEliminateBy (ones twos : List ℕ) (rows w : ℕ) (order : List ℕ) (m : ℕ) : Type 0 where

@@ -1,4 +1,4 @@
-// The matrix of one half in the first rows of a grid, reduced along an order.
+// The matrix of one half in the first rows of a grid, lowered along an order.
 ghost use mathlib.Core.Path.{_≡_};
 ghost use lib.ListN.{length, take};
 ghost use Rattle.trits.specs.Rows.{matrixAt};

@@ -52,6 +52,16 @@ forced-number b c v hb hc hv =
     ∙ forced-table (tritOf b) (tritOf c) (tritOf v)
 
 -- a product of small numbers is a byte
+-- v - t by numbers
+less-table : (v t : Trit) → (number v + 2 * number t) % 3 ≡ number (subT v t)
+less-table v t = eqb-true _ _ (true-of _ (at (test v) (at (λ v. every (test v)) tt v) t))
+  where
+    test : Trit → Trit → Bool
+    test v t = eqb ((number v + 2 * number t) % 3) (number (subT v t))
+
+pub less-number : {m n : ℕ} (v t : Trit) → m ≡ number v → n ≡ number t → (m + 2 * n) % 3 ≡ number (subT v t)
+less-number v t e f = ap₂ (λ (x y : ℕ). (x + 2 * y) % 3) e f ∙ less-table v t
+
 pub small-product : {x v : ℕ} → x < 7 → v < 3 → Fits w8 (x * v)
 small-product {x} {v} h k = by v k
   where

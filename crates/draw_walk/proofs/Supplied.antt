@@ -11,9 +11,9 @@ use borrow.Author.Tests.{eq-eqb, ne-eqb, eqb-false}
 use lib.Dec.{eqb}
 use lib.ListN.{length, getD, take, drop, length-append, length-drop, take-append-drop}
 use lib.Seq.{take-suc, take-take, drop-cons, getD-drop, length-take-le, take-all}
-use Rattle.trits.specs.Trit.{Trit, putV, dotV}
+use Rattle.trits.specs.Trit.{Trit, putV}
 use Rattle.trits.specs.Rows.{matrixAt}
-use Rattle.matrix.specs.Linear.{Vector, Matrix, times, elem, fill}
+use Rattle.matrix.specs.Linear.{Vector, Matrix, elem, fill}
 use Rattle.matrix.specs.Orders.{Distinct, Order}
 use Rattle.matrix.proofs.Places.{or-false-left, or-false-right, false-or-false, elem-here}
 use Rattle.matrix.proofs.Greedy.{bool-cases}
@@ -24,10 +24,10 @@ use Rattle.grid.specs.Steps.{Rows, Grid, putRow}
 use Rattle.grid.proofs.Cells.{grid-to}
 use Rattle.grid.proofs.RowParts.{put-here, put-else}
 use Rattle.draw_reduce.specs.Steps.{isNext, taken, passed}
-use Rattle.draw_reduce.proofs.Walked.{taken-append, passed-append, taken-within, next-cong}
+use Rattle.draw_reduce.proofs.Walked.{taken-append, passed-append, next-cong}
 use Rattle.draw_reduce.proofs.Fronts.{take-next}
 use Rattle.scheme.specs.Draw.{forcedBy}
-use Rattle.draw_walk.proofs.Puts.{put-own, next-lt}
+use Rattle.draw_walk.proofs.Puts.{put-own}
 
 -- ---- words filled place by place
 
@@ -46,10 +46,6 @@ fill-more [] p v w h = refl
 fill-more (x ∷ xs) p v w h =
     ap (λ (u : Vector). putV u x (v 0)) (fill-more xs p (λ j. v (suc j)) w (or-false-right (eqb p x) (elem p xs) h))
     ∙ put-swap (fill xs (λ j. v (suc j)) w) x p (v (suc (length xs))) (v 0) (eqb-false p x (or-false-left (eqb p x) (elem p xs) h))
-
-pub fill-nil : (v w : Vector) → w ≡ fill [] v w
-unfolding fill
-fill-nil v w = refl
 
 -- ---- places of an order
 
@@ -188,10 +184,6 @@ walking-none {w = w} {o = o} {t = t} e l ps v g d = record {
   count = refl;
 }
 
-pub taken-nil : (r : ℕ) (A : Matrix) (l : List ℕ) → taken r A 0 (take 0 l) ≡ []
-unfolding taken
-taken-nil r A l = refl
-
 pub passed-nil : (r : ℕ) (A : Matrix) (l : List ℕ) → passed r A 0 (take 0 l) ≡ []
 unfolding passed
 passed-nil r A l = refl
@@ -245,30 +237,6 @@ module _ {rows w r e : ℕ} (l : List ℕ) (A : Matrix) {i c : ℕ} {os ts : Lis
       ap₂ (λ (y : Vector) (j : ℕ). putV y q (v j)) (put-here e u A e refl) m
       ∙ sym (fill-more (passed r A 0 ps) q v (A e) (passed-out r A 0 ps q (place-fresh l i o h)))
       ∙ ap (λ (x : List ℕ). fill x v (A e)) (sym (passed-no r A ps q c (k .count) f))))
-
-  -- the place at i takes its row's product, or nothing
-  pub solve-turn : {n : ℕ} {o₁ t₁ : List ℕ} (x m : ℕ) → (x ≡ e → ⊥)
-      → Walking rows w r e A (fill (taken r A 0 (take i l)) (times m A (A x)) (A e)) (take i l) c os ts
-      → n ≡ cond (isNext r (matrixAt w os ts) c (getD l i 0)) (suc c) c
-      → Grid o₁ t₁ rows w
-      (putRow e (cond (isNext r (matrixAt w os ts) c (getD l i 0)) (putV (matrixAt w os ts e) (getD l i 0) (dotV (matrixAt w os ts c) (matrixAt w os ts x) m))
-      (matrixAt w os ts e)) (matrixAt w os ts))
-      → Walking rows w r e A (fill (taken r A 0 (take (i + 1) l)) (times m A (A x)) (A e)) (take (i + 1) l) n o₁ t₁
-  solve-turn {n} {o₁} {t₁} x m a k d g =
-      let q = getD l i 0 in
-      let ps = take i l in
-      let v : Vector = times m A (A x) in
-      let u : Vector = fill (taken r A 0 ps) v (A e) in
-      subst (λ (y : List ℕ). Walking rows w r e A (fill (taken r A 0 y) v (A e)) y n o₁ t₁) (sym (take-next l i h))
-      (walking-turn k z q (λ B. putV (B e) q (dotV (B c) (B x) m)) (λ B. B e) (fill (taken r A 0 (ps ++ (q ∷ []))) v (A e)) d g
-      (λ f.
-      let p = next-lt r A c q f in
-      ap (λ (y : Vector). putV y q (dotV (putRow e u A c) (putRow e u A x) m)) (put-here e u A e refl)
-      ∙ ap₂ (λ (s t : Vector). putV u q (dotV s t m)) (put-else e u A c (λ b. omega arith)) (put-else e u A x a)
-      ∙ ap (λ (j : ℕ). putV u q (v j)) (k .count)
-      ∙ sym (fill-more (taken r A 0 ps) q v (A e) (taken-within r A ps 0 q (place-fresh l i o h)))
-      ∙ ap (λ (y : List ℕ). fill y v (A e)) (sym (taken-yes r A ps q c (k .count) f)))
-      (λ f. put-here e u A e refl ∙ ap (λ (y : List ℕ). fill y v (A e)) (sym (taken-no r A ps q c (k .count) f))))
 
 -- the values of the last part, from its first place on
 abbrev pub forcedAt : List ℕ → Matrix → ℕ → ℕ → Vector → Vector → Vector → ℕ → Vector

@@ -79,25 +79,33 @@ pub record ForSupplyForced (ones twos : List ℕ) (rows w : ℕ) (order : List �
   pub u-room : g + (length order - from) ≤ 64 * length uo
   pub gap : g ≤ from
 
+-- a grid, one of its rows, an order of its places, and the end of the part that is searched
+pub record ForPivotPlace (ones twos : List ℕ) (rows w : ℕ) (order : List ℕ) (m c : ℕ) : Type 0 where
+  pub grid : Rows ones twos rows w
+  pub is-order : Order (length order) order
+  pub small : length ones ≤ 4294967296
+  pub places-fit : length order ≤ 64 * w
+  pub front : m ≤ length order
+  pub c-in : c < rows
+  pub begins : c < m
+
 -- a grid, two of its rows, and a place
-pub record ForSolvePlace (ones twos : List ℕ) (rows w r q x e : ℕ) : Type 0 where
+pub record ForLessen (ones twos : List ℕ) (rows w q c e : ℕ) : Type 0 where
   pub grid : Rows ones twos rows w
   pub small : length ones ≤ 4294967296
   pub narrow : w ≤ 65536
   pub place : q < 64 * w
-  pub r-in : r ≤ rows
-  pub x-in : x < rows
+  pub c-in : c < rows
   pub e-in : e < rows
 
--- a grid, two of its rows, and an order of its places
-pub record ForSolvePivots (ones twos : List ℕ) (rows w r : ℕ) (order : List ℕ) (m x e : ℕ) : Type 0 where
+-- a grid, r rows of it and one past them, an order of its places, and the end of the part that has the pivots
+pub record ForSolvePivots (ones twos : List ℕ) (rows w r : ℕ) (order : List ℕ) (m e : ℕ) : Type 0 where
   pub grid : Rows ones twos rows w
   pub is-order : Order (length order) order
   pub small : length ones ≤ 4294967296
   pub narrow : w ≤ 65536
   pub places-fit : length order ≤ 64 * w
   pub front : m ≤ length order
+  pub enough : r ≤ m
   pub e-past : r ≤ e
   pub e-in : e < rows
-  pub x-in : x < rows
-  pub apart : x ≢ e

@@ -1,4 +1,4 @@
-// The walk along an order in a reduced matrix: the places passed over take what is supplied, the pivots their rows' products.
+// The walk along an order in a lowered matrix: the places passed over take what is supplied, and the pivots are solved from the last row to the first.
 ghost use mathlib.Core.Path.{_≡_};
 ghost use mathlib.Core.Bool.{cond};
 ghost use Prim.Native.Nat.{suc, _+_, _-_, _*_, _<_};
@@ -6,12 +6,13 @@ ghost use lib.ListN.{getD, take, drop};
 ghost use Rattle.trits.specs.Trit.{number, tritOf, putV, dotV, mulT, subT};
 ghost use Rattle.trits.specs.Planes.{tritAt};
 ghost use Rattle.trits.specs.Rows.{matrixAt};
-ghost use Rattle.matrix.specs.Linear.{times, fill};
+ghost use Rattle.matrix.specs.Linear.{fill};
+ghost use Rattle.matrix.specs.Steps.{backed};
 ghost use Rattle.grid.specs.Steps.{Grid, putRow};
-ghost use Rattle.draw_reduce.specs.Steps.{isNext, taken, passed};
+ghost use Rattle.draw_reduce.specs.Steps.{isNext, passed, pivotPlace};
 ghost use Rattle.scheme.specs.Draw.{forcedBy};
-ghost use Rattle.draw_walk.specs.Steps.{ForIsNext, ForSupplyPlace, ForSupply, ForForcedTrit, ForForcePlace, ForSupplyForced, ForSolvePlace};
-ghost use Rattle.draw_walk.specs.Steps.{ForSolvePivots};
+ghost use Rattle.draw_walk.specs.Steps.{ForIsNext, ForSupplyPlace, ForSupply, ForForcedTrit, ForForcePlace, ForSupplyForced, ForPivotPlace};
+ghost use Rattle.draw_walk.specs.Steps.{ForLessen, ForSolvePivots};
 
 // Whether place q has the next pivot, c of the r rows having theirs.
 pub fn is_next(
@@ -166,35 +167,54 @@ pub fn supply_forced(
     }
 }
 
-// One place of the walk that solves: the pivot of row c takes the product of row c and row x into row e.
-pub fn solve_place(
+// The place of row c's pivot: the first of the order's places at positions c to m - 1 at which the row is not 0; 0 where there is none.
+pub fn pivot_place(
+    ones: &[u64],
+    twos: &[u64],
+    rows: usize,
+    w: usize,
+    order: &[u16],
+    m: usize,
+    c: usize,
+) -> usize
+    requires { ⌜ ForPivotPlace (now ones) (now twos) rows w (now order) m c ⌝ }
+    ensures { λ q. ⌜ q ≡ pivotPlace (matrixAt w (now (ones .entry)) (now (twos .entry))) (take m (now (order .entry))) c ⌝ }
+    ensures { λ q. ⌜ q < 64 * w ⌝ }
+{
+    let mut i = c;
+    while i < m {
+        let q = order[i] as usize;
+        if planes::places::trit_at(ones, twos, 64 * (c * w) + q) != 0 {
+            return q;
+        }
+        i += 1;
+    }
+    0
+}
+
+// Place q of row e loses the product of rows c and e.
+pub fn lessen(
     ones: &mut [u64],
     twos: &mut [u64],
     rows: usize,
     w: usize,
-    r: usize,
-    c: usize,
     q: usize,
-    x: usize,
+    c: usize,
     e: usize,
-) -> usize
-    requires { ⌜ ForSolvePlace (now ones) (now twos) rows w r q x e ⌝ }
-    ensures { λ n. ⌜ n ≡ cond (isNext r (matrixAt w (now (ones .entry)) (now (twos .entry))) c q) (suc c) c ⌝ }
+)
+    requires { ⌜ ForLessen (now ones) (now twos) rows w q c e ⌝ }
     ensures { λ _. ⌜ Grid (now (ones .exit)) (now (twos .exit)) rows w
-        (putRow e (cond (isNext r (matrixAt w (now (ones .entry)) (now (twos .entry))) c q)
-        (putV (matrixAt w (now (ones .entry)) (now (twos .entry)) e) q
-        (dotV (matrixAt w (now (ones .entry)) (now (twos .entry)) c) (matrixAt w (now (ones .entry)) (now (twos .entry)) x) (64 * w)))
-        (matrixAt w (now (ones .entry)) (now (twos .entry)) e)) (matrixAt w (now (ones .entry)) (now (twos .entry)))) ⌝ }
+        (putRow e (putV (matrixAt w (now (ones .entry)) (now (twos .entry)) e) q
+        (subT (matrixAt w (now (ones .entry)) (now (twos .entry)) e q)
+        (dotV (matrixAt w (now (ones .entry)) (now (twos .entry)) c) (matrixAt w (now (ones .entry)) (now (twos .entry)) e) (64 * w))))
+        (matrixAt w (now (ones .entry)) (now (twos .entry)))) ⌝ }
 {
-    if is_next(ones, twos, rows, w, r, c, q) {
-        let t = grid::two_rows::row_dot(ones, twos, rows, w, c, x);
-        grid::places::put_at(ones, twos, rows, w, e, q, t);
-        return c + 1;
-    }
-    c
+    let t = grid::two_rows::row_dot(ones, twos, rows, w, c, e);
+    let v = planes::places::trit_at(ones, twos, 64 * (e * w) + q);
+    grid::places::put_at(ones, twos, rows, w, e, q, (v + 2 * t) % 3);
 }
 
-// The first m places of the order are walked, and the pivot of each row takes that row's product with row x into row e.
+// From row r - 1 to row 0: row e loses, at the place of that row's pivot, the product of the two rows.
 pub fn solve_pivots(
     ones: &mut [u64],
     twos: &mut [u64],
@@ -203,20 +223,19 @@ pub fn solve_pivots(
     r: usize,
     order: &[u16],
     m: usize,
-    x: usize,
     e: usize,
 )
-    requires { ⌜ ForSolvePivots (now ones) (now twos) rows w r (now order) m x e ⌝ }
+    requires { ⌜ ForSolvePivots (now ones) (now twos) rows w r (now order) m e ⌝ }
     ensures { λ _. ⌜ Grid (now (ones .exit)) (now (twos .exit)) rows w
-        (putRow e (fill (taken r (matrixAt w (now (ones .entry)) (now (twos .entry))) 0 (take m (now (order .entry))))
-        (times (64 * w) (matrixAt w (now (ones .entry)) (now (twos .entry))) (matrixAt w (now (ones .entry)) (now (twos .entry)) x))
+        (putRow e (backed (64 * w) (matrixAt w (now (ones .entry)) (now (twos .entry)))
+        (pivotPlace (matrixAt w (now (ones .entry)) (now (twos .entry))) (take m (now (order .entry)))) r
         (matrixAt w (now (ones .entry)) (now (twos .entry)) e)) (matrixAt w (now (ones .entry)) (now (twos .entry)))) ⌝ }
 {
-    let mut c = 0;
     let mut i = 0;
-    while i < m {
-        let q = order[i] as usize;
-        c = solve_place(ones, twos, rows, w, r, c, q, x, e);
+    while i < r {
         i += 1;
+        let c = r - i;
+        let q = pivot_place(ones, twos, rows, w, order, m, c);
+        lessen(ones, twos, rows, w, q, c, e);
     }
 }

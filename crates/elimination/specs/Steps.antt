@@ -16,13 +16,6 @@ pub record ForStep (ones twos : List ℕ) (rows w c at : ℕ) : Type 0 where
   pub column : c < 64 * w
   pub at-most : at ≤ rows
 
--- a grid, one of its columns, and the pivot's row
-pub record ForClearColumn (ones twos : List ℕ) (rows w c at : ℕ) : Type 0 where
-  pub grid : Rows ones twos rows w
-  pub small : length ones ≤ 4294967296
-  pub column : c < 64 * w
-  pub pivot : at < rows
-
 -- a grid, one of its columns, and a row that is not 0 there
 pub record ForScaleRow (ones twos : List ℕ) (rows w c at : ℕ) : Type 0 where
   pub grid : Rows ones twos rows w

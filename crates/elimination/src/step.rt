@@ -3,9 +3,10 @@ ghost use mathlib.Core.Path.{_≡_};
 ghost use mathlib.Core.Bool.{true};
 ghost use Prim.Native.Nat.{_*_, _<_};
 ghost use Rattle.trits.specs.Rows.{matrixAt};
-ghost use Rattle.matrix.specs.Steps.{pivotRow, hasPivot, stepOf, scaleRow, takeOut};
+ghost use Rattle.matrix.specs.Steps.{pivotRow, hasPivot, stepOf, scaleRow};
 ghost use Rattle.grid.specs.Steps.{Grid, clearRow, takenOut};
-ghost use Rattle.elimination.specs.Steps.{ForStep, ForClearColumn, ForScaleRow, ForClearRow, ForClearRows};
+ghost use Rattle.elimination.specs.Step.{Stepped};
+ghost use Rattle.elimination.specs.Steps.{ForStep, ForScaleRow, ForClearRow, ForClearRows};
 use grid::one_row;
 use grid::two_rows;
 
@@ -77,20 +78,12 @@ pub fn clear_rows(
     }
 }
 
-// The pivot's row `at`, whose trit at column c is 1, is taken from every other row so often that it has 0 there: the rows before it, then those after it.
-pub fn clear_column(ones: &mut [u64], twos: &mut [u64], rows: usize, w: usize, c: usize, at: usize)
-    requires { ⌜ ForClearColumn (now ones) (now twos) rows w c at ⌝ }
-    ensures { λ _. ⌜ Grid (now (ones .exit)) (now (twos .exit)) rows w (takeOut at c (matrixAt w (now (ones .entry)) (now (twos .entry)))) ⌝ }
-{
-    clear_rows(ones, twos, rows, w, c, at, 0, at);
-    clear_rows(ones, twos, rows, w, c, at, at + 1, rows);
-}
-
-// One column: where a row from `at` on has a trit there that is not 0, it comes to `at`, and the column is cleared in every other row.
+// One column: where a row from `at` on has a trit there that is not 0, it comes to `at`, and the column is cleared in the rows below.
 pub fn step(ones: &mut [u64], twos: &mut [u64], rows: usize, w: usize, c: usize, at: usize) -> bool
     requires { ⌜ ForStep (now ones) (now twos) rows w c at ⌝ }
     ensures { λ r. ⌜ r ≡ hasPivot rows at c (matrixAt w (now (ones .entry)) (now (twos .entry))) ⌝ }
     ensures { λ _. ⌜ Grid (now (ones .exit)) (now (twos .exit)) rows w (stepOf rows at c (matrixAt w (now (ones .entry)) (now (twos .entry)))) ⌝ }
+    ensures { λ r. ⌜ Stepped r rows w c at (now (ones .entry)) (now (twos .entry)) (now (ones .exit)) (now (twos .exit)) ⌝ }
 {
     let p = find_pivot(ones, twos, rows, w, c, at);
     if p == rows {
@@ -98,6 +91,6 @@ pub fn step(ones: &mut [u64], twos: &mut [u64], rows: usize, w: usize, c: usize,
     }
     two_rows::swap_rows(ones, twos, rows, w, at, p);
     scale_row(ones, twos, rows, w, c, at);
-    clear_column(ones, twos, rows, w, c, at);
+    clear_rows(ones, twos, rows, w, c, at, at + 1, rows);
     true
 }

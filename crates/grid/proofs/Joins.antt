@@ -1,5 +1,5 @@
 -- An operation on one row of a matrix in planes. Assumes nothing.
-use mathlib.Core.Path.{_≡_, refl, sym, ap, ap₂, _∙_, subst}
+use mathlib.Core.Path.{_≡_, refl, sym, ap, ap₂, _∙_, subst, fun-ext}
 use mathlib.Core.Logic.{_⊎_, inl, inr}
 use mathlib.Core.List.{List}
 use Prim.Native.Nat.{ℕ, _+_, _*_, _/_, _%_, _≤_, _<_}
@@ -10,17 +10,18 @@ use borrow.Rule.Slice.PartMut.{midOf, putMid}
 use lib.ListN.{length, getD, set, drop}
 use lib.Seq.{getD-drop}
 use lib.Bits.{bitAnd}
-use Rattle.trits.specs.Trit.{Trit, t0, t2, subT, negT, negV, zipAt, one, two}
+use Rattle.trits.specs.Trit.{Trit, t0, t2, addT, subT, negT, negV, zipV, zipAt, one, two}
 use Rattle.trits.specs.Planes.{bit, trit, tritAt, Apart, Reads}
 use Rattle.trits.specs.Rows.{matrixAt}
 use Rattle.trits.proofs.Reading.{tritAt-word}
+use Rattle.trits.proofs.Arithmetic.{add-comm}
 use Rattle.trits.proofs.WordOps.{WordOp, table, addOnes, addTwos, add-op}
 use Rattle.trits.proofs.Patches.{Patched, patch-none, patch-more, patch-here, zip-at, zip-below, zip-above, wordsAt, stretch-reads}
 use Rattle.trits.proofs.Parts.{part-back, part-trit}
 use Rattle.trits.proofs.Matrix.{row-le, rows-apart}
 use Rattle.matrix.specs.Linear.{Matrix}
 use Rattle.matrix.specs.Steps.{scaleRow}
-use Rattle.grid.specs.Steps.{Rows, Grid, joinRow}
+use Rattle.grid.specs.Steps.{Rows, Grid, putRow, joinRow}
 use Rattle.grid.proofs.Cells.{cell, cell-past, grid-by}
 
 -- ---- the planes from a word on
@@ -158,3 +159,11 @@ module _ {o₀ t₀ : List ℕ} {r : ℕ} (w i : ℕ) (g : Rows o₀ t₀ r w) (
       ∙ ap (λ (a : ℕ). tritAt o₀ t₀ (64 * (a * w) + q)) (sym d) ∙ sym (cell w o₀ t₀ n q l)) ∙ rw (eq-eqb n i d))
       (λ n q f. rw (ne-eqb n i f))
       (λ n q d l. rw (eq-eqb n i d, cell-past w o₀ t₀ n q l))
+
+-- row i is negated, and row j added to it
+pub taken-from : (i j : ℕ) (A : Matrix) → (i ≡ j → ⊥) → joinRow addT i j (scaleRow i t2 A) ≡ putRow i (zipV subT (A j) (A i)) A
+taken-from i j A f = fun-ext (λ k. fun-ext (λ q. by k q (ℕ-discrete k i)))
+  where
+    by : (k q : ℕ) → Dec (k ≡ i) → joinRow addT i j (scaleRow i t2 A) k q ≡ putRow i (zipV subT (A j) (A i)) A k q
+    by k q (yes e) = rw (eq-eqb k i e, ne-eqb j i (λ z. f (sym z))) (ap (λ (n : ℕ). addT (negT (A n q)) (A j q)) e ∙ add-comm (negT (A i q)) (A j q))
+    by k q (no g) = rw (ne-eqb k i g)

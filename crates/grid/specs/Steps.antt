@@ -10,7 +10,6 @@ use Rattle.trits.specs.Trit.{Trit, subT, mulT, zipV}
 use Rattle.trits.specs.Planes.{Row}
 use Rattle.trits.specs.Rows.{matrixAt}
 use Rattle.matrix.specs.Linear.{Vector, Matrix}
-use Rattle.matrix.specs.Steps.{takeOut}
 
 -- planes of r rows of w words that can be read
 pub record Rows (ones twos : List ℕ) (r w : ℕ) : Type 0 where
@@ -47,9 +46,9 @@ joinProduct op a i t v A = putRow a (zipV op (A a) (zipV mulT (A i) v)) (putRow 
 abbrev pub clearRow : ℕ → ℕ → ℕ → Matrix → Matrix
 clearRow i j q A k t = cond (eqb k i) (subT (A k t) (mulT (A k q) (A j t))) (A k t)
 
--- and so from each of the rows a, a + 1, .. b - 1, but for row j itself
+-- and so from each of the rows a, a + 1, .. b - 1, of which it is none
 abbrev pub takenOut : ℕ → ℕ → ℕ → ℕ → Matrix → Matrix
-takenOut a b j q A k t = cond (leb a k && ltb k b) (takeOut j q A k t) (A k t)
+takenOut a b j q A k t = cond (leb a k && ltb k b) (subT (A k t) (mulT (A k q) (A j t))) (A k t)
 
 -- a grid, one of its rows, and the row to put there
 pub record ForPutCopy (ones twos : List ℕ) (rows w j : ℕ) (ho ht : List ℕ) : Type 0 where

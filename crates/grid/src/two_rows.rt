@@ -1,10 +1,11 @@
-// Two rows of one matrix: exchanged, added, subtracted, and their dot product.
+// Two rows of one matrix: exchanged, added, subtracted, one taken from the other, and their dot product.
 ghost use mathlib.Core.Path.{_≡_};
 ghost use Prim.Native.Nat.{_*_, _<_};
-ghost use Rattle.trits.specs.Trit.{addT, subT, number, dotV};
+ghost use Rattle.trits.specs.Trit.{addT, subT, zipV, number, dotV};
 ghost use Rattle.trits.specs.Rows.{matrixAt};
 ghost use Rattle.matrix.specs.Steps.{swapRows};
-ghost use Rattle.grid.specs.Steps.{Grid, Swapped, joinRow, ForSwapPlane, ForSwapRows, ForRowDot, ForAddRows};
+ghost use Rattle.grid.specs.Steps.{Grid, Swapped, putRow, joinRow, ForSwapPlane, ForSwapRows, ForRowDot, ForAddRows};
+use super::one_row;
 
 // Rows a and b of one plane change places.
 pub fn swap_plane(plane: &mut [u64], rows: usize, w: usize, a: usize, b: usize)
@@ -76,6 +77,17 @@ pub fn sub_rows(ones: &mut [u64], twos: &mut [u64], rows: usize, w: usize, i: us
         twos[p] = (a | d) ^ t;
         k += 1;
     }
+}
+
+// Row i is taken from row j, and becomes what is left.
+pub fn take_from(ones: &mut [u64], twos: &mut [u64], rows: usize, w: usize, i: usize, j: usize)
+    requires { ⌜ ForAddRows (now ones) (now twos) rows w i j ⌝ }
+    ensures { λ _. ⌜ Grid (now (ones .exit)) (now (twos .exit)) rows w
+        (putRow i (zipV subT (matrixAt w (now (ones .entry)) (now (twos .entry)) j) (matrixAt w (now (ones .entry)) (now (twos .entry)) i))
+        (matrixAt w (now (ones .entry)) (now (twos .entry)))) ⌝ }
+{
+    one_row::negate(ones, twos, rows, w, i);
+    add_rows(ones, twos, rows, w, i, j);
 }
 
 // The dot product of rows i and j.

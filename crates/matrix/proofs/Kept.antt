@@ -1,4 +1,4 @@
--- Elimination as it is run keeps the pivots of the definition, and ends in a reduced matrix. Assumes nothing.
+-- Elimination as it is run keeps the pivots of the definition, and ends with 1 on their diagonal and 0 below. Assumes nothing.
 use mathlib.Core.Path.{_≡_, refl, sym, ap, _∙_, subst}
 use mathlib.Core.Bool.{Bool, true, false, cond}
 use mathlib.Core.List.{List, [], _∷_, _++_}
@@ -8,10 +8,11 @@ use lib.Dec.{eqb}
 use lib.ListN.{length, length-append}
 use Rattle.trits.specs.Trit.{t0, isSet}
 use Rattle.matrix.specs.Linear.{Matrix, elem, keep, pivots, rank}
-use Rattle.matrix.specs.Steps.{swapRows, clearRows, pivotRow, hasPivot, stepOf, Stage, tried, eliminate, eliminated, begun}
+use Rattle.matrix.specs.Steps.{pivoted, pivotRow, hasPivot, stepOf, Stage, tried, eliminate, eliminated, begun}
+use Rattle.matrix.specs.Passes.{Lowered}
 use Rattle.matrix.proofs.Places.{Below, elem-here, or-true-right}
 use Rattle.matrix.proofs.Greedy.{Kept, empty-kept, grow, keep-in, keep-out}
-use Rattle.matrix.proofs.Elimination.{Reduced, start-reduced, stepped-reduced, test-in, test-out}
+use Rattle.matrix.proofs.Elimination.{start-lowered, stepped-lowered, test-in, test-out}
 use Rattle.matrix.proofs.Steps.{has-row, has-none, step-has, step-none}
 
 -- the loop that finds the pivots
@@ -19,24 +20,24 @@ module _ (r n : ℕ) (H : Matrix) where
   pub record Pivoting (todo : List ℕ) (kept : List ℕ) (A : Matrix) (all : List ℕ) : Type 0 where
     pub result : keep r n H [] all ≡ keep r n H kept todo
     pub good : Kept r n H kept
-    pub reduced : Reduced r n H A kept
+    pub lowered : Lowered r n H A kept
 
   module _ (q : ℕ) (todo kept all : List ℕ) (A : Matrix) (h : q < n) (t : Pivoting (q ∷ todo) kept A all) where
     pub passed-over : ((i : ℕ) → length kept ≤ i → i < r → A i q ≡ t0) → Pivoting todo kept A all
     passed-over z = record {
-      result = t .result ∙ keep-in r n H kept q todo (test-in r n H A kept (t .good) (t .reduced) q h z);
+      result = t .result ∙ keep-in r n H kept q todo (test-in r n H A kept (t .good) (t .lowered) q h z);
       good = t .good;
-      reduced = t .reduced;
+      lowered = t .lowered;
     }
 
-    pub pivoted : (a : ℕ) → length kept ≤ a → a < r → isSet (A a q) ≡ true
-        → Pivoting todo (kept ++ (q ∷ [])) (clearRows (length kept) q (swapRows (length kept) a A)) all
-    pivoted a la ha z =
-        let out = test-out r n H A kept (t .good) (t .reduced) q h a la ha z in
+    pub took-pivot : (a : ℕ) → length kept ≤ a → a < r → isSet (A a q) ≡ true
+        → Pivoting todo (kept ++ (q ∷ [])) (pivoted (length kept) q a A) all
+    took-pivot a la ha z =
+        let out = test-out r n H A kept (t .good) (t .lowered) q h a la ha z in
         record {
           result = t .result ∙ keep-out r n H kept q todo out;
           good = grow r n H kept q h (t .good) out;
-          reduced = stepped-reduced r n H A kept (t .reduced) q a la ha z;
+          lowered = stepped-lowered r n H A kept (t .lowered) q a la ha z;
         }
 
 -- the laws of a try
@@ -61,7 +62,7 @@ unfolding eliminate
 eliminate-more r [] q s = refl
 eliminate-more r (p ∷ ps) q s = eliminate-more r ps q (tried r p s)
 
--- ---- the kept places are the pivots, and the matrix is reduced
+-- ---- the kept places are the pivots
 
 module _ (r n : ℕ) (H : Matrix) (all : List ℕ) where
   pivoting-try : (q : ℕ) (todo : List ℕ) (s : Stage) → q < n → Pivoting r n H (q ∷ todo) (s .kept) (s .cells) all
@@ -78,7 +79,7 @@ module _ (r n : ℕ) (H : Matrix) (all : List ℕ) where
       by true e =
           let f = has-row r (length (s .kept)) q (s .cells) e in
           rw (step-has r (length (s .kept)) q (s .cells) e, e)
-          (pivoted r n H q todo (s .kept) all (s .cells) h t (pivotRow r (s .cells) q (length (s .kept))) (f .0) (f .1) (f .2))
+          (took-pivot r n H q todo (s .kept) all (s .cells) h t (pivotRow r (s .cells) q (length (s .kept))) (f .0) (f .1) (f .2))
       by false e =
           rw (step-none r (length (s .kept)) q (s .cells) e, e)
           (passed-over r n H q todo (s .kept) all (s .cells) h t (has-none r (length (s .kept)) q (s .cells) e))
@@ -92,15 +93,15 @@ module _ (r n : ℕ) (H : Matrix) (all : List ℕ) where
 
 module _ (r n : ℕ) (H : Matrix) (ps : List ℕ) (b : Below n ps) where
   ended : Pivoting r n H [] (eliminate r ps (begun H) .kept) (eliminate r ps (begun H) .cells) ps
-  ended = pivoting-all r n H ps ps (begun H) b (record { result = refl; good = empty-kept r n H; reduced = start-reduced r n H })
+  ended = pivoting-all r n H ps ps (begun H) b (record { result = refl; good = empty-kept r n H; lowered = start-lowered r n H })
 
   pub eliminate-pivots : eliminate r ps (begun H) .kept ≡ pivots r n H ps
   unfolding pivots keep
   eliminate-pivots = sym (ended .result)
 
-  pub eliminated-reduced : Reduced r n H (eliminated r H ps) (pivots r n H ps)
+  pub eliminated-lowered : Lowered r n H (eliminated r H ps) (pivots r n H ps)
   unfolding eliminated
-  eliminated-reduced = subst (λ (l : List ℕ). Reduced r n H (eliminate r ps (begun H) .cells) l) eliminate-pivots (ended .reduced)
+  eliminated-lowered = subst (λ (l : List ℕ). Lowered r n H (eliminate r ps (begun H) .cells) l) eliminate-pivots (ended .lowered)
 
   pub eliminate-rank : length (eliminate r ps (begun H) .kept) ≡ rank r n H ps
   unfolding rank

@@ -3,10 +3,10 @@
 -- kept columns are independent, `pivots-kept` (Greedy), reach what all tried columns reach, `pivots-reach` (Rank), and are at most r, `rank-most` (Rank)
 -- rank r exactly when every right-hand side is reached: `rank-iff` (Greedy); the rank in any order is the same: `rank-order` (Rank)
 -- one solution for each right-hand side, whatever stands at the other places: `solve-exists`, `solve-unique` (Solutions)
--- elimination: same solutions after each row operation, `alike-swap`, `alike-clear`; kept
--- columns are unit columns, `stepped-reduced`; the span test, `reduced-span`;
--- the coefficients of a column, `reduced-column` (Elimination); it keeps the pivots,
--- `eliminate-pivots` (Kept); the value at each pivot, `solve-by-rows` (Values)
+-- row operations leave the span, `span-swap`, `span-scale`, `span-below`, `span-above`, and rows of the same span take vectors alike, `span-alike` (RowSpan)
+-- the first pass leaves 1 on the diagonal of the kept columns and 0 below, `stepped-lowered`, which is enough for the test of a column, `test-in`, `test-out`;
+-- the last pass makes them the identity, `raise-reduced`; the coefficients of a column, `reduced-column`, are then the only ones, `reduced-one` (Elimination)
+-- elimination keeps the pivots, `eliminate-pivots` (Kept); their values, from the last row on, `back-solves` (Values)
 pub mod Cases
 pub mod Field
 pub mod Dots
@@ -19,7 +19,8 @@ pub mod Sums
 pub mod Counts
 pub mod Rank
 pub mod Solutions
-pub mod Elimination
+pub mod RowSpan
 pub mod Steps
+pub mod Elimination
 pub mod Kept
 pub mod Values

@@ -1,15 +1,16 @@
 -- The steps of elimination as they are run: the search for a pivot's row, and the row operations of a step. Assumes nothing.
-use mathlib.Core.Path.{_≡_, refl, sym, ap, _∙_, fun-ext}
+use mathlib.Core.Path.{_≡_, refl, sym, ap, _∙_}
 use mathlib.Core.Bool.{Bool, true, false, cond}
 use Prim.Native.Nat.{ℕ, zero, suc, _+_, _-_, _≤_, _<_}
 use native.Mathlib.Numerals.{add-one}
 use native.Mathlib.Decide.{ℕ-discrete}
 use native.Mathlib.Omega.{arith}
 use borrow.Author.Tests.{eq-eqb, ne-eqb, lt-ltb, le-ltb, ltb-true, ltb-false}
-use Rattle.trits.specs.Trit.{t0, mulT, isSet}
-use Rattle.trits.proofs.Arithmetic.{mul-assoc, unset-zero}
+use Rattle.trits.specs.Trit.{Trit, t0, t1, subT, mulT, isSet}
+use Rattle.trits.proofs.Arithmetic.{add-neg, unset-zero}
 use Rattle.matrix.specs.Linear.{Matrix}
-use Rattle.matrix.specs.Steps.{swapRows, clearRows, scaleRow, takeOut, firstRow, pivotRow, hasPivot, stepOf}
+use Rattle.matrix.specs.Steps.{swapRows, scaleRow, pivoted, firstRow, pivotRow, hasPivot, stepOf}
+use Rattle.matrix.proofs.Field.{mul-one, square}
 
 -- ---- the search for a row
 
@@ -55,21 +56,34 @@ module _ (A : Matrix) (q : ℕ) where
           go i h l (yes d) = ap (λ (z : ℕ). A z q) d ∙ unset-zero (A at q) e
           go i h l (no d) = f .zeros i (omega arith) l
 
--- ---- the row operations of a step, one after another
+-- ---- a step
 
-pub take-scaled : (j q : ℕ) (A : Matrix) → isSet (A j q) ≡ true → takeOut j q (scaleRow j (A j q) A) ≡ clearRows j q A
-take-scaled j q A z = fun-ext (λ i. fun-ext (λ t. by i t (ℕ-discrete i j)))
-  where
-    by : (i t : ℕ) → Dec (i ≡ j) → takeOut j q (scaleRow j (A j q) A) i t ≡ clearRows j q A i t
-    by i t (yes e) = rw (eq-eqb i j e) (ap (λ (z : ℕ). mulT (A j q) (A z t)) e)
-    by i t (no f) = rw (ne-eqb i j f, eq-eqb j j refl, mul-assoc (A i q) (A j q) (A j t))
+module _ (j q a : ℕ) (A : Matrix) where
+  -- the rows above the pivot's are as they were
+  pub pivoted-above : (i t : ℕ) → j ≤ a → i < j → pivoted j q a A i t ≡ A i t
+  pivoted-above i t h l = rw (le-ltb j i (omega arith), ne-eqb i j (λ e. omega arith), ne-eqb i a (λ e. omega arith))
+
+  module _ (z : isSet (A a q) ≡ true) where
+    -- the pivot's row has 1 at the column
+    scaled-one : scaleRow j (A a q) (swapRows j a A) j q ≡ t1
+    scaled-one = rw (eq-eqb j j refl) (square (A a q) z)
+
+    pub pivoted-one : pivoted j q a A j q ≡ t1
+    pivoted-one = rw (le-ltb j j (omega arith)) scaled-one
+
+    -- and the rows below it have 0 there
+    pub pivoted-below : (i : ℕ) → j < i → pivoted j q a A i q ≡ t0
+    pivoted-below i l =
+        let S : Matrix = scaleRow j (A a q) (swapRows j a A) in
+        rw (lt-ltb j i l)
+        (ap (λ (x : Trit). subT (S i q) (mulT (S i q) x)) scaled-one ∙ ap (subT (S i q)) (mul-one (S i q)) ∙ add-neg (S i q))
 
 module _ (r at q : ℕ) (A : Matrix) where
   pub no-pivot : pivotRow r A q at ≡ r → (false ≡ hasPivot r at q A) × (A ≡ stepOf r at q A)
   unfolding hasPivot stepOf
   no-pivot e = let h = le-ltb (pivotRow r A q at) r (omega (arith, e)) in (sym h, rw h)
 
-  pub a-pivot : pivotRow r A q at < r → (true ≡ hasPivot r at q A) × (clearRows at q (swapRows at (pivotRow r A q at) A) ≡ stepOf r at q A)
+  pub a-pivot : pivotRow r A q at < r → (true ≡ hasPivot r at q A) × (pivoted at q (pivotRow r A q at) A ≡ stepOf r at q A)
   unfolding hasPivot stepOf
   a-pivot l = let h = lt-ltb (pivotRow r A q at) r l in (sym h, rw h)
 
@@ -88,13 +102,27 @@ module _ (r at q : ℕ) (A : Matrix) where
       let g = ltb-false (pivotRow r A q at) r e in
       first-found A q at (r - at) .zeros i h (omega arith)
 
-  pub step-has : hasPivot r at q A ≡ true → stepOf r at q A ≡ clearRows at q (swapRows at (pivotRow r A q at) A)
+  pub step-has : hasPivot r at q A ≡ true → stepOf r at q A ≡ pivoted at q (pivotRow r A q at) A
   unfolding stepOf
   step-has e = rw e
 
   pub step-none : hasPivot r at q A ≡ false → stepOf r at q A ≡ A
   unfolding stepOf
   step-none e = rw e
+
+  -- what a step leaves above its row, at it and below
+  pub step-above : (i t : ℕ) → i < at → stepOf r at q A i t ≡ A i t
+  step-above i t l = by (hasPivot r at q A) refl
+    where
+      by : (b : Bool) → hasPivot r at q A ≡ b → stepOf r at q A i t ≡ A i t
+      by true e = ap (λ (B : Matrix). B i t) (step-has e) ∙ pivoted-above at q (pivotRow r A q at) A i t (has-row e .0) l
+      by false e = ap (λ (B : Matrix). B i t) (step-none e)
+
+  pub step-one : hasPivot r at q A ≡ true → stepOf r at q A at q ≡ t1
+  step-one e = ap (λ (B : Matrix). B at q) (step-has e) ∙ pivoted-one at q (pivotRow r A q at) A (has-row e .2)
+
+  pub step-below : hasPivot r at q A ≡ true → (i : ℕ) → at < i → stepOf r at q A i q ≡ t0
+  step-below e i l = ap (λ (B : Matrix). B i q) (step-has e) ∙ pivoted-below at q (pivotRow r A q at) A (has-row e .2) i l
 
   -- the count stays within the rows
   pub count-room : at ≤ r → cond (hasPivot r at q A) (suc at) at ≤ r

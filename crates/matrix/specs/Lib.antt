@@ -1,5 +1,6 @@
--- The definitions, in reading order: vectors and matrices, orders of places, elimination as it is run.
+-- The definitions, in reading order: vectors and matrices, orders of places, the passes of a build, elimination as it is run.
 pub mod Linear
 pub mod Orders
+pub mod Passes
 pub mod Steps
 pub mod Cases

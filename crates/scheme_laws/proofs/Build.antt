@@ -13,7 +13,8 @@ use Rattle.trits.specs.Trit.{t0, addT, mulT, isSet, dotV}
 use Rattle.trits.proofs.Arithmetic.{mul-comm, mul-zero}
 use Rattle.matrix.specs.Linear.{Vector, Matrix, zeros, column, times, elem, fill, inSpan, orZeros}
 use Rattle.matrix.specs.Orders.{Order}
-use Rattle.matrix.specs.Steps.{swapRows, clearRows}
+use Rattle.matrix.specs.Passes.{Lowered, Reduced}
+use Rattle.matrix.specs.Steps.{pivoted}
 use Rattle.matrix.proofs.Dots.{dot-add, dot-mul, dot-zeros, dot-cong}
 use Rattle.matrix.proofs.Dimension.{Reaches}
 use Rattle.matrix.proofs.Places.{elem-append, elem-at, fill-at, times-places}
@@ -21,7 +22,7 @@ use Rattle.matrix.proofs.Search.{Spans, inSpan-iff}
 use Rattle.matrix.proofs.Greedy.{Kept, empty-kept, grow, unit-spans, kept-few, spans-many, spans-mono}
 use Rattle.matrix.proofs.Orders.{order-good, elem-index, index-elem}
 use Rattle.matrix.proofs.Solutions.{solve-exists}
-use Rattle.matrix.proofs.Elimination.{Reduced, start-reduced, stepped-reduced, test-in, test-out, reduced-column}
+use Rattle.matrix.proofs.Elimination.{start-lowered, stepped-lowered, test-in, test-out, reduced-column}
 use Rattle.scheme.specs.Build.{swap, Arrangement, arrange, arranged, rowOfR}
 
 -- ---- an exchange
@@ -222,7 +223,7 @@ module _ (r n : ℕ) (H : Matrix) (start : List ℕ) where
     pub todo : arranged r n H start ≡ arrange r n H f j order
     pub order-ok : Order n order
     pub kept : Kept r n H (take j order)
-    pub reduced : Reduced r n H A (take j order)
+    pub lowered : Lowered r n H A (take j order)
     pub room : j + f ≤ n
     pub rest : Rest r n H f j order
 
@@ -232,7 +233,7 @@ module _ (r n : ℕ) (H : Matrix) (start : List ℕ) where
     todo = refl;
     order-ok = o;
     kept = empty-kept r n H;
-    reduced = start-reduced r n H;
+    lowered = start-lowered r n H;
     room = omega arith;
     rest = λ i h l. absurd (omega arith);
   }
@@ -251,13 +252,13 @@ module _ (r n : ℕ) (H : Matrix) (start : List ℕ) where
           todo = t .todo ∙ step;
           order-ok = b .0;
           kept = b .1;
-          reduced = subst (λ l. Reduced r n H A l) (sym same) (t .reduced);
+          lowered = subst (λ l. Lowered r n H A l) (sym same) (t .lowered);
           room = omega (arith, t .room);
           rest = b .2;
         }
       where
         «in» : inSpan r n H (take j order) (column H (getD order j 0)) ≡ true
-        «in» = test-in r n H A (take j order) (t .kept) (t .reduced) (getD order j 0) low (λ i h l. z i (omega (arith, size)) l)
+        «in» = test-in r n H A (take j order) (t .kept) (t .lowered) (getD order j 0) low (λ i h l. z i (omega (arith, size)) l)
 
         step : arrange r n H (suc f) j order ≡ arrange r n H f j (swap j (j + f) order)
         step = arrange-back r n H f j order more «in»
@@ -269,38 +270,33 @@ module _ (r n : ℕ) (H : Matrix) (start : List ℕ) where
         same = take-set-le j (set order j (getD order (j + f) 0)) (j + f) (getD order j 0) (omega arith)
             ∙ take-set-le j order j (getD order (j + f) 0) (omega arith)
 
-    -- it has a trit in row a that is not 0: rows j and a change places and the column is cleared
-    pub taken : (a : ℕ) → j ≤ a → a < r → isSet (A a (getD order j 0)) ≡ true → State f (suc j) order (clearRows j (getD order j 0) (swapRows j a A))
+    -- it has a trit in row a that is not 0: row a comes to j and the column is cleared below it
+    pub taken : (a : ℕ) → j ≤ a → a < r → isSet (A a (getD order j 0)) ≡ true → State f (suc j) order (pivoted j (getD order j 0) a A)
     taken a la ha z =
         let b = next r n H f j order (t .order-ok) (t .kept) (t .room) (t .rest) out in
         record {
           todo = t .todo ∙ arrange-next r n H f j order more out;
           order-ok = t .order-ok;
           kept = b .0;
-          reduced = cleared;
+          lowered = cleared;
           room = omega (arith, t .room);
           rest = b .1;
         }
       where
         out : inSpan r n H (take j order) (column H (getD order j 0)) ≡ false
-        out = test-out r n H A (take j order) (t .kept) (t .reduced) (getD order j 0) low a (omega (arith, size)) ha z
+        out = test-out r n H A (take j order) (t .kept) (t .lowered) (getD order j 0) low a (omega (arith, size)) ha z
 
-        cleared : Reduced r n H (clearRows j (getD order j 0) (swapRows j a A)) (take (suc j) order)
+        cleared : Lowered r n H (pivoted j (getD order j 0) a A) (take (suc j) order)
         cleared =
-            subst (λ l. Reduced r n H (clearRows j (getD order j 0) (swapRows j a A)) l) (sym (take-suc order j 0 (omega (arith, t .order-ok .size, t .room))))
-            (subst (λ m. Reduced r n H (clearRows m (getD order j 0) (swapRows m a A)) (take j order ++ (getD order j 0 ∷ []))) size
-            (stepped-reduced r n H A (take j order) (t .reduced) (getD order j 0) a (omega (arith, size)) ha z))
+            subst (λ l. Lowered r n H (pivoted j (getD order j 0) a A) l) (sym (take-suc order j 0 (omega (arith, t .order-ok .size, t .room))))
+            (subst (λ m. Lowered r n H (pivoted m (getD order j 0) a A) (take j order ++ (getD order j 0 ∷ []))) size
+            (stepped-lowered r n H A (take j order) (t .lowered) (getD order j 0) a (omega (arith, size)) ha z))
 
   -- a column is left to try as long as too few are kept
   pub left : Reaches r n H → (f j : ℕ) (order : List ℕ) (A : Matrix) → State f j order A → (j ≡ r → ⊥) → f ≡ 0 → ⊥
   left a zero j order A t more e = more (ended r n H j order a (t .order-ok) (t .kept) (omega (arith, t .room)) (t .rest))
   left a (suc f) j order A t more e = omega arith
 
-  -- the end: the order is the one that the definition gives, and the key stands in A
-  pub finished : (f : ℕ) (order : List ℕ) (A : Matrix) → State f r order A
-      → (arranged r n H start ≡ record { kept = r; order = order }) × ((i c : ℕ) → c < r → r + i < n → rowOfR r n H order i c ≡ A c (getD order (r + i) 0))
-  finished f order A t = (
-    t .todo ∙ arrange-stop r n H f r order refl,
-    λ i c h l. reduced-key r n H A order (t .kept) (t .reduced) (omega (arith, t .order-ok .size)) i c h
-        (order-good n order (t .order-ok) .1 (getD order (r + i) 0) (elem-at order (r + i) (omega (arith, t .order-ok .size)))),
-  )
+  -- the end: the order is the one that the definition gives
+  pub finished : (f : ℕ) (order : List ℕ) (A : Matrix) → State f r order A → arranged r n H start ≡ record { kept = r; order = order }
+  finished f order A t = t .todo ∙ arrange-stop r n H f r order refl

@@ -10,16 +10,14 @@ use lib.Dec.{eqb}
 use lib.ListN.{length, getD, take, drop, length-drop, take-append-drop}
 use Rattle.trits.specs.Trit.{Trit, isSet, weightV}
 use Rattle.trits.proofs.Refusals.{passed-demand}
-use Rattle.matrix.specs.Linear.{Vector, Matrix, zeros, times, elem, orZeros, fill, rank, without}
+use Rattle.matrix.specs.Linear.{Vector, times, elem, rank}
 use Rattle.matrix.specs.Orders.{Distinct, Order, isOrder}
-use Rattle.matrix.proofs.Places.{Below, elem-append, fill-at, fill-off, or-cases, or-true-right}
+use Rattle.matrix.proofs.Places.{Below, elem-append, fill-at, or-cases, or-true-right}
 use Rattle.matrix.proofs.Search.{Off}
 use Rattle.matrix.proofs.Greedy.{Kept, pivots-kept, pivots-elem}
 use Rattle.matrix.proofs.Orders.{order-good, elem-index, order-test, test-order}
-use Rattle.matrix.proofs.Counts.{Within, Disjoint, distinct-parts, without-none}
+use Rattle.matrix.proofs.Counts.{Within, Disjoint, distinct-parts}
 use Rattle.matrix.proofs.Solutions.{solve-exists}
-use Rattle.matrix.proofs.Elimination.{Reduced}
-use Rattle.matrix.proofs.Values.{solve-by-rows}
 use Rattle.matrix.proofs.Field.{refuted}
 use Rattle.scheme.specs.declared.sizes.Sizes.{Sizes}
 use Rattle.scheme.specs.Sizes.{half, places, ru, rv, gapV, gapU}
@@ -157,28 +155,3 @@ module _ (z : Sizes) (s : Secret) (ch : Choices) (va : Valid z ch) where
     pub last-pair : (q : ℕ) → elem q (lastU z ch) ≡ true → (isSet (leftOf s (drawU z s x eV ch) eV q) ≡ true)
         × (isSet (rightOf s (drawU z s x eV ch) eV q) ≡ true)
     last-pair q m = let t = last-value q m in forced-pair s (drawU z s x eV ch) eV q (t .0) (unit q (last-below q m)) (t .1) (t .2)
-
--- ---- what elimination computes for it
-
--- the pivots are not among the other places
-skipped : (piv ps : List ℕ) (v w : Vector) (q : ℕ) → elem q piv ≡ true → fill (without piv ps) v w q ≡ w q
-skipped piv ps v w q m = fill-off (without piv ps) v w q (without-none piv ps q m)
-
-module _ (z : Sizes) (s : Secret) (ch : Choices) (va : Valid z ch) where
-  -- with the matrix reduced at the pivots, the value at the pivot of row c is row c times x less what is supplied
-  pub drawV-rows : (A : Matrix) (x : Vector) → Reduced (rv z) (half z) (s .hv) A (pivotsV z s ch) → length (pivotsV z s ch) ≡ rv z
-      → drawV z s x ch ≡ fill (pivotsV z s ch) (times (half z) A (λ q. Rattle.trits.specs.Trit.subT (x q) (suppliedV z s ch q))) (suppliedV z s ch)
-  unfolding drawV suppliedV
-  drawV-rows A x d full =
-      ap orZeros
-      (solve-by-rows (rv z) (half z) (s .hv) A (pivotsV z s ch) (keptV z s ch va) d full x (suppliedV z s ch)
-      (λ q m. skipped (pivotsV z s ch) (ch .orderV) (ch .tritsV) zeros q m))
-
-  pub drawU-rows : (A : Matrix) (x eV : Vector) → Reduced (ru z) (half z) (s .hu) A (pivotsU z s ch) → length (pivotsU z s ch) ≡ ru z
-      → drawU z s x eV ch ≡ fill (pivotsU z s ch) (times (half z) A (λ q. Rattle.trits.specs.Trit.subT (x q) (suppliedU z s eV ch q))) (suppliedU z s eV ch)
-  unfolding drawU suppliedU
-  drawU-rows A x eV d full =
-      ap orZeros
-      (solve-by-rows (ru z) (half z) (s .hu) A (pivotsU z s ch) (keptU z s ch va) d full x (suppliedU z s eV ch)
-      (λ q m. fill-off (lastU z ch) (λ j. forced s eV (getD (lastU z ch) j 0) (ch .valuesU (gapU z + j))) _ q (last-apart z s ch va q m)
-      ∙ skipped (pivotsU z s ch) (firstU z ch) (ch .valuesU) zeros q m))

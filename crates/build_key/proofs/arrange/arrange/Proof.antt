@@ -1,137 +1,70 @@
--- Each turn does what the column rule says (`arrange-turn`), and a column is left as long as too few are kept (`turn-facts`).
+-- The first pass leaves what the last one asks for (`lowered-left`), and R stands in the other columns after both (`both-keyed`).
 -- Assumes nothing.
-use Rattle.build_key.proofs.Arranging.{Arranging, Facts, turn-facts, arrange-none, arrange-some, arrange-turn, arrange-done, col-below}
-use Rattle.build_matrix.specs.Steps.{placedAt}
-use denote.Ref.{now}
-use lib.ListN.{length, getD}
 use native.Mathlib.Omega.{arith}
-use mathlib.Core.Path.{sym, subst}
-use Prim.Native.Nat.{ℕ, _*_, _<_}
+use borrow.Author.Needs.{needs}
+use denote.Ref.{now}
+use Rattle.build_matrix.specs.Steps.{placedAt}
+use Rattle.build_key.proofs.LastPass.{lowered-left, order-left, order-size, rows-fit, both-keyed}
 use Rattle.build_key.proofs.arrange.arrange.Statement.{statement}
 use Rattle.build_key.proofs.arrange.arrange.Tie as tie
 
-abbrev Inv-loop : tie.InvT-loop
-Inv-loop ones₀ twos₀ rows w half hw order₀ j₀ left₀ ones twos order j left = Arranging rows half hw w (placedAt half hw w ones₀ twos₀) order₀ left j ones twos
-    order
-
-abbrev μ-loop : tie.MeasureT-loop
-μ-loop ones₀ twos₀ rows w half hw order₀ j₀ left₀ ones twos order j left = left
-
 -- The places that the answers look back to, each from a later one.
-abbrev start-from-in-loop : tie.In-loop Inv-loop μ-loop → tie.Start Inv-loop μ-loop
-start-from-in-loop c = c .before .before .before .before .before
+abbrev clear-below-from-clear-above-arg3 : tie.After-clear-above-arg3 → tie.After-clear-below
+clear-below-from-clear-above-arg3 c = c .before .before .before .before .before .before .before .before .before
 
-abbrev try-column-from-slice-known7 : tie.After-slice-known7 Inv-loop μ-loop → tie.After-try-column Inv-loop μ-loop
-try-column-from-slice-known7 c = c .before .before .before .before .before .before
+abbrev start-from-clear-below : tie.After-clear-below → tie.Start
+start-from-clear-below c = c .before .before .before .before .before .before .before
 
-abbrev in-loop-from-try-column : tie.After-try-column Inv-loop μ-loop → tie.In-loop Inv-loop μ-loop
-in-loop-from-try-column c = c .before .before .before .before .before .before
+abbrev clear-above-from-slice-known8 : tie.After-slice-known8 → tie.After-clear-above
+clear-above-from-slice-known8 c = c .before .before .before .before
 
-abbrev in-loop-from-slice-known7 : tie.After-slice-known7 Inv-loop μ-loop → tie.In-loop Inv-loop μ-loop
-in-loop-from-slice-known7 c = in-loop-from-try-column (try-column-from-slice-known7 c)
+clear-below-requires : tie.Need-clear-below-requires
+clear-below-requires c κs = search needs
 
-loop-holds : tie.Need-loop-holds Inv-loop μ-loop
-loop-holds c =
-    arrange-none _ _ (c .before .before .before .pre .grid) (c .before .before .before .pre .is-order)
-
-facts : (c : tie.In-loop Inv-loop μ-loop)
-    → Facts (c .before .loop .left) (c .before .loop .j) (length (now (c .before .before .before .before .before .args .order))) (c .before .loop .order)
-facts c = turn-facts (c .before .loop .inv) (start-from-in-loop c .pre .rank-full) (omega arith)
-
-sub-left : tie.Need-sub-left Inv-loop μ-loop
-sub-left c =
-    let f = facts (c) in
-    omega arith
-
-mul-q : tie.Need-mul-q Inv-loop μ-loop
-mul-q c =
-    let f = facts (c) in
-    omega arith
-
-slice-read-q : tie.Need-slice-read-q Inv-loop μ-loop
-slice-read-q c =
-    let f = facts (c .before) in
-    omega arith
-
-cast-q : tie.Need-cast-q Inv-loop μ-loop
-cast-q c =
-    omega (arith, c .slice-known4 .given (c .before .before .loop .j))
-
-column-requires : tie.Need-column-requires Inv-loop μ-loop
-column-requires c κs =
-    let f = facts (c .before) in
-    omega arith
-
-add-try-column : tie.Need-add-try-column Inv-loop μ-loop
-add-try-column c =
-    let f = facts (c .before .before .before .before .before) in
-    omega arith
-
-try-column-requires : tie.Need-try-column-requires Inv-loop μ-loop
-try-column-requires c κs =
-    let in-loop = c .before .before .before .before .before in
-    let at-loop = in-loop .before in
-    let start = at-loop .before .before .before .before in
-    let a = start .args in
-    let l = at-loop .loop in
-    let f = facts in-loop in
-    let h : c .before .before .before .column .result < 64 * a .w =
-    subst (λ (z : ℕ). z < 64 * a .w) (sym (c .before .before .before .column .ensures))
-    (col-below (a .half) (a .hw) (a .w) (getD (l .order) (l .j) 0) (omega arith) (omega arith) (omega arith)) in record {
-      grid = l .inv .rows;
-      small = omega (arith, l .inv .rows .size);
-      column = h;
-      row-next = omega arith;
-      to = omega arith;
-      from = omega arith;
+clear-above-requires : tie.Need-clear-above-requires
+clear-above-requires c κs =
+    let after-clear-below = clear-below-from-clear-above-arg3 c in
+    let s = start-from-clear-below after-clear-below in
+    let a = s .args in
+    let H = placedAt (a .half) (a .hw) (a .w) (now (a .ones)) (now (a .twos)) in
+    let e = after-clear-below .clear-below .ensures in record {
+      grid = e .1 .1;
+      small = omega (arith, e .1 .1 .size, s .pre .grid .size, s .pre .small);
+      half-fits = s .pre .half-fits;
+      words = s .pre .words;
+      places-fit = omega (arith, order-size (a .rows) H (s .pre .is-order) (s .pre .rank-full) (e .0), s .pre .places-fit);
+      half-small = s .pre .half-small;
+      is-order = order-left (a .rows) H (s .pre .is-order) (s .pre .rank-full) (e .0);
+      enough = rows-fit (a .rows) H (s .pre .is-order) (s .pre .rank-full) (e .0);
+      lowered = lowered-left (a .rows) _ _ (e .1 .0);
     }
 
-loop-less : tie.Need-loop-less Inv-loop μ-loop
-loop-less c =
-    let f = facts (in-loop-from-slice-known7 c) in
-    omega arith
+same-length : tie.Need-same-length
+same-length c = search needs
 
-loop-again : tie.Need-loop-again Inv-loop μ-loop
-loop-again c =
-    let after-try-column = try-column-from-slice-known7 c in
-    let after-column = after-try-column .before .before .before .before in
-    let in-loop = after-column .before .before in
-    let at-loop = in-loop .before in
-    let l = at-loop .loop in
-    let f = facts in-loop in
-    let e = after-try-column .try-column .ensures in
-    arrange-turn (arrange-some (l .inv) (f .some)) (omega arith) _ (after-column .column .ensures) (e .0) (e .1 .0) (e .1 .1)
+same-length-2 : tie.Need-same-length-2
+same-length-2 c = search needs
 
-same-length : tie.Need-same-length Inv-loop μ-loop
-same-length c = omega arith
+same-length-3 : tie.Need-same-length-3
+same-length-3 c = search needs
 
-same-length-2 : tie.Need-same-length-2 Inv-loop μ-loop
-same-length-2 c = omega arith
-
-same-length-3 : tie.Need-same-length-3 Inv-loop μ-loop
-same-length-3 c = omega arith
-
-returns : tie.Need-returns Inv-loop μ-loop
+returns : tie.Need-returns
 returns c =
-    let d = arrange-done (c .before .loop .inv) (omega arith) in
-    (d .0, (d .1, c .before .loop .inv .rows))
+    let after-clear-above = clear-above-from-slice-known8 c in
+    let after-clear-below = clear-below-from-clear-above-arg3 (after-clear-above .before) in
+    let s = start-from-clear-below after-clear-below in
+    let a = s .args in
+    let H = placedAt (a .half) (a .hw) (a .w) (now (a .ones)) (now (a .twos)) in
+    let e = after-clear-below .clear-below .ensures in
+    let f = after-clear-above .clear-above .ensures in
+    (e .0, (both-keyed (a .rows) H (s .pre .is-order) (s .pre .rank-full) (e .0) _ _ (e .1 .0) (f .0), f .1))
 
 pub arrange-spec : {M : Type 1} → statement M
 arrange-spec =
     tie.close
     (tie.spec
-    Inv-loop
-    μ-loop
-    loop-holds
-    sub-left
-    mul-q
-    slice-read-q
-    cast-q
-    column-requires
-    add-try-column
-    try-column-requires
-    loop-less
-    loop-again
+    clear-below-requires
+    clear-above-requires
     same-length
     same-length-2
     same-length-3

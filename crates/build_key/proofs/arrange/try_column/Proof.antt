@@ -1,7 +1,7 @@
 -- Where the step found a pivot the place is kept; otherwise it changes places.
 -- Assumes nothing.
 use borrow.Author.Needs.{needs}
-use Rattle.build_key.proofs.Arranging.{yes-list, no-list}
+use Rattle.build_key.proofs.Arranging.{yes-list, no-list, stepped-as}
 use mathlib.Core.Path.{refl, sym, _∙_}
 use Prim.Native.Nat.{_-_}
 use Rattle.matrix.proofs.Steps.{yes-count, no-count}
@@ -36,7 +36,7 @@ returns c =
     let start = start-from-step after-step in
     let e = after-step .step .ensures in
     let y = sym (e .0) ∙ c .if1 .taken in
-    (yes-count (start .args .j) y, (e .1, yes-list _ _ y refl))
+    (yes-count (start .args .j) y, (e .1 .0, (stepped-as (e .0) (e .1 .1), yes-list _ _ y refl)))
 
 exchange-requires : tie.Need-exchange-requires
 exchange-requires c κs = search needs
@@ -57,7 +57,7 @@ returns-2 c =
     let start = start-from-step after-step in
     let e = after-step .step .ensures in
     let y = sym (e .0) ∙ else1 .if1 .left in
-    (no-count (start .args .j) y, (e .1, no-list _ _ y (c .before .before .exchange .ensures)))
+    (no-count (start .args .j) y, (e .1 .0, (stepped-as (e .0) (e .1 .1), no-list _ _ y (c .before .before .exchange .ensures))))
 
 pub try-column-spec : {M : Type 1} → statement M
 try-column-spec =

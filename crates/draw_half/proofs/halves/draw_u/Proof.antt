@@ -1,4 +1,4 @@
--- After the five steps row e is the word of the definition (`halfU-done`); there are values enough (`roomU`).
+-- After the four steps row e is the word of the definition (`halfU-done`); there are values enough (`roomU`).
 -- Assumes nothing.
 use borrow.Author.Needs.{needs}
 use Rattle.draw_half.proofs.HalfWords.{lacks-rank, has-rank, not-solved, is-solved, roomU, halfU-done}
@@ -35,8 +35,8 @@ start-from-else1 c = start-from-reduce (reduce-from-else1 c)
 abbrev start-from-supply : tie.After-supply → tie.Start
 start-from-supply c = start-from-else1 (c .before .before .before)
 
-abbrev supply-forced-from-sub-rows-arg2 : tie.After-sub-rows-arg2 → tie.After-supply-forced
-supply-forced-from-sub-rows-arg2 c = c .before .before .before .before .before .before
+abbrev supply-forced-from-complete-arg2 : tie.After-complete-arg2 → tie.After-supply-forced
+supply-forced-from-complete-arg2 c = c .before .before .before .before .before .before
 
 abbrev supply-from-supply-forced : tie.After-supply-forced → tie.After-supply
 supply-from-supply-forced c = c .before .before .before .before .before .before .before
@@ -44,20 +44,8 @@ supply-from-supply-forced c = c .before .before .before .before .before .before 
 abbrev start-from-supply-forced : tie.After-supply-forced → tie.Start
 start-from-supply-forced c = start-from-supply (supply-from-supply-forced c)
 
-abbrev sub-rows-from-solve-pivots-arg2 : tie.After-solve-pivots-arg2 → tie.After-sub-rows
-sub-rows-from-solve-pivots-arg2 c = c .before .before .before .before .before .before
-
-abbrev supply-forced-from-sub-rows : tie.After-sub-rows → tie.After-supply-forced
-supply-forced-from-sub-rows c = c .before .before .before .before .before .before .before
-
-abbrev start-from-sub-rows : tie.After-sub-rows → tie.Start
-start-from-sub-rows c = start-from-supply-forced (supply-forced-from-sub-rows c)
-
-abbrev sub-rows-from-solve-pivots : tie.After-solve-pivots → tie.After-sub-rows
-sub-rows-from-solve-pivots c = c .before .before .before .before .before .before .before
-
-abbrev start-from-solve-pivots : tie.After-solve-pivots → tie.Start
-start-from-solve-pivots c = start-from-sub-rows (sub-rows-from-solve-pivots c)
+abbrev start-from-complete : tie.After-complete → tie.Start
+start-from-complete c = start-from-supply-forced (supply-forced-from-complete-arg2 (c .before))
 
 -- the matrix of the half, and the working rows at the entry
 abbrev H : tie.Start → Matrix
@@ -140,51 +128,41 @@ supply-forced-requires c κs =
       gap = omega arith;
     }
 
-sub-rows-requires : tie.Need-sub-rows-requires
-sub-rows-requires c κs =
-    let after-supply-forced = supply-forced-from-sub-rows-arg2 c in
-    let s = start-from-supply-forced after-supply-forced in record {
-      grid = after-supply-forced .supply-forced .ensures .rows;
-      i-in = s .pre .x-in;
-      j-in = s .pre .e-in;
-      apart = s .pre .apart;
-    }
-
-solve-pivots-requires : tie.Need-solve-pivots-requires
-solve-pivots-requires c κs =
-    let after-sub-rows = sub-rows-from-solve-pivots-arg2 c in
-    let s = start-from-sub-rows after-sub-rows in
-    let q = after-sub-rows .sub-rows .ensures in record {
+complete-requires : tie.Need-complete-requires
+complete-requires c κs =
+    let after-supply-forced = supply-forced-from-complete-arg2 c in
+    let s = start-from-supply-forced after-supply-forced in
+    let q = after-supply-forced .supply-forced .ensures in record {
       grid = q .rows;
       is-order = s .pre .is-order;
       small = omega (arith, q .rows .size, s .pre .grid .size, s .pre .small);
       narrow = s .pre .narrow;
       places-fit = s .pre .places-fit;
       front = s .pre .front;
+      enough = omega arith;
+      x-in = s .pre .x-in;
       e-past = s .pre .e-past;
       e-in = s .pre .e-in;
-      x-in = s .pre .x-in;
       apart = s .pre .apart;
     }
 
 same-length-3 : tie.Need-same-length-3
 same-length-3 c =
-    let after-solve-pivots = c .before .before .before .before in
-    let s = start-from-solve-pivots after-solve-pivots in
-    omega (arith, after-solve-pivots .solve-pivots .ensures .rows .size, s .pre .grid .size)
+    let after-complete = c .before .before .before .before in
+    let s = start-from-complete after-complete in
+    omega (arith, after-complete .complete .ensures .rows .size, s .pre .grid .size)
 
 same-length-4 : tie.Need-same-length-4
 same-length-4 c =
-    let after-solve-pivots = c .before .before .before .before in
-    let s = start-from-solve-pivots after-solve-pivots in
-    let q = after-solve-pivots .solve-pivots .ensures .rows in
+    let after-complete = c .before .before .before .before in
+    let s = start-from-complete after-complete in
+    let q = after-complete .complete .ensures .rows in
     omega (arith, q .size, q .row .same, s .pre .grid .size, s .pre .grid .row .same)
 
 returns-2 : tie.Need-returns-2
 returns-2 c =
-    let after-solve-pivots = c .before .before .before .before in
-    let after-sub-rows = sub-rows-from-solve-pivots after-solve-pivots in
-    let after-supply-forced = supply-forced-from-sub-rows after-sub-rows in
+    let after-complete = c .before .before .before .before in
+    let after-supply-forced = supply-forced-from-complete-arg2 (after-complete .before) in
     let after-supply = supply-from-supply-forced after-supply-forced in
     let else1 = after-supply .before .before .before in
     let after-reduce = reduce-from-else1 else1 in
@@ -192,14 +170,14 @@ returns-2 c =
     let a = s .args in
     let q = after-reduce .reduce .ensures in
     let p = s .pre in
-    let l = after-solve-pivots .solve-pivots .ensures in (
+    let l = after-complete .complete .ensures in (
       has-rank (q .0) (else1 .if1 .left),
       (
         l .rows,
         is-solved (halfU-done (a .r) (a .g) (H s) (A s) (now (a .order)) (p .is-order) (a .x) (a .e) (64 * a .w) (p .x-past) (p .e-past) (p .apart) (full else1)
             (tritAt (now (a .bo)) (now (a .bt))) (tritAt (now (a .co)) (now (a .ct))) (tritAt (now (a .uo)) (now (a .ut)))
             (a .ev) (p .e-zero) (p .ev-past) (p .ev-apart) (p .x-ends) (p .places-fit) (q .1 .cells)
-            (after-supply .supply .ensures .cells) (after-supply-forced .supply-forced .ensures .cells) (after-sub-rows .sub-rows .ensures .cells) (l .cells)),
+            (after-supply .supply .ensures .cells) (after-supply-forced .supply-forced .ensures .cells) (l .cells)),
       ),
     )
 
@@ -214,8 +192,7 @@ draw-u-spec =
     returns
     supply-requires
     supply-forced-requires
-    sub-rows-requires
-    solve-pivots-requires
+    complete-requires
     same-length-3
     same-length-4
     returns-2)

@@ -43,7 +43,7 @@ returns c =
     let after-step = step-from-then1 c in
     let start = start-from-step after-step in
     let e = after-step .step .ensures in
-    (yes-count (start .args .at) (sym (e .0) ∙ c .if1 .taken), e .1)
+    (yes-count (start .args .at) (sym (e .0) ∙ c .if1 .taken), e .1 .0)
 
 same-length-3 : tie.Need-same-length-3
 same-length-3 c = search needs
@@ -56,7 +56,7 @@ returns-2 c =
     let after-step = step-from-else1 c in
     let start = start-from-step after-step in
     let e = after-step .step .ensures in
-    (no-count (start .args .at) (sym (e .0) ∙ c .if1 .left), e .1)
+    (no-count (start .args .at) (sym (e .0) ∙ c .if1 .left), e .1 .0)
 
 pub count-column-spec : {M : Type 1} → statement M
 count-column-spec =

@@ -6,7 +6,7 @@ use denote.Ref.{now}
 use Rattle.trits.specs.Rows.{matrixAt}
 use Rattle.grid.specs.Steps.{Grid, takenOut}
 use Rattle.grid.proofs.Cells.{grid-of}
-use Rattle.elimination.proofs.Clears.{apart-from, taken-none, rows-turn, rows-done}
+use Rattle.elimination.proofs.Clears.{apart-from, part-beside, taken-none, rows-turn, rows-done}
 use Rattle.elimination.proofs.step.clear_rows.Statement.{statement}
 use Rattle.elimination.proofs.step.clear_rows.Tie as tie
 use Rattle.elimination.proofs.step.clear_rows.Reads as reads
@@ -54,7 +54,7 @@ loop-again c =
     let l = at-loop .loop in (
       (omega arith, omega arith),
       rows-turn (a .at) (a .c) (matrixAt (a .w) (now (a .ones)) (now (a .twos))) (a .from) (l .inv .1) (l .inv .0 .0)
-          (apart-from (s .pre .beside) (l .inv .0 .0) (omega arith)) (after-clear-row .clear-row .ensures),
+          (part-beside (s .pre .beside) (omega arith)) (after-clear-row .clear-row .ensures),
     )
 
 same-length : tie.Need-same-length Inv-loop μ-loop

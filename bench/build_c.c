@@ -52,13 +52,14 @@ static uint64_t c_build(wave_sizes z, const uint64_t *hu_ones, size_t, const uin
         }
         for (size_t i = 0; i < k; i++) {
             size_t q = p[rows + i], c = q < half ? q : 64 * hw + q - half;
-            uint64_t *o = key_ones + i * kw, *t = key_twos + i * kw;
-            memset(o, 0, 8 * kw);
-            memset(t, 0, 8 * kw);
-            for (size_t r = 0; r < rows; r++) {
-                int x = at(work_ones, work_twos, 64 * r * w + c);
-                if (x == 1) o[r / 64] |= (uint64_t)1 << r % 64;
-                if (x == 2) t[r / 64] |= (uint64_t)1 << r % 64;
+            for (size_t g = 0; g < kw; g++) {
+                uint64_t ones = 0, twos = 0;
+                for (size_t b = 0, r = 64 * g; b < 64 && r < rows; b++, r++) {
+                    ones |= (work_ones[r * w + c / 64] >> c % 64 & 1) << b;
+                    twos |= (work_twos[r * w + c / 64] >> c % 64 & 1) << b;
+                }
+                key_ones[i * kw + g] = ones;
+                key_twos[i * kw + g] = twos;
             }
         }
     }

@@ -1,23 +1,102 @@
--- The key's rows, written one after another: each is read down one column. Assumes nothing.
-use mathlib.Core.Path.{_≡_, refl, sym, ap, ap₂, _∙_, subst}
+-- The key's rows, written one after another, each word by word: its bits are read down one column. Assumes nothing.
+use mathlib.Core.Path.{_≡_, refl, sym, ap, ap₂, _∙_, subst, fun-ext}
+use mathlib.Core.Bool.{Bool, true, false, cond}
 use mathlib.Core.List.{List, [], _∷_, _++_, append-nil, append-assoc}
-use Prim.Native.Nat.{ℕ, zero, suc, _+_, _*_, _<_}
+use Prim.Native.Nat.{ℕ, zero, suc, _+_, _-_, _*_, _/_, _%_, _^_, _≤_, _<_}
 use native.Mathlib.Nat.{suc-mul}
 use native.Mathlib.Numerals.{add-one}
+use native.Mathlib.Decide.{decLt}
 use native.Mathlib.Omega.{arith}
+use borrow.Author.Tests.{lt-ltb, le-ltb}
 use borrow.Rule.Slice.PartMut.{putMid}
+use lib.Dec.{ltb}
 use lib.ListN.{length, getD, take, drop, drop-of-length-le}
+use lib.Pow.{pow-mono}
 use lib.Seq.{drop-drop}
-use Rattle.trits.specs.Trit.{upTo}
-use Rattle.trits.specs.Planes.{onesOf, twosOf}
+use Rattle.trits.specs.Trit.{one, two, upTo}
+use Rattle.trits.specs.Planes.{bit, fromBits, tritAt, onesWord, twosWord, onesOf, twosOf}
 use Rattle.trits.specs.Rows.{matrixAt, rowsOf}
-use Rattle.trits.proofs.Reading.{length-ones, length-twos}
-use Rattle.trits.proofs.Ends.{upto-same}
+use Rattle.trits.proofs.Bits.{bit-lt, from-lt}
+use Rattle.trits.proofs.Reading.{length-ones, length-twos, coded-at}
+use Rattle.trits.proofs.Ends.{upto-in, upto-out, upto-same}
 use Rattle.trits.proofs.Matrix.{length-rows}
 use Rattle.matrix.specs.Linear.{Matrix, column}
+use Rattle.grid.specs.Steps.{Rows}
+use Rattle.grid.proofs.Cells.{cell}
 use Rattle.scheme.specs.Build.{rowOfR}
 use Rattle.build_matrix.specs.Steps.{colOf, placedAt}
-use Rattle.build_key.specs.Steps.{Keyed, readDown, keyOnes, keyTwos}
+use Rattle.build_key.specs.Steps.{Keyed, readDown, bitDown, wordDown, keyOnes, keyTwos}
+
+-- ---- a word, made of its bits from the last to the first
+
+module _ (f : ℕ → ℕ) where
+  -- none of the 64 is there yet
+  pub bits-none : (b : ℕ) → b ≡ 64 → 0 ≡ fromBits (λ k. f (b + k)) (64 - b)
+  unfolding fromBits
+  bits-none b e = rw e
+
+  module _ {b x : ℕ} (h : 0 < b) (l : b ≤ 64) (e : x ≡ fromBits (λ k. f (b + k)) (64 - b)) where
+    -- there is room for one more
+    pub bits-room : ((i : ℕ) → f i < 2) → x < 2 ^ 63
+    bits-room d = omega (arith, e, from-lt (64 - b) (λ k. f (b + k)) (λ k. d (b + k)), pow-mono {i = 64 - b} {j = 63} (omega arith))
+
+    pub bits-more : {y : ℕ} → y ≡ f (b - 1) → 2 * x + y ≡ fromBits (λ k. f (b - 1 + k)) (64 - (b - 1))
+    unfolding fromBits
+    bits-more {y} g =
+        let n : 64 - (b - 1) ≡ suc (64 - b) = omega arith in
+        let z : b - 1 ≡ b - 1 + 0 = omega arith in
+        let s : fromBits (λ k. f (b + k)) (64 - b) ≡ fromBits (λ k. f (b - 1 + suc k)) (64 - b) =
+        ap (λ (v : ℕ → ℕ). fromBits v (64 - b)) (fun-ext (λ k. ap f (omega arith))) in
+        omega (arith, e, g, s, ap f z, ap (fromBits (λ k. f (b - 1 + k))) n)
+
+  -- all of them are
+  pub bits-all : {b x : ℕ} → b ≡ 0 → x ≡ fromBits (λ k. f (b + k)) (64 - b) → x ≡ fromBits f 64
+  bits-all {b} {x} z e = e ∙ ap₂ (λ (v : ℕ → ℕ) (n : ℕ). fromBits v n) (fun-ext (λ k. ap f (omega arith))) (omega arith)
+
+-- ---- the bits down a column are those of its trits
+
+pub down-lt : (plane : List ℕ) (rows w c i : ℕ) → bitDown plane rows w c i < 2
+unfolding bitDown
+down-lt plane rows w c i = by (ltb i rows)
+  where
+    by : (t : Bool) → cond t (bit (c % 64) (getD plane (i * w + c / 64) 0)) 0 < 2
+    by true = bit-lt (c % 64) (getD plane (i * w + c / 64) 0)
+    by false = omega arith
+
+module _ {ones twos : List ℕ} {r w : ℕ} (g : Rows ones twos r w) (c : ℕ) (h : c < 64 * w) where
+  module _ (i : ℕ) where
+    here : i < r → (bit (c % 64) (getD ones (i * w + c / 64) 0) ≡ one (upTo r (column (matrixAt w ones twos) c) i))
+        × (bit (c % 64) (getD twos (i * w + c / 64) 0) ≡ two (upTo r (column (matrixAt w ones twos) c) i))
+    here l =
+        let k = coded-at ones twos (g .row .apart) (i * w + c / 64) (c % 64) (omega arith) in
+        let p : 64 * (i * w + c / 64) + c % 64 ≡ 64 * (i * w) + c = omega arith in
+        let t : tritAt ones twos (64 * (i * w + c / 64) + c % 64) ≡ upTo r (column (matrixAt w ones twos) c) i =
+        ap (tritAt ones twos) p ∙ sym (cell w ones twos i c h) ∙ sym (upto-in (column (matrixAt w ones twos) c) r i l) in
+        (k .0 ∙ ap one t, k .1 ∙ ap two t)
+
+    ones-bit : bitDown ones r w c i ≡ one (upTo r (column (matrixAt w ones twos) c) i)
+    unfolding bitDown
+    ones-bit = by (decLt i r)
+      where
+        by : Dec (i < r) → cond (ltb i r) (bit (c % 64) (getD ones (i * w + c / 64) 0)) 0 ≡ one (upTo r (column (matrixAt w ones twos) c) i)
+        by (yes l) = rw (lt-ltb i r l) (here l .0)
+        by (no l) = rw (le-ltb i r (omega arith)) (sym (ap one (upto-out (column (matrixAt w ones twos) c) r i (omega arith))))
+
+    twos-bit : bitDown twos r w c i ≡ two (upTo r (column (matrixAt w ones twos) c) i)
+    unfolding bitDown
+    twos-bit = by (decLt i r)
+      where
+        by : Dec (i < r) → cond (ltb i r) (bit (c % 64) (getD twos (i * w + c / 64) 0)) 0 ≡ two (upTo r (column (matrixAt w ones twos) c) i)
+        by (yes l) = rw (lt-ltb i r l) (here l .1)
+        by (no l) = rw (le-ltb i r (omega arith)) (sym (ap two (upto-out (column (matrixAt w ones twos) c) r i (omega arith))))
+
+  pub ones-word : (j : ℕ) → wordDown ones r w c (64 * j) ≡ onesWord (upTo r (column (matrixAt w ones twos) c)) j
+  unfolding wordDown
+  ones-word j = ap (λ (f : ℕ → ℕ). fromBits f 64) (fun-ext (λ b. ones-bit (64 * j + b)))
+
+  pub twos-word : (j : ℕ) → wordDown twos r w c (64 * j) ≡ twosWord (upTo r (column (matrixAt w ones twos) c)) j
+  unfolding wordDown
+  twos-word j = ap (λ (f : ℕ → ℕ). fromBits f 64) (fun-ext (λ b. twos-bit (64 * j + b)))
 
 -- ---- rows of words, one after another
 

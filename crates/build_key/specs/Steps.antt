@@ -1,10 +1,12 @@
 -- The key in the arranged work matrix, which stays in secret places. No rule of the paper: code is tied to it. Assumes nothing.
 use mathlib.Core.Path.{_≡_}
+use mathlib.Core.Bool.{cond}
 use mathlib.Core.List.{List}
-use Prim.Native.Nat.{ℕ, _+_, _*_, _≤_, _<_}
+use Prim.Native.Nat.{ℕ, _+_, _*_, _/_, _%_, _≤_, _<_}
+use lib.Dec.{ltb}
 use lib.ListN.{getD, length, take}
 use Rattle.trits.specs.Trit.{upTo}
-use Rattle.trits.specs.Planes.{onesOf, twosOf, Reads}
+use Rattle.trits.specs.Planes.{bit, fromBits, onesOf, twosOf}
 use Rattle.trits.specs.Rows.{rowsOf, matrixAt}
 use Rattle.matrix.specs.Linear.{Vector, Matrix, column, rank, range}
 use Rattle.matrix.specs.Orders.{Order}
@@ -27,6 +29,14 @@ keyOnes k kw r N hw A p = rowsOf (λ i. onesOf (readDown r N hw A p i) kw) k
 
 unfoldable pub keyTwos : ℕ → ℕ → ℕ → ℕ → ℕ → Matrix → List ℕ → List ℕ
 keyTwos k kw r N hw A p = rowsOf (λ i. twosOf (readDown r N hw A p i) kw) k
+
+-- in one plane of w words to a row: the bit of column c in row i, 0 past the last row
+unfoldable pub bitDown : List ℕ → ℕ → ℕ → ℕ → ℕ → ℕ
+bitDown plane rows w c i = cond (ltb i rows) (bit (c % 64) (getD plane (i * w + c / 64) 0)) 0
+
+-- and the bits of the 64 rows from row i on, as a word
+unfoldable pub wordDown : List ℕ → ℕ → ℕ → ℕ → ℕ → ℕ
+wordDown plane rows w c i = fromBits (λ b. bitDown plane rows w c (i + b)) 64
 
 -- a half of so many places in so many words, and a place of both halves
 pub record ForColumn (q half hw : ℕ) : Type 0 where
@@ -66,20 +76,25 @@ pub record ForClearAbove (ones twos : List ℕ) (rows w half hw : ℕ) (order : 
   pub enough : rows ≤ length order
   pub lowered : Lowered rows (length order) (placedAt half hw w ones twos) (placedAt half hw w ones twos) (take rows order)
 
--- a grid, one of its columns, and a row in which nothing is put yet
-pub record ForPutColumn (ones twos : List ℕ) (rows w c : ℕ) (ko kt : List ℕ) : Type 0 where
-  pub grid : Rows ones twos rows w
-  pub nothing-put : Reads ko kt (length ko) (upTo 0 (column (matrixAt w ones twos) c))
-  pub small : length ones ≤ 4294967296
+-- a plane of rows of w words, and one of their columns
+pub record ForBitDown (plane : List ℕ) (rows w c : ℕ) : Type 0 where
+  pub size : length plane ≡ rows * w
+  pub small : length plane ≤ 4294967296
   pub column : c < 64 * w
-  pub room : rows ≤ 64 * length ko
+
+-- and a row from which on it is read
+pub record ForWordDown (plane : List ℕ) (rows w c i : ℕ) : Type 0 where
+  pub size : length plane ≡ rows * w
+  pub small : length plane ≤ 4294967296
+  pub column : c < 64 * w
+  pub from-small : i ≤ 4294967296
 
 -- a grid, one of its columns, and room for a row
 pub record ForWriteRow (ones twos : List ℕ) (rows w c : ℕ) (ko kt : List ℕ) : Type 0 where
   pub grid : Rows ones twos rows w
   pub small : length ones ≤ 4294967296
   pub column : c < 64 * w
-  pub room : rows ≤ 64 * length ko
+  pub narrow : length ko ≤ 65536
   pub twos-size : length kt ≡ length ko
 
 -- the grid after the pass, the final order, and room for the key
@@ -92,6 +107,6 @@ pub record ForWriteKey (ones twos : List ℕ) (rows w half hw : ℕ) (order : Li
   pub half-small : hw ≤ 4294967296
   pub is-order : Order (length order) order
   pub columns : rows + k ≡ length order
-  pub room : rows ≤ 64 * kw
+  pub narrow : kw ≤ 65536
   pub ones-size : length ko ≡ k * kw
   pub twos-size : length kt ≡ k * kw

@@ -120,14 +120,6 @@ module _ (r : ℕ) (A : Matrix) (c q : ℕ) (qs : List ℕ) where
   unfolding taken
   taken-not e = ap (λ (t : Bool). cond t (q ∷ taken r A (suc c) qs) (taken r A c qs)) e
 
-  pub passed-next : isNext r A c q ≡ true → passed r A c (q ∷ qs) ≡ passed r A (suc c) qs
-  unfolding passed
-  passed-next e = ap (λ (t : Bool). cond t (passed r A (suc c) qs) (q ∷ passed r A c qs)) e
-
-  pub passed-not : isNext r A c q ≡ false → passed r A c (q ∷ qs) ≡ q ∷ passed r A c qs
-  unfolding passed
-  passed-not e = ap (λ (t : Bool). cond t (passed r A (suc c) qs) (q ∷ passed r A c qs)) e
-
 module _ (r : ℕ) (A : Matrix) (c q : ℕ) where
   next-set : c < r → isSet (A c q) ≡ true → isNext r A c q ≡ true
   next-set h e = ap₂ _&&_ (lt-ltb c r h) e

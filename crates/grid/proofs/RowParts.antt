@@ -92,15 +92,6 @@ rows-product {o} {t} {w} {i} {j} {k} {l} a b d =
     d ∙ ap₂ (λ (u v : Vector). number (dotV u v (64 * length (midOf (i * w) k o)))) (a .trits) (b .trits)
     ∙ ap (λ (m : ℕ). number (dotV (matrixAt w o t i) (matrixAt w o t j) (64 * m))) (a .size)
 
--- ---- planes made 0
-
-pub zeros-grid : {o t : List ℕ} {n k : ℕ} (r w : ℕ) → o ≡ zeroWords n → t ≡ zeroWords k → k ≡ n → n ≡ r * w → Grid o t r w (λ (i q : ℕ). t0)
-zeros-grid {o} {t} {n} r w p q e s =
-    let d = zeros-hold zeros p q e in
-    grid-by (record { row = d .row; size = ap length p ∙ length-zeros n ∙ s })
-    (λ i j h. ap (λ (v : Vector). v (64 * (i * w) + j)) (d .trits ∙ upto-none zeros))
-    (λ i j h. refl)
-
 -- ---- a matrix with another row
 
 module _ (j : ℕ) (v : Vector) (A : Matrix) (k : ℕ) where
@@ -163,9 +154,6 @@ trit-lt t x e = omega (arith, number-lt t, e)
 
 pub read-lt : (o t : List ℕ) (p x : ℕ) → x ≡ number (tritAt o t p) → x < 3
 read-lt o t p x e = trit-lt (tritAt o t p) x e
-
-pub read-column : (w : ℕ) (o t : List ℕ) (i q x : ℕ) → q < 64 * w → x ≡ number (tritAt o t (64 * (i * w) + q)) → tritOf x ≡ matrixAt w o t i q
-read-column w o t i q x h e = read-trit (tritAt o t (64 * (i * w) + q)) x e ∙ sym (cell w o t i q h)
 
 pub column-turn : {os ts o t : List ℕ} {n : ℕ} (v : Vector) (i x : ℕ) → Reads os ts n (upTo i v) → tritOf x ≡ v i
     → Reads o t (length os) (putV (tritAt os ts) i (tritOf x))

@@ -63,17 +63,6 @@ span-trans r n A B C f g = record {
   back = λ i h. combine-twice r n C B (A i) (g .back) (f .back i h);
 }
 
--- rows are read below their sizes only
-pub span-cong : (r n : ℕ) (H A B : Matrix) → ((i q : ℕ) → i < r → q < n → A i q ≡ B i q) → SameSpan r n H A → SameSpan r n H B
-span-cong r n H A B e s = record {
-  forth = λ i h. (s .forth i h .0, λ q l. s .forth i h .1 q l ∙ e i q h l);
-  back = λ i h. (
-    s .back i h .0,
-    λ q l. dot-comm r (s .back i h .0) (column B q) ∙ dot-left r (column B q) (column A q) (s .back i h .0) (λ k m. sym (e k q m l))
-        ∙ dot-comm r (column A q) (s .back i h .0) ∙ s .back i h .1 q l,
-  );
-}
-
 -- ---- the row operations
 
 module _ (a b : ℕ) where

@@ -149,7 +149,7 @@ write-row-requires c κs =
       grid = s .pre .grid;
       small = s .pre .small;
       column = subst (λ (z : ℕ). z < 64 * a .w) (sym (after-column .column .ensures)) z;
-      room = omega (arith, lo, s .pre .room);
+      narrow = omega (arith, lo, s .pre .narrow);
       twos-size = omega (arith, lo, lt);
     }
 

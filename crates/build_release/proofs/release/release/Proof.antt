@@ -168,7 +168,7 @@ write-key-requires c κs =
       half-small = omega (arith, b .high);
       is-order = final-ready z (secret s) o f e (r .size) r m (g .0);
       columns = omega (arith, n, b .ku, b .kv);
-      room = omega arith;
+      narrow = omega (arith, b .high);
       ones-size = s .pre .key-ones-size;
       twos-size = s .pre .key-twos-size;
     })

@@ -1,113 +1,25 @@
 -- The walk along an order in the matrix that elimination leaves finds the pivots again, and passes over the other places. Assumes nothing.
-use mathlib.Core.Path.{_≡_, refl, sym, ap, ap₂, _∙_, subst, fun-ext}
+use mathlib.Core.Path.{_≡_, refl, sym, ap, ap₂, _∙_, fun-ext}
 use mathlib.Core.Bool.{Bool, true, false, cond, _&&_, and-false}
 use mathlib.Core.List.{List, [], _∷_, _++_, append-assoc, append-nil}
 use Prim.Native.Nat.{ℕ, zero, suc, _+_, _≤_, _<_}
 use native.Mathlib.Decide.{decLt, ℕ-discrete}
 use native.Mathlib.Omega.{arith}
-use borrow.Author.Tests.{eq-eqb, ne-eqb, eqb-true, eqb-false, lt-ltb, le-ltb}
+use borrow.Author.Tests.{eq-eqb, ne-eqb, eqb-false, lt-ltb, le-ltb}
 use lib.Dec.{eqb, ltb}
 use lib.ListN.{length, getD, take, drop, take-append-drop}
 use lib.Seq.{getD-at}
-use Rattle.trits.specs.Trit.{Trit, t0, t1, subT, mulT, isSet}
-use Rattle.trits.proofs.Arithmetic.{add-zero-r, mul-zero}
+use Rattle.trits.specs.Trit.{Trit, t0, isSet}
 use Rattle.matrix.specs.Linear.{Vector, Matrix, elem, pivots, without}
 use Rattle.matrix.specs.Orders.{Distinct, Order}
-use Rattle.matrix.specs.Steps.{swapRows, scaleRow, pivoted, pivotRow, hasPivot, stepOf, Stage, tried, eliminate, eliminated, begun, firstSet}
+use Rattle.matrix.specs.Steps.{hasPivot, Stage, tried, eliminate, eliminated, begun, firstSet}
 use Rattle.matrix.proofs.Places.{Below, or-false-left, or-false-right, false-or-false}
 use Rattle.matrix.proofs.Orders.{order-good}
-use Rattle.matrix.proofs.Steps.{has-row, has-none, step-has, step-none, step-one, step-below}
-use Rattle.matrix.proofs.Kept.{tried-cells, tried-kept, tried-count, eliminate-pivots}
+use Rattle.matrix.proofs.Steps.{has-row}
+use Rattle.matrix.proofs.Kept.{eliminate-pivots}
+use Rattle.matrix.proofs.Tried.{tried-most, end, kept-one, count-one, end-one, end-below, kept-none, count-none, end-none, first-set, first-unset}
 use Rattle.scheme_laws.proofs.Draws.{parts, first-below}
 use Rattle.draw_reduce.specs.Steps.{over, isNext, taken, passed, pivotPlace}
-
--- ---- what one step leaves of a column
-
--- the rows of A from c on have 0 at q
-abbrev pub ZeroFrom : ℕ → ℕ → Matrix → ℕ → Type 0
-ZeroFrom r c A q = (i : ℕ) → c ≤ i → i < r → A i q ≡ t0
-
--- the rows from `at` on are 0 at q
-module _ (r at p : ℕ) (A : Matrix) (e : hasPivot r at p A ≡ true) (q : ℕ) (z : ZeroFrom r at A q) where
-  abbrev moved : Matrix
-  moved = swapRows at (pivotRow r A p at) A
-
-  abbrev scaled : Matrix
-  scaled = scaleRow at (A (pivotRow r A p at) p) (swapRows at (pivotRow r A p at) A)
-
-  own-zero : A at q ≡ t0
-  own-zero = let f = has-row r at p A e in z at (omega arith) (omega (arith, f .0, f .1))
-
-  -- exchanged rows have 0 there, so the column stays
-  moved-keep : (i : ℕ) → moved i q ≡ A i q
-  moved-keep i = go (eqb i at) refl (eqb i (pivotRow r A p at)) refl
-    where
-      there : A (pivotRow r A p at) q ≡ t0
-      there = let f = has-row r at p A e in z (pivotRow r A p at) (f .0) (f .1)
-
-      go : (s : Bool) → eqb i at ≡ s → (t : Bool) → eqb i (pivotRow r A p at) ≡ t → moved i q ≡ A i q
-      go true k t l = rw k (there ∙ sym own-zero ∙ ap (λ (x : ℕ). A x q) (sym (eqb-true i at k)))
-      go false k true l = rw (k, l) (own-zero ∙ sym there ∙ ap (λ (x : ℕ). A x q) (sym (eqb-true i (pivotRow r A p at) l)))
-      go false k false l = rw (k, l)
-
-  scaled-keep : (i : ℕ) → scaled i q ≡ A i q
-  scaled-keep i = go (eqb i at) refl
-    where
-      x : Trit
-      x = A (pivotRow r A p at) p
-
-      go : (s : Bool) → eqb i at ≡ s → scaled i q ≡ A i q
-      go true k =
-          let own : A i q ≡ t0 = ap (λ (j : ℕ). A j q) (eqb-true i at k) ∙ own-zero in
-          ap (λ (s : Bool). cond s (mulT x (moved i q)) (moved i q)) k ∙ ap (mulT x) (moved-keep i ∙ own) ∙ mul-zero x ∙ sym own
-      go false k = ap (λ (s : Bool). cond s (mulT x (moved i q)) (moved i q)) k ∙ moved-keep i
-
-  stepped-keep : (i : ℕ) → pivoted at p (pivotRow r A p at) A i q ≡ A i q
-  stepped-keep i = go (ltb at i)
-    where
-      less : subT (scaled i q) (mulT (scaled i p) (scaled at q)) ≡ A i q
-      less =
-          ap (λ (x : Trit). subT (scaled i q) (mulT (scaled i p) x)) (scaled-keep at ∙ own-zero)
-          ∙ ap (subT (scaled i q)) (mul-zero (scaled i p)) ∙ add-zero-r (scaled i q) ∙ scaled-keep i
-
-      go : (s : Bool) → cond s (subT (scaled i q) (mulT (scaled i p) (scaled at q))) (scaled i q) ≡ A i q
-      go true = less
-      go false = scaled-keep i
-
--- a step leaves a column whose rows from `at` on are 0
-step-keep : (r at p : ℕ) (A : Matrix) (q : ℕ) → ZeroFrom r at A q → (i : ℕ) → stepOf r at p A i q ≡ A i q
-step-keep r at p A q z i = go (hasPivot r at p A) refl
-  where
-    go : (s : Bool) → hasPivot r at p A ≡ s → stepOf r at p A i q ≡ A i q
-    go true e = ap (λ (B : Matrix). B i q) (step-has r at p A e) ∙ stepped-keep r at p A e q z i
-    go false e = ap (λ (B : Matrix). B i q) (step-none r at p A e)
-
--- ---- the columns that are done stay
-
--- as many places are kept as before, or one more
-tried-more : (r p : ℕ) (s : Stage) → length (s .kept) ≤ length (tried r p s .kept)
-tried-more r p s = subst (λ (k : ℕ). length (s .kept) ≤ k) (sym (tried-count r p s)) (by (hasPivot r (length (s .kept)) p (s .cells)))
-  where
-    by : (t : Bool) → length (s .kept) ≤ cond t (suc (length (s .kept))) (length (s .kept))
-    by true = omega arith
-    by false = omega arith
-
-tried-most : (r p : ℕ) (s : Stage) → length (tried r p s .kept) ≤ suc (length (s .kept))
-tried-most r p s = subst (λ (k : ℕ). k ≤ suc (length (s .kept))) (sym (tried-count r p s)) (by (hasPivot r (length (s .kept)) p (s .cells)))
-  where
-    by : (t : Bool) → cond t (suc (length (s .kept))) (length (s .kept)) ≤ suc (length (s .kept))
-    by true = omega arith
-    by false = omega arith
-
--- what is tried later leaves a column whose rows past the kept places are 0
-later-keep : (r : ℕ) (ps : List ℕ) (s : Stage) (q : ℕ) → ZeroFrom r (length (s .kept)) (s .cells) q → (i : ℕ) → eliminate r ps s .cells i q ≡ s .cells i q
-unfolding eliminate
-later-keep r [] s q z i = refl
-later-keep r (p ∷ ps) s q z i =
-    later-keep r ps (tried r p s) q (λ k a b. same k ∙ z k (omega (arith, a, tried-more r p s)) b) i ∙ same i
-  where
-    same : (k : ℕ) → tried r p s .cells k q ≡ s .cells k q
-    same k = ap (λ (B : Matrix). B k q) (tried-cells r p s) ∙ step-keep r (length (s .kept)) p (s .cells) q z k
 
 -- ---- the walk, place after place
 
@@ -133,57 +45,20 @@ module _ (r : ℕ) (A : Matrix) (c q : ℕ) where
 
 -- the place q is tried, then the places qs
 module _ (r q : ℕ) (qs : List ℕ) (s : Stage) where
-  abbrev at : ℕ
-  at = length (s .kept)
+  walk-one : hasPivot r (length (s .kept)) q (s .cells) ≡ true
+      → taken r (end r q qs s) (length (s .kept)) (q ∷ qs) ≡ q ∷ taken r (end r q qs s) (length (tried r q s .kept)) qs
+  walk-one e =
+      let f = has-row r (length (s .kept)) q (s .cells) e in
+      taken-next r (end r q qs s) (length (s .kept)) q qs
+      (next-set r (end r q qs s) (length (s .kept)) q (omega (arith, f .0, f .1)) (ap isSet (end-one r q qs s e)))
+      ∙ ap (λ (k : ℕ). q ∷ taken r (end r q qs s) k qs) (sym (count-one r q qs s e))
 
-  abbrev next : Stage
-  next = tried r q s
-
-  abbrev end : Matrix
-  end = eliminate r qs (tried r q s) .cells
-
-  module _ (e : hasPivot r at q (s .cells) ≡ true) where
-    kept-one : next .kept ≡ s .kept ++ (q ∷ [])
-    kept-one = tried-kept r q s ∙ ap (λ (t : Bool). cond t (s .kept ++ (q ∷ [])) (s .kept)) e
-
-    count-one : length (next .kept) ≡ suc at
-    count-one = tried-count r q s ∙ ap (λ (t : Bool). cond t (suc at) at) e
-
-    below : (i : ℕ) → at < i → next .cells i q ≡ t0
-    below i l = ap (λ (B : Matrix). B i q) (tried-cells r q s) ∙ step-below r at q (s .cells) e i l
-
-    stays : (i : ℕ) → end i q ≡ next .cells i q
-    stays = later-keep r qs next q (λ i a b. below i (omega (arith, a, count-one)))
-
-    end-one : end at q ≡ t1
-    end-one = stays at ∙ ap (λ (B : Matrix). B at q) (tried-cells r q s) ∙ step-one r at q (s .cells) e
-
-    end-below : (i : ℕ) → at < i → end i q ≡ t0
-    end-below i l = stays i ∙ below i l
-
-    walk-one : taken r end at (q ∷ qs) ≡ q ∷ taken r end (length (next .kept)) qs
-    walk-one =
-        let f = has-row r at q (s .cells) e in
-        taken-next r end at q qs (next-set r end at q (omega (arith, f .0, f .1)) (ap isSet end-one))
-        ∙ ap (λ (k : ℕ). q ∷ taken r end k qs) (sym count-one)
-
-  module _ (e : hasPivot r at q (s .cells) ≡ false) where
-    kept-none : next .kept ≡ s .kept
-    kept-none = tried-kept r q s ∙ ap (λ (t : Bool). cond t (s .kept ++ (q ∷ [])) (s .kept)) e
-
-    count-none : length (next .kept) ≡ at
-    count-none = ap (λ (l : List ℕ). length l) kept-none
-
-    same : (i : ℕ) → next .cells i q ≡ s .cells i q
-    same i = ap (λ (B : Matrix). B i q) (tried-cells r q s ∙ step-none r at q (s .cells) e)
-
-    end-none : (i : ℕ) → at ≤ i → i < r → end i q ≡ t0
-    end-none i h l =
-        later-keep r qs next q (λ i a b. same i ∙ has-none r at q (s .cells) e i (omega (arith, a, count-none)) b) i
-        ∙ same i ∙ has-none r at q (s .cells) e i h l
-
-    walk-none : taken r end at (q ∷ qs) ≡ taken r end (length (next .kept)) qs
-    walk-none = taken-not r end at q qs (next-unset r end at q (end-none at (omega arith))) ∙ ap (λ (k : ℕ). taken r end k qs) (sym count-none)
+  walk-none : hasPivot r (length (s .kept)) q (s .cells) ≡ false
+      → taken r (end r q qs s) (length (s .kept)) (q ∷ qs) ≡ taken r (end r q qs s) (length (tried r q s .kept)) qs
+  walk-none e =
+      taken-not r (end r q qs s) (length (s .kept)) q qs
+      (next-unset r (end r q qs s) (length (s .kept)) q (end-none r q qs s e (length (s .kept)) (omega arith)))
+      ∙ ap (λ (k : ℕ). taken r (end r q qs s) k qs) (sym (count-none r q qs s e))
 
 -- the kept places and those that the walk then takes are the places kept in the end
 walk-kept : (r : ℕ) (ps : List ℕ) (s : Stage) → s .kept ++ taken r (eliminate r ps s .cells) (length (s .kept)) ps ≡ eliminate r ps s .kept
@@ -208,15 +83,6 @@ unfolding eliminated
 walk-taken r n H ps b = walk-kept r ps (begun H) ∙ eliminate-pivots r n H ps b
 
 -- ---- each row's pivot is the first place at which it is not 0
-
-module _ (v : Vector) (q : ℕ) (qs : List ℕ) where
-  pub first-set : isSet (v q) ≡ true → firstSet v (q ∷ qs) ≡ q
-  unfolding firstSet
-  first-set e = ap (λ (t : Bool). cond t q (firstSet v qs)) e
-
-  pub first-unset : isSet (v q) ≡ false → firstSet v (q ∷ qs) ≡ firstSet v qs
-  unfolding firstSet
-  first-unset e = ap (λ (t : Bool). cond t q (firstSet v qs)) e
 
 -- the search for row c's pivot may begin at position d, where row c is at least d rows past those that have theirs
 first-kept : (r c : ℕ) → c < r → (ps : List ℕ) (s : Stage) (d : ℕ) → d + length (s .kept) ≤ c → c < length (eliminate r ps s .kept)

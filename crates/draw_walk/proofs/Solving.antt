@@ -11,11 +11,11 @@ use Rattle.trits.specs.Trit.{subT, isSet, putV, dotV}
 use Rattle.trits.specs.Rows.{matrixAt}
 use Rattle.matrix.specs.Linear.{Vector, Matrix}
 use Rattle.matrix.specs.Steps.{firstSet, backed}
+use Rattle.matrix.proofs.Tried.{first-set, first-unset}
 use Rattle.grid.specs.Steps.{Rows, Grid, putRow}
 use Rattle.grid.proofs.Cells.{grid-to}
 use Rattle.grid.proofs.RowParts.{put-here, put-else}
 use Rattle.draw_reduce.specs.Steps.{pivotPlace}
-use Rattle.draw_reduce.proofs.Walked.{first-set, first-unset}
 use Rattle.draw_walk.proofs.Puts.{put-own}
 use Rattle.draw_walk.proofs.Supplied.{put-again}
 

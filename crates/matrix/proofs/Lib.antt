@@ -6,7 +6,8 @@
 -- row operations leave the span, `span-swap`, `span-scale`, `span-below`, `span-above`, and rows of the same span take vectors alike, `span-alike` (RowSpan)
 -- the first pass leaves 1 on the diagonal of the kept columns and 0 below, `stepped-lowered`, which is enough for the test of a column, `test-in`, `test-out`;
 -- the last pass makes them the identity, `raise-reduced`; the coefficients of a column, `reduced-column`, are then the only ones, `reduced-one` (Elimination)
--- elimination keeps the pivots, `eliminate-pivots` (Kept); their values, from the last row on, `back-solves` (Values)
+-- elimination keeps the pivots, `eliminate-pivots` (Kept); what was tried stays as its step left it, `end-one`, `end-below`, `end-none` (Tried);
+-- the values at the pivots, from the last row on, `back-solves` (Values)
 pub mod Cases
 pub mod Field
 pub mod Dots
@@ -23,4 +24,5 @@ pub mod RowSpan
 pub mod Steps
 pub mod Elimination
 pub mod Kept
+pub mod Tried
 pub mod Values

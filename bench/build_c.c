@@ -8,6 +8,30 @@ static size_t rank(const uint64_t *o, const uint64_t *t, size_t rows, size_t w, 
     return count;
 }
 
+/* the secret matrix, rows of two halves of hw words, from the rows of H_U and H_V */
+static void fill_secret(uint64_t *o, uint64_t *t, size_t ru, size_t rows, size_t hw, const uint64_t *hu_ones,
+                        const uint64_t *hu_twos, const uint64_t *hv_ones, const uint64_t *hv_twos,
+                        const uint64_t *b_ones, const uint64_t *b_twos, const uint64_t *c_ones, const uint64_t *c_twos) {
+    for (size_t i = 0; i < rows; i++) {
+        uint64_t *lo = o + 2 * i * hw, *lt = t + 2 * i * hw, *ro = lo + hw, *rt = lt + hw;
+        const uint64_t *ho = i < ru ? hu_ones + i * hw : hv_ones + (i - ru) * hw, *ht = i < ru ? hu_twos + i * hw : hv_twos + (i - ru) * hw;
+        memcpy(lo, ho, 8 * hw);
+        memcpy(lt, ht, 8 * hw);
+        memcpy(ro, ho, 8 * hw);
+        memcpy(rt, ht, 8 * hw);
+        if (i < ru) {
+            mul(lo, lt, b_ones, b_twos, hw);
+            mul(lo, lt, c_ones, c_twos, hw);
+            add(lo, lt, ho, ht, hw);
+            mul(ro, rt, b_ones, b_twos, hw);
+            swap_words(ro, rt, hw);
+        } else {
+            mul(lo, lt, c_ones, c_twos, hw);
+            swap_words(lo, lt, hw);
+        }
+    }
+}
+
 static uint64_t c_build(wave_sizes z, const uint64_t *hu_ones, size_t, const uint64_t *hu_twos, size_t, const uint64_t *hv_ones, size_t, const uint64_t *hv_twos, size_t,
                         const uint64_t *b_ones, size_t, const uint64_t *b_twos, size_t, const uint64_t *c_ones, size_t, const uint64_t *c_twos, size_t,
                         const uint16_t *start, size_t, uint16_t *p, size_t, uint64_t *key_ones, size_t, uint64_t *key_twos, size_t,
@@ -17,24 +41,7 @@ static uint64_t c_build(wave_sizes z, const uint64_t *hu_ones, size_t, const uin
     if (rank(hu_ones, hu_twos, ru, hw, half, work_ones, work_twos) != ru) answer = 9;
     else if (rank(hv_ones, hv_twos, rv, hw, half, work_ones, work_twos) != rv) answer = 10;
     else {
-        for (size_t i = 0; i < rows; i++) {
-            uint64_t *lo = work_ones + i * w, *lt = work_twos + i * w, *ro = lo + hw, *rt = lt + hw;
-            const uint64_t *ho = i < ru ? hu_ones + i * hw : hv_ones + (i - ru) * hw, *ht = i < ru ? hu_twos + i * hw : hv_twos + (i - ru) * hw;
-            memcpy(lo, ho, 8 * hw);
-            memcpy(lt, ht, 8 * hw);
-            memcpy(ro, ho, 8 * hw);
-            memcpy(rt, ht, 8 * hw);
-            if (i < ru) {
-                mul(lo, lt, b_ones, b_twos, hw);
-                mul(lo, lt, c_ones, c_twos, hw);
-                add(lo, lt, ho, ht, hw);
-                mul(ro, rt, b_ones, b_twos, hw);
-                swap_words(ro, rt, hw);
-            } else {
-                mul(lo, lt, c_ones, c_twos, hw);
-                swap_words(lo, lt, hw);
-            }
-        }
+        fill_secret(work_ones, work_twos, ru, rows, hw, hu_ones, hu_twos, hv_ones, hv_twos, b_ones, b_twos, c_ones, c_twos);
         memcpy(p, start, 2 * z.n);
         for (size_t j = 0, left = z.n; j < rows;) {
             size_t q = p[j], c = q < half ? q : 64 * hw + q - half;

@@ -1,4 +1,5 @@
-/* The calls in plain C, one file to the compiler so that nothing is inlined into the table. It is compiled twice, and SIDE is the name of what it then exports. */
+/* The calls in plain C, one file to the compiler so that nothing is inlined into the table. It is compiled twice, and
+   SIDE and STEPS are the names of what it then exports. */
 #include "plain.h"
 #include "grid_c.h"
 #include "rows_c.c"
@@ -6,6 +7,11 @@
 #include "check_c.c"
 #include "build_c.c"
 #include "draw_c.c"
+#include "fast_c.h"
+#include "fast_build_c.c"
+#include "fast_draw_c.c"
 
 const side SIDE = {c_sum, c_weight, c_both_set, c_past_end, c_unpack, c_check, c_check_packed, c_weigh, c_weigh_packed,
-                   c_shake256, c_syndrome, c_check_text, c_build, c_draw, &made};
+                   c_shake256, c_syndrome, c_check_text, fast_build, fast_draw, wave_build_work, wave_draw_work,
+                   &made};
+const side STEPS = {.build = c_build, .draw = c_draw, .build_work = wave_build_work, .draw_work = wave_draw_work};

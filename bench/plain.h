@@ -15,7 +15,7 @@ wave_checked bench_weigh(wave_held held, uint64_t number, const uint64_t *ones, 
 wave_checked bench_weigh_packed(wave_held held, uint64_t number, const uint64_t *ones, size_t, const uint64_t *twos, size_t, const uint8_t *y, size_t, const uint8_t *s, size_t,
                                 uint64_t *work_ones, size_t, uint64_t *work_twos, size_t, size_t times);
 
-/* one side: ours, plain C at gcc -O3, or plain C at gcc -O3 -march=native */
+/* one side: ours, or plain C at gcc -O3 or at gcc -O3 -march=native; its build and draw take pivots twelve at a time, as ours do */
 typedef struct {
     __typeof__(bench_sum) *sum;
     __typeof__(bench_weight) *weight;
@@ -31,7 +31,11 @@ typedef struct {
     __typeof__(wave_check_text) *check_text;
     __typeof__(wave_build) *build;
     __typeof__(wave_draw) *draw;
-    const size_t *made; /* of plain C: the weight of the word that its last draw made */
+    size_t (*build_work)(wave_sizes), (*draw_work)(wave_sizes); /* the words of one working plane that these two are lent */
+    const size_t *made;                                         /* of plain C: the weight of the word that its last draw made */
 } side;
 
 extern const side plain_o3, plain_native;
+
+/* build and draw alone, by plain steps: one pivot at a time */
+extern const side steps_o3, steps_native;

@@ -1,7 +1,8 @@
 /* Times our calls against the same in plain C at gcc -O3 and at gcc -O3 -march=native, in one run that takes turns, and
-   prints four tables: the two published sizes, growth with n, rows of other lengths, and the hash. The three sides'
-   answers and buffers are compared byte for byte in each turn. An argument is the least number of turns.
-   With BEFORE defined, build and draw have a fourth side, those of an earlier revision, and a fifth table. */
+   prints four tables: the two published sizes, growth with n, rows of other lengths, and the hash. Build and draw have
+   two more sides in plain C, those that take plain steps, with rows of their own. All sides' answers and buffers are
+   compared byte for byte in each turn. An argument is the least number of turns.
+   With BEFORE defined, build and draw have one side more, those of an earlier revision, and a fifth table. */
 #include "clock.h"
 #include "plain.h"
 #include <stdio.h>
@@ -20,17 +21,19 @@ static double steps; /* of the time stamp counter in a nanosecond */
 
 static const side ours = {bench_sum, bench_weight, bench_both_set, bench_past_end, wave_unpack, bench_check, wave_check,
                           bench_weigh, bench_weigh_packed, wave_shake256, wave_syndrome, wave_check_text,
-                          wave_build, wave_draw, 0};
+                          wave_build, wave_draw, wave_build_work, wave_draw_work, 0};
 #ifdef BEFORE
-/* the calls of an earlier revision, whose archive has its names changed so */
+/* the calls of an earlier revision, whose archive has its names changed so, and its lengths, by `before.c` */
 extern __typeof__(wave_build) before_wave_build;
 extern __typeof__(wave_draw) before_wave_draw;
-static const side before = {.build = before_wave_build, .draw = before_wave_draw};
-static const side *const sides[] = {&ours, &plain_o3, &plain_native, &before};
+size_t before_build_work(wave_sizes), before_draw_work(wave_sizes);
+static const side before = {.build = before_wave_build, .draw = before_wave_draw, .build_work = before_build_work,
+                            .draw_work = before_draw_work};
+static const side *const sides[] = {&ours, &plain_o3, &plain_native, &steps_o3, &steps_native, &before};
 #else
-static const side *const sides[] = {&ours, &plain_o3, &plain_native};
+static const side *const sides[] = {&ours, &plain_o3, &plain_native, &steps_o3, &steps_native};
 #endif
-enum { SIDES = sizeof sides / sizeof *sides };
+enum { OURS, O3, NATIVE, STEPS_O3, STEPS_NATIVE, EARLIER, SIDES = sizeof sides / sizeof *sides };
 
 /* ---- what goes in */
 
@@ -143,14 +146,19 @@ static planes next(uint64_t **at, size_t n) {
 
 static size_t run_draw(const side *f, const input *a, uint64_t *out) {
     uint64_t *at = out + HEAD;
-    planes word = next(&at, WAVE_WORDS(a->z.n)), s = next(&at, a->s.n), work = next(&at, wave_draw_work(a->z));
+    planes word = next(&at, WAVE_WORDS(a->z.n)), s = next(&at, a->s.n), work = next(&at, f->draw_work(a->z));
     *out = f->draw(a->z, P(a->hu), P(a->hv), P(a->b), P(a->c), a->order, a->z.n, P(a->y), a->v_order, a->half, P(a->v), a->u_order, a->half, P(a->u), P(word), P(s), P(work));
     return at - out;
 }
 
-/* words that are enough for what any call leaves */
+/* words that are enough for what any call of any side leaves */
 static size_t space(const input *a) {
-    return 1024 + a->z.n + 2 * (a->key.n + wave_build_work(a->z) + wave_draw_work(a->z));
+    size_t most = 0;
+    for (int s = 0; s < SIDES; s++) {
+        size_t words = sides[s]->build_work(a->z) + sides[s]->draw_work(a->z);
+        if (words > most) most = words;
+    }
+    return 1024 + a->z.n + 2 * (a->key.n + most);
 }
 
 static input make(wave_sizes z) {
@@ -252,56 +260,62 @@ static size_t run_check_text(const side *f, const input *a, uint64_t *out) {
 
 static size_t run_build(const side *f, const input *a, uint64_t *out) {
     uint64_t *at = out + HEAD;
-    planes key = next(&at, a->key.n), work = next(&at, wave_build_work(a->z));
-    *out = f->build(a->z, P(a->hu), P(a->hv), P(a->b), P(a->c), a->order, a->z.n, (uint16_t *)at, a->z.n, P(key), P(work));
-    return at - out + (a->z.n + 3) / 4;
+    uint16_t *p = (uint16_t *)at;
+    at += (a->z.n + 3) / 4;
+    planes key = next(&at, a->key.n), work = next(&at, f->build_work(a->z));
+    *out = f->build(a->z, P(a->hu), P(a->hv), P(a->b), P(a->c), a->order, a->z.n, p, a->z.n, P(key), P(work));
+    return at - out;
 }
 
-typedef struct { const char *name; size_t (*run)(const side *, const input *, uint64_t *); size_t times; } act;
+/* by_steps: the name of its row beside plain C that takes plain steps, if there is one */
+typedef struct { const char *name; size_t (*run)(const side *, const input *, uint64_t *); size_t times; const char *by_steps; } act;
 enum { SUM, WEIGHT, UNPACK, CHECK, WEIGH, CHECK_PACKED, WEIGH_PACKED, SYNDROME, CHECK_TEXT, BUILD, DRAW,
        BOTH_SET, PAST_END, SHAKE, ACTS };
 static const act acts[ACTS] = {
-    [SUM] = {"sum of two rows", run_sum, TIMES},
-    [WEIGHT] = {"weight of a row", run_weight, TIMES},
-    [UNPACK] = {"unpack of a whole key", run_unpack, 1},
-    [CHECK] = {"check in planes", run_check, 1},
-    [WEIGH] = {"check in planes, counts only", run_weigh, WEIGHTS},
-    [CHECK_PACKED] = {"check packed", run_check_packed, 1},
-    [WEIGH_PACKED] = {"check packed, counts only", run_weigh_packed, WEIGHTS},
-    [SYNDROME] = {"syndrome of salt and text", run_syndrome, 1},
-    [CHECK_TEXT] = {"check of salt and text", run_check_text, 1},
-    [BUILD] = {"build", run_build, 1},
-    [DRAW] = {"draw", run_draw, 1},
-    [BOTH_SET] = {"bit in both planes (3)", run_both_set, TIMES},
-    [PAST_END] = {"bits past 64 rows (4)", run_past_end, TIMES},
-    [SHAKE] = {"SHAKE256 of 1 MiB, each byte", run_shake, MESSAGE},
+    [SUM] = {"sum of two rows", run_sum, TIMES, 0},
+    [WEIGHT] = {"weight of a row", run_weight, TIMES, 0},
+    [UNPACK] = {"unpack of a whole key", run_unpack, 1, 0},
+    [CHECK] = {"check in planes", run_check, 1, 0},
+    [WEIGH] = {"check in planes, counts only", run_weigh, WEIGHTS, 0},
+    [CHECK_PACKED] = {"check packed", run_check_packed, 1, 0},
+    [WEIGH_PACKED] = {"check packed, counts only", run_weigh_packed, WEIGHTS, 0},
+    [SYNDROME] = {"syndrome of salt and text", run_syndrome, 1, 0},
+    [CHECK_TEXT] = {"check of salt and text", run_check_text, 1, 0},
+    [BUILD] = {"build", run_build, 1, "build, plain steps in C"},
+    [DRAW] = {"draw", run_draw, 1, "draw, plain steps in C"},
+    [BOTH_SET] = {"bit in both planes (3)", run_both_set, TIMES, 0},
+    [PAST_END] = {"bits past 64 rows (4)", run_past_end, TIMES, 0},
+    [SHAKE] = {"SHAKE256 of 1 MiB, each byte", run_shake, MESSAGE, 0},
 };
 
 /* ---- the clock */
 
 /* of each side: the least own time, for one of the call's many */
-typedef struct { double ns[4]; } figures;
+typedef struct { double ns[EARLIER + 1]; } figures;
 
-/* how many sides have the call: an earlier revision has build and draw alone */
+/* how many sides have the call: plain steps and an earlier revision have build and draw alone */
 static int having(const act *c) {
-    return c->run == run_build || c->run == run_draw ? SIDES : 3;
+    return c->run == run_build || c->run == run_draw ? SIDES : STEPS_O3;
 }
 
+/* a side that leaves fewer words than another has zeros after them, as all working space is at the end */
 static figures measure(const act *c, const input *a) {
-    figures f = {{1e30, 1e30, 1e30, 1e30}};
+    figures f;
     uint64_t *out[SIDES];
     double began = now();
     size_t again = 1, left = 0;
     int count = having(c);
-    for (int s = 0; s < count; s++) out[s] = room(space(a), 8);
+    for (int s = 0; s < count; s++) f.ns[s] = 1e30, out[s] = room(space(a), 8);
     for (int turn = 0; turn < turns || now() - began < SECONDS * 1e9; turn++) {
         for (int s = 0; s < count; s++) {
             double t = own();
-            for (size_t i = 0; i < again; i++) left = c->run(sides[s], a, out[s]);
+            size_t words = 0;
+            for (size_t i = 0; i < again; i++) words = c->run(sides[s], a, out[s]);
             t = (own() - t) / again / c->times;
             if (t < f.ns[s]) f.ns[s] = t;
+            if (words > left) left = words;
         }
-        if (turn == 0) again = 1 + LEAST / (f.ns[1] * c->times);
+        if (turn == 0) again = 1 + LEAST / (f.ns[O3] * c->times);
         for (int s = 0; s < count; s++)
             if (*out[s] || memcmp(out[0], out[s], 8 * left)) {
                 printf("%s at n %llu: the answer of side %d is %llu, and its results %s ours\n", c->name, (unsigned long long)a->z.n, s, (unsigned long long)*out[s],
@@ -335,9 +349,11 @@ static void head(const char *size) {
     printf("|---|---|---|---|---|---|---|---|---|---|---|\n");
 }
 
-static void line(const act *c, size_t size, const figures *f, const char *published) {
-    printf("| %-28s | %5s | %13s | %13s | %13s | %5.2f | %6.2f | %14s | %14s | %14s | %s |\n", c->name, number(size), number(f->ns[0]), number(f->ns[1]), number(f->ns[2]), f->ns[0] / f->ns[1],
-           f->ns[0] / f->ns[2], number(f->ns[0] * steps), number(f->ns[1] * steps), number(f->ns[2] * steps), published ? published : "");
+/* ours beside plain C: the side o3, and native after it */
+static void line(const char *name, size_t size, const figures *f, int o3, const char *published) {
+    double our = f->ns[OURS], plain = f->ns[o3], native = f->ns[o3 + 1];
+    printf("| %-28s | %5s | %13s | %13s | %13s | %5.2f | %6.2f | %14s | %14s | %14s | %s |\n", name, number(size),
+           number(our), number(plain), number(native), our / plain, our / native, number(our * steps), number(plain * steps), number(native * steps), published ? published : "");
     fflush(stdout);
 }
 
@@ -345,18 +361,29 @@ static void line(const act *c, size_t size, const figures *f, const char *publis
 static void published_size(const input *a, const char *const *published, figures *f) {
     for (int i = SUM; i <= DRAW; i++) {
         f[i] = measure(&acts[i], a);
-        line(&acts[i], a->z.n, &f[i], published[i]);
+        line(acts[i].name, a->z.n, &f[i], O3, published[i]);
+        if (acts[i].by_steps) line(acts[i].by_steps, a->z.n, &f[i], STEPS_O3, 0);
     }
+}
+
+/* ours beside plain C, the side o3 and native after it, and how each grew from the size before, if there is one */
+static void grown_line(const char *name, const wave_sizes *z, const figures *f, const figures *smaller, int o3) {
+    const int shown[] = {OURS, o3, o3 + 1};
+    printf("| %-23s | %6s | %5s | %5s | %3s | %3s |", name, number(z->n), number(z->ku), number(z->kv), number(z->gv),
+           number(z->gu));
+    for (int i = 0; i < 3; i++) {
+        printf(" %14s |", number(f->ns[shown[i]]));
+        if (smaller) printf(" %7.2f |", f->ns[shown[i]] / smaller->ns[shown[i]]);
+        else printf(" %7s |", "");
+    }
+    printf(" %5.2f | %6.2f |\n", f->ns[OURS] / f->ns[o3], f->ns[OURS] / f->ns[o3 + 1]);
 }
 
 /* how three calls grow, each n twice the one before; the largest was timed above */
 static void growth(const figures *largest) {
     static const int grown[] = {BUILD, DRAW, CHECK_PACKED};
-    figures f[4][ACTS];
-    printf("\n| %-13s | %6s | %5s | %5s | %3s | %3s | %14s | %7s | %14s | %7s | %14s | %7s | %5s | %6s |\n", "call", "n", "k_U", "k_V", "g_V", "g_U", "ours, ns", "growth", "gcc -O3, ns", "growth", "native, ns", "growth",
-           "/ -O3", "/ nat.");
-    printf("|---|---|---|---|---|---|---|---|---|---|---|---|---|---|\n");
     wave_sizes z[4];
+    figures f[4][ACTS];
     for (int j = 0; j < 4; j++) {
         size_t n = 1072u << j, ku = (2966 * n + 4288) / 8576;
         z[j] = (wave_sizes){n, ku, n / 2 - ku, 40 * n / 8576, 40 * n / 8576, 7668 * n / 8576};
@@ -366,17 +393,15 @@ static void growth(const figures *largest) {
             for (int i = 0; i < 3; i++) f[j][grown[i]] = measure(&acts[grown[i]], &a);
         }
     }
-    for (int i = 0; i < 3; i++)
-        for (int j = 0; j < 4; j++) {
-            const figures *x = &f[j][grown[i]];
-            printf("| %-13s | %6s | %5s | %5s | %3s | %3s |", acts[grown[i]].name, number(z[j].n), number(z[j].ku), number(z[j].kv), number(z[j].gv), number(z[j].gu));
-            for (int s = 0; s < 3; s++) {
-                printf(" %14s |", number(x->ns[s]));
-                if (j) printf(" %7.2f |", x->ns[s] / f[j - 1][grown[i]].ns[s]);
-                else printf(" %7s |", "");
-            }
-            printf(" %5.2f | %6.2f |\n", x->ns[0] / x->ns[1], x->ns[0] / x->ns[2]);
-        }
+    printf("\n| %-23s | %6s | %5s | %5s | %3s | %3s | %14s | %7s | %14s | %7s | %14s | %7s | %5s | %6s |\n", "call", "n",
+           "k_U", "k_V", "g_V", "g_U", "ours, ns", "growth", "gcc -O3, ns", "growth", "native, ns", "growth", "/ -O3", "/ nat.");
+    printf("|---|---|---|---|---|---|---|---|---|---|---|---|---|---|\n");
+    for (int i = 0; i < 3; i++) {
+        const act *c = &acts[grown[i]];
+        for (int j = 0; j < 4; j++) grown_line(c->name, &z[j], &f[j][grown[i]], j ? &f[j - 1][grown[i]] : 0, O3);
+        for (int j = 0; j < 4 && c->by_steps; j++)
+            grown_line(c->by_steps, &z[j], &f[j][grown[i]], j ? &f[j - 1][grown[i]] : 0, STEPS_O3);
+    }
 }
 
 /* the row functions at other lengths, one trit less than whole words, 64 rows of them */
@@ -388,7 +413,7 @@ static void lengths(void) {
             size_t m = 64 * words[j] - 1;
             input a = {.k = 64, .m = m, .key = rows(64, m, 0), .y = rows(1, m, 0)};
             figures f = measure(&acts[acted[i]], &a);
-            line(&acts[acted[i]], words[j], &f, 0);
+            line(acts[acted[i]].name, words[j], &f, O3, 0);
         }
 }
 
@@ -397,13 +422,13 @@ static void hashing(void) {
     input a = {.text = counted(MESSAGE)};
     figures f = measure(&acts[SHAKE], &a);
     head("bytes");
-    line(&acts[SHAKE], MESSAGE, &f, 0);
+    line(acts[SHAKE].name, MESSAGE, &f, O3, 0);
 }
 
 /* build and draw beside those of an earlier revision, at the two published sizes */
 static void earlier(const input *a, const figures *f) {
     for (int i = BUILD; i <= DRAW; i++)
-        printf("| %-5s | %5s | %13s | %13s | %12.2f |\n", acts[i].name, number(a->z.n), number(f[i].ns[3]), number(f[i].ns[0]), f[i].ns[0] / f[i].ns[3]);
+        printf("| %-5s | %5s | %13s | %13s | %12.2f |\n", acts[i].name, number(a->z.n), number(f[i].ns[EARLIER]), number(f[i].ns[OURS]), f[i].ns[OURS] / f[i].ns[EARLIER]);
 }
 
 int main(int count, char **argument) {
@@ -422,7 +447,7 @@ int main(int count, char **argument) {
     growth(first);
     lengths();
     hashing();
-    if (SIDES > 3) {
+    if (SIDES > EARLIER) {
         printf("\n| call  |     n |    before, ns |       now, ns | now / before |\n|---|---|---|---|---|\n");
         earlier(&a, first), earlier(&b, second);
     }

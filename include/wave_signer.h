@@ -60,12 +60,17 @@ extern "C" {
 #define WAVE_HU_WORDS(n, ku) (((size_t)(n) / 2 - (size_t)(ku)) * WAVE_HALF_WORDS(n))
 #define WAVE_HV_WORDS(n, kv) (((size_t)(n) / 2 - (size_t)(kv)) * WAVE_HALF_WORDS(n))
 
-/* The words of one working plane of a build: a row of two halves for each row of hu and of hv. */
-#define WAVE_BUILD_WORDS(n, ku, kv) (((size_t)(n) - (size_t)(ku) - (size_t)(kv)) * 2 * WAVE_HALF_WORDS(n))
+/* The rows of working space that hold sums of pivot rows: three tables of 81. */
+#define WAVE_TABLE_ROWS 243
 
-/* The words of one working plane of a draw: as many rows as the larger of hu and hv has, and five more. */
+/* The words of one working plane of a build: rows of two halves, one for each row of hu and of hv, and the tables. */
+#define WAVE_BUILD_WORDS(n, ku, kv) \
+    (((size_t)(n) - (size_t)(ku) - (size_t)(kv) + WAVE_TABLE_ROWS) * 2 * WAVE_HALF_WORDS(n))
+
+/* The words of one working plane of a draw: as many rows as the larger of hu and hv has, the tables, and five more. */
 #define WAVE_SMALLER(a, b) ((size_t)(a) < (size_t)(b) ? (size_t)(a) : (size_t)(b))
-#define WAVE_DRAW_WORDS(n, ku, kv) (((size_t)(n) / 2 - WAVE_SMALLER(ku, kv) + 5) * WAVE_HALF_WORDS(n))
+#define WAVE_DRAW_WORDS(n, ku, kv) \
+    (((size_t)(n) / 2 - WAVE_SMALLER(ku, kv) + WAVE_TABLE_ROWS + 5) * WAVE_HALF_WORDS(n))
 
 /*
  * The sizes: n even, 4 to 16,384; ku and kv each 1 to n/2 - 1; the gaps gv from 0 to kv and gu from 0 to ku; w from 1

@@ -48,19 +48,22 @@ def planes_refusal(ones, twos, rows, m):
 
 # ---- linear algebra modulo 3
 
+def joins(basis, v):
+    """Adds a column to the basis if it is independent of it, and tells that."""
+    for lead, b in basis:
+        if v[lead]:
+            t = v[lead] * b[lead]
+            v = [(x - t * y) % 3 for x, y in zip(v, b)]
+    lead = next((i for i, x in enumerate(v) if x), None)
+    if lead is not None:
+        basis.append((lead, v))
+    return lead is not None
+
+
 def rank(columns):
     """The rank of a list of columns, by elimination."""
     basis = []
-    for v in columns:
-        v = list(v)
-        for lead, b in basis:
-            if v[lead]:
-                t = v[lead] * b[lead]
-                v = [(x - t * y) % 3 for x, y in zip(v, b)]
-        lead = next((i for i, x in enumerate(v) if x), None)
-        if lead is not None:
-            basis.append((lead, v))
-    return len(basis)
+    return sum(joins(basis, v) for v in columns)
 
 
 def column(H, q):
@@ -69,16 +72,13 @@ def column(H, q):
 
 def pivots(H, places):
     """The first independent columns, in the order of the places."""
-    kept = []
-    for q in places:
-        if rank([column(H, x) for x in kept + [q]]) == len(kept) + 1:
-            kept.append(q)
-    return kept
+    basis = []
+    return [q for q in places if joins(basis, column(H, q))]
 
 
-def solve(columns, target):
-    """The coefficients of independent columns, as many as rows, that sum to the target."""
-    rows = [[c[i] for c in columns] + [target[i]] for i in range(len(target))]
+def solve(columns, targets):
+    """For each target the coefficients of independent columns, as many as rows, that sum to it."""
+    rows = [[c[i] for c in columns + targets] for i in range(len(columns))]
     for j in range(len(columns)):
         i = next(i for i in range(j, len(rows)) if rows[i][j])
         rows[j], rows[i] = rows[i], rows[j]
@@ -86,7 +86,7 @@ def solve(columns, target):
         for k in range(len(rows)):
             if k != j:
                 rows[k] = [(x - rows[k][j] * y) % 3 for x, y in zip(rows[k], rows[j])]
-    return [r[-1] for r in rows]
+    return [[r[len(rows) + j] for r in rows] for j in range(len(targets))]
 
 
 def times(H, e):
@@ -122,6 +122,19 @@ def secret_of(z, secret):
     return rows_of(*secret[0:2], N - ku, N), rows_of(*secret[2:4], N - kv, N), rows_of(*secret[4:6], 1, N)[0], rows_of(*secret[6:8], 1, N)[0]
 
 
+TABLE_ROWS = 3 * 81
+
+
+def build_work(z):
+    n, ku, kv = z[:3]
+    return (n - ku - kv + TABLE_ROWS) * 2 * words_for(n // 2)
+
+
+def draw_work(z):
+    n, ku, kv = z[:3]
+    return (n // 2 - min(ku, kv) + TABLE_ROWS + 5) * words_for(n // 2)
+
+
 def no_order(order):
     return sorted(order) != list(range(len(order)))
 
@@ -139,25 +152,25 @@ def built(z, secret, start):
         return 10, None, None
     H = [[(1 + b[q] * c[q]) * h[q] % 3 for q in range(N)] + [-b[q] * h[q] % 3 for q in range(N)] for h in hu]
     H += [[-c[q] * h[q] % 3 for q in range(N)] + h for h in hv]
-    p, j, l = list(start), 0, n - 1
+    p, j, l, basis = list(start), 0, n - 1, []
     while j < len(H):
-        if rank([column(H, q) for q in p[:j + 1]]) == j + 1:
+        if joins(basis, column(H, p[j])):
             j += 1
         else:
             p[j], p[l] = p[l], p[j]
             l -= 1
     kept = [column(H, q) for q in p[:j]]
-    return 0, p, [solve(kept, column(H, q)) for q in p[j:]]
+    return 0, p, solve(kept, [column(H, q) for q in p[j:]])
 
 
 def build(z, secret, start, p, key, work):
     """The answer, and every buffer that may change as it is then."""
     n, ku, kv, gv, gu, w = z
-    N, k = n // 2, ku + kv
+    k = ku + kv
     r = n - k
     if not sizes_fit(z):
         code = 1
-    elif [len(x) for x in secret + [start, p] + key + work] != secret_lengths(z) + [n, n] + [k * words_for(r)] * 2 + [r * 2 * words_for(N)] * 2:
+    elif [len(x) for x in secret + [start, p] + key + work] != secret_lengths(z) + [n, n] + [k * words_for(r)] * 2 + [build_work(z)] * 2:
         code = 2
     else:
         code = secret_refusal(z, secret) or (7 if no_order(start) else 0)
@@ -187,7 +200,7 @@ def halves(N, b, c, x):
 def solved(H, x, pivot, word):
     """The word with the pivots' values for which H e is H x."""
     goal = [(a - b) % 3 for a, b in zip(times(H, x), times(H, word))]
-    for q, t in zip(pivot, solve([column(H, q) for q in pivot], goal)):
+    for q, t in zip(pivot, solve([column(H, q) for q in pivot], [goal])[0]):
         word[q] = t
     return word
 
@@ -225,7 +238,7 @@ def drawn(z, secret, p, y, v_order, v, u_order, u):
 def draw_lengths(z):
     n, ku, kv = z[:3]
     N, k = n // 2, ku + kv
-    return [n] + [words_for(n - k)] * 2 + [N] + [words_for(kv)] * 2 + [N] + [words_for(ku)] * 2 + [words_for(n)] * 2 + [words_for(k)] * 2 + [(N - min(ku, kv) + 5) * words_for(N)] * 2
+    return [n] + [words_for(n - k)] * 2 + [N] + [words_for(kv)] * 2 + [N] + [words_for(ku)] * 2 + [words_for(n)] * 2 + [words_for(k)] * 2 + [draw_work(z)] * 2
 
 
 def choices_refusal(z, p, y, v_order, v, u_order, u):
@@ -333,7 +346,7 @@ def call_draw(z, secret, p, y, v_order, v, u_order, u, word, s, work):
 
 # ---- made-up rows and orders
 
-def sample_rows(m, rows, x):
+def sample_trits(m, rows, x):
     out = []
     for _ in range(rows):
         row = []
@@ -342,11 +355,28 @@ def sample_rows(m, rows, x):
             byte = x % 243
             row += [byte // 3 ** i % 3 for i in range(5)]
         out.append(row[:m])
-    return planes(out)
+    return out
+
+
+def sample_rows(m, rows, x):
+    return planes(sample_trits(m, rows, x))
 
 
 def sample_order(n, a, b):
     return [(b + a * j) % n for j in range(n)]
+
+
+def poor(rows, order):
+    """The rows with a zero column, a column twice another and a sum of two, among the first seven places of the order."""
+    rows = [list(row) for row in rows]
+    for row in rows:
+        row[order[1]], row[order[4]], row[order[6]] = 0, 2 * row[order[0]] % 3, (row[order[2]] + row[order[3]]) % 3
+    return rows
+
+
+def lacking(rows):
+    """The rows with the last twice the first."""
+    return rows[:-1] + [[2 * t % 3 for t in rows[0]]]
 
 
 # ---- the cases
@@ -357,8 +387,15 @@ FIRST = [0, 1, 2, 3]
 GAPS = [(0, 0), (0, 1), (1, 0), (1, 1)]
 
 
+def space(words):
+    return [[7] * words, [6] * words]
+
+
+BUILD_SPACE, DRAW_SPACE = space(490), space(249)
+
+
 def four(z, secret, start):
-    call_build(z, secret, start, [9] * 4, [[9] * 2, [8] * 2], [[7] * 4, [6] * 4])
+    call_build(z, secret, start, [9] * 4, [[9] * 2, [8] * 2], BUILD_SPACE)
 
 
 def altered(secret, at, words):
@@ -380,7 +417,7 @@ def build_cases():
         four(SMALL, altered(PAPER, at, ws), FIRST)
     four(SMALL, PAPER, [0, 1, 2])
     four(SMALL, PAPER, [0, 1, 2, 3, 4])
-    for p, k1, k2, w1, w2 in ((3, 2, 2, 4, 4), (4, 1, 2, 4, 4), (4, 2, 3, 4, 4), (4, 2, 2, 3, 4), (4, 2, 2, 4, 5)):
+    for p, k1, k2, w1, w2 in ((3, 2, 2, 490, 490), (4, 1, 2, 490, 490), (4, 2, 3, 490, 490), (4, 2, 2, 489, 490), (4, 2, 2, 490, 491), (4, 2, 2, 4, 4)):
         call_build(SMALL, PAPER, FIRST, [9] * p, [[9] * k1, [8] * k2], [[7] * w1, [6] * w2])
     for at, ws in ((1, [1]), (1, [4]), (3, [3]), (2, [9]), (5, [2]), (4, [6]), (6, [3]), (7, [6]), (7, [0])):
         four(SMALL, altered(PAPER, at, ws), FIRST)
@@ -393,19 +430,45 @@ def build_cases():
     four(SMALL, [[1], [1], [4], [0]] + PAPER[4:], FIRST)
     four(SMALL, [[4], [0], [1], [1]] + PAPER[4:], FIRST)
     for hu in ([[1, 8], [1, 0]], [[8, 1], [0, 1]], [[0, 1], [8, 1]], [[1, 0], [1, 8]], [[1, 1], [1, 0]], [[0, 0], [8, 0]]):
-        call_build((6, 1, 1, 0, 0, 3), hu + [[1, 2], [0, 0], [3], [0], [7], [0]], [0, 1, 2, 3, 4, 5], [9] * 6, [[9] * 2, [8] * 2], [[7] * 8, [6] * 8])
+        call_build((6, 1, 1, 0, 0, 3), hu + [[1, 2], [0, 0], [3], [0], [7], [0]], [0, 1, 2, 3, 4, 5], [9] * 6, [[9] * 2, [8] * 2], space(494))
     four(SMALL, [[3], [4], [3], [2], [2], [0], [1], [0]], [0, 0, 2, 3])
     four(SMALL, [[0], [0]] + PAPER[2:], FIRST)
     four(SMALL, PAPER[:2] + [[0], [0]] + PAPER[4:], FIRST)
     four(SMALL, [[0], [0], [0], [0]] + PAPER[4:], FIRST)
     call_build((132, 64, 63, 1, 1, 100), sample_rows(66, 2, 11) + sample_rows(66, 3, 12) + sample_rows(66, 1, 13) + [[6148914691236517205, 1], [12297829382473034410, 2]],
-          sample_order(132, 25, 7), [9] * 132, [[9] * 127, [8] * 127], [[7] * 20, [6] * 20])
+          sample_order(132, 25, 7), [9] * 132, [[9] * 127, [8] * 127], space(992))
     call_build((132, 30, 31, 30, 30, 1), sample_rows(66, 36, 21) + sample_rows(66, 35, 22) + sample_rows(66, 1, 23) + [[12297829382473034410, 1], [6148914691236517205, 2]],
-          sample_order(132, 35, 100), [9] * 132, [[9] * 122, [8] * 122], [[7] * 284, [6] * 284])
+          sample_order(132, 35, 100), [9] * 132, [[9] * 122, [8] * 122], space(1256))
+    block_builds()
+
+
+# n, k_U, k_V: hu and hv have 11 and 12 rows, 12 and 12, 12 and 7, 20 and 13, 30 and 19, 24 and 13 (N = 64), 13 and 25 (N = 65), 68 and 16
+BLOCKS = [(32, 5, 4), (48, 12, 12), (38, 7, 12), (50, 5, 12), (70, 5, 16), (128, 40, 51), (130, 52, 40), (152, 8, 60)]
+
+
+def block_secret(z, first, change_u=None, change_v=None, b=None):
+    """A made-up secret, with hu and hv changed and with another b."""
+    n, ku, kv = z
+    N = n // 2
+    hu, hv = sample_trits(N, N - ku, first), sample_trits(N, N - kv, first + 1)
+    hu, hv = change_u(hu) if change_u else hu, change_v(hv) if change_v else hv
+    return planes(hu) + planes(hv) + planes([b or sample_trits(N, 1, first + 2)[0]]) + planes([[1 + q % 2 for q in range(N)]])
+
+
+def block_builds():
+    """Blocks of twelve pivots, whole and cut by the last row, with columns that have no pivot, and columns that are exchanged."""
+    for i, z in enumerate(BLOCKS):
+        n, ku, kv = z
+        N, k = n // 2, ku + kv
+        first, mixed, right = 71 + 10 * i, sample_order(n, 11, 5), list(range(N, n)) + list(range(N))
+        thin = lambda rows: poor(rows, range(N))
+        for secret, start in ((block_secret(z, first), mixed), (block_secret(z, first, thin, thin), list(range(n))), (block_secret(z, first, b=[0] * N), right),
+                              (block_secret(z, first, thin, None, [0] * N), right), (block_secret(z, first, lacking), mixed), (block_secret(z, first, None, lacking), mixed)):
+            call_build(z + (0, 0, 1), secret, start, [9] * n, [[9] * k * words_for(n - k), [8] * k * words_for(n - k)], space(build_work(z)))
 
 
 def small_draw(z, secret, p, y, v_order, v, u_order, u):
-    return call_draw(z, secret, p, y, v_order, v, u_order, u, [[9], [8]], [[5], [4]], [[7] * 6, [6] * 6])
+    return call_draw(z, secret, p, y, v_order, v, u_order, u, [[9], [8]], [[5], [4]], DRAW_SPACE)
 
 
 def digit(t):
@@ -417,9 +480,32 @@ def wide_draw(z, first, gv, gu, v_order, u_order, weight):
     n, ku, kv = z
     secret = sample_rows(66, 66 - ku, first) + sample_rows(66, 66 - kv, first + 1) + sample_rows(66, 1, first + 2) + [[6148914691236517205, 1], [12297829382473034410, 2]]
     u = [[0x5A5A5A5A5A5A5A5A & (1 << ku) - 1], [0xA5A5A5A5A5A5A5A5 & (1 << ku) - 1]]
-    words, k = (66 - min(ku, kv) + 5) * 2, ku + kv
+    k = ku + kv
     call_draw((n, ku, kv, gv, gu, weight), secret, sample_order(n, 25, 7), sample_rows(n - k, 1, first + 3), v_order, sample_rows(kv, 1, first + 4), u_order, u,
-         [[9] * 3, [8] * 3], [[5] * words_for(k), [4] * words_for(k)], [[7] * words, [6] * words])
+         [[9] * 3, [8] * 3], [[5] * words_for(k), [4] * words_for(k)], space(draw_work(z)))
+
+
+def block_draw(z, secret, v_order, u_order, first):
+    """A draw that is released, if no rank lacks: the weight is the one that comes out."""
+    n, ku, kv, gv, gu = z
+    k = ku + kv
+    p, y, v = sample_order(n, 11, 5), sample_trits(n - k, 1, first)[0], sample_trits(kv, 1, first + 1)[0]
+    u = sample_trits(ku, 1, first + 2)[0][:gu] + [1 + q % 2 for q in range(gu, ku)]
+    word = drawn(z + (0,), secret, p, y, v_order, v, u_order, u)[1] or [1]
+    call_draw(z + (sum(t != 0 for t in word),), secret, p, planes([y]), v_order, planes([v]), u_order, planes([u]),
+              [[9] * words_for(n), [8] * words_for(n)], [[5] * words_for(k), [4] * words_for(k)], space(draw_work(z)))
+
+
+def block_draws():
+    """The same sizes: columns without a pivot in the first parts, parts that lack rank, and parts that are whole halves."""
+    for i, z in enumerate(BLOCKS):
+        n, ku, kv = z
+        first, v_order, u_order = 171 + 10 * i, sample_order(n // 2, 11, 1), sample_order(n // 2, 17, 4)
+        whole, thin = block_secret(z, first), block_secret(z, first, lambda rows: poor(rows, u_order), lambda rows: poor(rows, v_order))
+        for secret, gv, gu in ((whole, 0, 0), (whole, kv, ku), (whole, kv - 1, ku - 1), (whole, kv // 2, 0), (thin, kv, ku), (thin, min(8, kv), min(8, ku)), (thin, 1, ku), (thin, kv, 1)):
+            block_draw(z + (gv, gu), secret, v_order, u_order, first + 3)
+        for secret in (block_secret(z, first, lacking), block_secret(z, first, None, lacking)):
+            block_draw(z + (kv, ku), secret, v_order, u_order, first + 3)
 
 
 def draw_cases():
@@ -460,15 +546,16 @@ def draw_cases():
         h = {1: planes([[1, 1, 2], [1, 0, 1]]), 2: planes([[0, 1, 1]])}
         for gv, gu, w, first in itertools.product(range(4), range(4), range(1, 7), range(3)):
             call_draw((6, ku, kv, gv, gu, w), h[ku] + h[kv] + planes([[1, 2, 0]]) + planes([[1, 1, 2]]), [5, 3, 1, 0, 4, 2], planes([[2, 1, 2]]),
-                      [0, 2, 1], planes([[1, 2][:kv]]), [0, 2, 1], planes([[first, 1][:ku]]), [[9], [8]], [[5], [4]], [[7] * 7, [6] * 7])
+                      [0, 2, 1], planes([[1, 2][:kv]]), [0, 2, 1], planes([[first, 1][:ku]]), [[9], [8]], [[5], [4]], space(250))
     # rows of more than one word, with gaps from 0 to k_U and k_V
     for z, first, gv, gu, weight in WIDE:
         wide_draw(z, first, gv, gu, sample_order(66, 5, 3), sample_order(66, 7, 60), weight)
+    block_draws()
     # lengths of the buffers that are not the secret, each one less and one more
     lengths = draw_lengths(SMALL)
     for at in range(len(lengths)):
         for by in (-1, 1):
-            made = [list(x)[:m] + [0] * (m - len(x)) for x, m in zip([FIRST] + y + [up] + digit(2) + [up] + digit(1) + [[9], [8], [5], [4], [7] * 6, [6] * 6],
+            made = [list(x)[:m] + [0] * (m - len(x)) for x, m in zip([FIRST] + y + [up] + digit(2) + [up] + digit(1) + [[9], [8], [5], [4]] + DRAW_SPACE,
                                                                      [m + by * (i == at) for i, m in enumerate(lengths)])]
             p, y1, y2, ov, v1, v2, ou, u1, u2, e1, e2, s1, s2, w1, w2 = made
             call_draw(SMALL, PAPER, p, [y1, y2], ov, [v1, v2], ou, [u1, u2], [e1, e2], [s1, s2], [w1, w2])

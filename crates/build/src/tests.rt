@@ -28,7 +28,7 @@ pub fn key_differs(z: Sizes, s: usize, p: usize, k1: usize, k2: usize, w1: usize
     if tests::pair_differs(k * ((rows + 63) / 64), k1, k2) {
         return true;
     }
-    tests::pair_differs(rows * (sh.words + sh.words), w1, w2)
+    tests::pair_differs((rows + 243) * (sh.words + sh.words), w1, w2)
 }
 
 // Whether a length differs from what the sizes say.

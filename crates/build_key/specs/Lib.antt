@@ -1,2 +1,2 @@
--- The definitions that the contracts cite: the key read out of the work matrix.
+-- The definitions that the contracts cite: the key in the arranged work matrix.
 pub mod Steps

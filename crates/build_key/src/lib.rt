@@ -1,3 +1,2 @@
-// The filled work matrix of a build: arranged by the column rule, and written out as the key.
-pub mod arrange; // the column rule
-pub mod key; // the rows of R
+// The filled work matrix of a build, brought to the form in which R stands in its last columns.
+pub mod arrange; // the columns in their order, and both passes

@@ -61,7 +61,7 @@ module _ (a : ℕ) (L R A : Matrix) where
     halves-low h = ap (λ (s : Bool). cond (s && ltb j (a + m + (a + m))) (cond (eqb (j % 2) 0) (L (j / 2 - a) q) (R (j / 2 - a) q)) (A j q))
         (lt-leb (a + a) j h)
 
-    halves-high : a + m + (a + m) ≤ j → halvesIn a m L R A j q ≡ A j q
+    pub halves-high : a + m + (a + m) ≤ j → halvesIn a m L R A j q ≡ A j q
     unfolding halvesIn
     halves-high h =
         ap (λ (s : Bool). cond (leb (a + a) j && s) (cond (eqb (j % 2) 0) (L (j / 2 - a) q) (R (j / 2 - a) q)) (A j q)) (le-ltb j (a + m + (a + m)) h)

@@ -8,6 +8,7 @@ use native.Mathlib.Decide.{decLt}
 use native.Mathlib.Omega.{arith}
 use borrow.Author.Tests.{lt-ltb, le-ltb}
 use lib.Dec.{ltb}
+use Rattle.trits.specs.Trit.{t0}
 use Rattle.trits.specs.Planes.{tritAt}
 use Rattle.trits.specs.Rows.{matrixAt}
 use Rattle.matrix.specs.Linear.{Vector, Matrix}
@@ -17,7 +18,7 @@ use Rattle.scheme.specs.declared.sizes.Sizes.{Sizes}
 use Rattle.scheme.specs.Sizes.{half, ru, rv, codim}
 use Rattle.scheme.specs.Secret.{Secret, secretMatrix, join}
 use Rattle.build_matrix.specs.Steps.{colOf, placedAt, halvesIn, leftU, rightU, leftV}
-use Rattle.build_matrix.proofs.HalfRows.{halves-left, halves-right, halves-low, negative-past}
+use Rattle.build_matrix.proofs.HalfRows.{halves-left, halves-right, halves-low, halves-high, negative-past}
 
 -- a matrix of r rows of two halves is one of twice as many rows
 pub rows-halved : {o t : List ℕ} {r hw : ℕ} → Rows o t r (hw + hw) → Rows o t (r + r) hw
@@ -50,10 +51,11 @@ module _ (N hw : ℕ) (o t : List ℕ) (fit : N ≤ 64 * hw) (i : ℕ) where
           cell (hw + hw) o t i (64 * hw + (q - N)) (omega arith) ∙ ap (tritAt o t) e ∙ sym (cell hw o t (i + i + 1) (q - N) l)
       by (no f) = cell-past (hw + hw) o t i (64 * hw + (q - N)) (omega arith) ∙ sym (cell-past hw o t (i + i + 1) (q - N) (omega arith))
 
--- the half-rows of U, then those of V, are the secret matrix
-module _ (z : Sizes) (hw : ℕ) {o t uo ut vo vt : List ℕ} (b c : Vector) (A : Matrix) (fit : half z ≤ 64 * hw) (u : Rows uo ut (ru z) hw)
+-- the half-rows of U, then those of V, and 0 after them, are the secret matrix
+module _ (z : Sizes) (hw rows : ℕ) {o t uo ut vo vt : List ℕ} (b c : Vector) (A : Matrix) (zero : (j q : ℕ) → A j q ≡ t0) (fit : half z ≤ 64 * hw)
+    (u : Rows uo ut (ru z) hw)
     (v : Rows vo vt (rv z) hw)
-    (g : Grid o t (codim z + codim z) hw
+    (g : Grid o t rows hw
     (halvesIn (ru z) (rv z) (leftV (matrixAt hw vo vt) c) (matrixAt hw vo vt)
     (halvesIn 0 (ru z) (leftU (matrixAt hw uo ut) b c) (rightU (matrixAt hw uo ut) b) A))) where
   abbrev secret : Secret
@@ -77,6 +79,10 @@ module _ (z : Sizes) (hw : ℕ) {o t uo ut vo vt : List ℕ} (b c : Vector) (A :
   at : (j q : ℕ) → matrixAt hw o t j q ≡ halvesIn (ru z) (rv z) LV HV U j q
   at j q = ap (λ (B : Matrix). B j q) (g .cells)
 
+  -- the rows after those of U and V
+  none : (j q : ℕ) → codim z + codim z ≤ j → matrixAt hw o t j q ≡ t0
+  none j q h = at j q ∙ halves-high (ru z) LV HV U (rv z) j q (omega arith) ∙ halves-high 0 LU RU A (ru z) j q (omega arith) ∙ zero j q
+
   -- row i, left and right
   left : (i q : ℕ) → Dec (i < ru z) → Dec (i < codim z) → matrixAt hw o t (i + i) q ≡ cond (ltb i (ru z)) (LU i q) (LV (i - ru z) q)
   left i q (yes l) d =
@@ -89,7 +95,7 @@ module _ (z : Sizes) (hw : ℕ) {o t uo ut vo vt : List ℕ} (b c : Vector) (A :
       ∙ halves-left (ru z) LV HV U (rv z) (i - ru z) q (omega arith)
       ∙ ap (λ (s : Bool). cond s (LU i q) (LV (i - ru z) q)) (sym (le-ltb i (ru z) (omega arith)))
   left i q (no f) (no d) =
-      cell-none (g .rows) (i + i) q (omega arith) ∙ negative-past c (HV (i - ru z)) q (cell-none v (i - ru z) q (omega arith))
+      none (i + i) q (omega arith) ∙ negative-past c (HV (i - ru z)) q (cell-none v (i - ru z) q (omega arith))
       ∙ ap (λ (s : Bool). cond s (LU i q) (LV (i - ru z) q)) (sym (le-ltb i (ru z) (omega arith)))
 
   right : (i q : ℕ) → Dec (i < ru z) → Dec (i < codim z) → matrixAt hw o t (i + i + 1) q ≡ cond (ltb i (ru z)) (RU i q) (HV (i - ru z) q)
@@ -103,7 +109,7 @@ module _ (z : Sizes) (hw : ℕ) {o t uo ut vo vt : List ℕ} (b c : Vector) (A :
       ∙ halves-right (ru z) LV HV U (rv z) (i - ru z) q (omega arith)
       ∙ ap (λ (s : Bool). cond s (RU i q) (HV (i - ru z) q)) (sym (le-ltb i (ru z) (omega arith)))
   right i q (no f) (no d) =
-      cell-none (g .rows) (i + i + 1) q (omega arith) ∙ sym (cell-none v (i - ru z) q (omega arith))
+      none (i + i + 1) q (omega arith) ∙ sym (cell-none v (i - ru z) q (omega arith))
       ∙ ap (λ (s : Bool). cond s (RU i q) (HV (i - ru z) q)) (sym (le-ltb i (ru z) (omega arith)))
 
   joined : (s : Bool) (i q : ℕ) → cond s (join (half z) (LU i) (RU i)) (join (half z) (LV (i - ru z)) (HV (i - ru z))) q

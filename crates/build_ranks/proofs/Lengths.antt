@@ -18,9 +18,9 @@ pub record Products (z : Sizes) : Type 0 where
   pub u : ru z * halfWords z ≤ 1048576
   pub v : rv z * halfWords z ≤ 1048576
   pub key : dim z * keyRowWords z ≤ 4194304
-  pub work : buildWorkWords z ≤ 4194304
-  pub u-room : ru z * halfWords z ≤ buildWorkWords z
-  pub v-room : rv z * halfWords z ≤ buildWorkWords z
+  pub work : buildWorkWords z ≤ 4294912
+  pub u-room : (ru z + 243) * halfWords z ≤ buildWorkWords z
+  pub v-room : (rv z + 243) * halfWords z ≤ buildWorkWords z
 
 pub products : (z : Sizes) → Bounds z → Products z
 products z b =
@@ -29,15 +29,16 @@ products z b =
     let hu = b .ku in
     let hv = b .kv in
     let m = words z b in
-    let f : buildWorkWords z ≡ codim z * halfWords z + codim z * halfWords z = mul-add (codim z) (halfWords z) (halfWords z) in
+    let f : buildWorkWords z ≡ (codim z + 243) * halfWords z + (codim z + 243) * halfWords z = mul-add (codim z + 243) (halfWords z) (halfWords z) in
     let e : codim z * halfWords z ≡ ru z * halfWords z + rv z * halfWords z = add-mul (ru z) (rv z) (halfWords z) in
+    let t = add-mul (codim z) 243 (halfWords z) in
     record {
       u = m .u;
       v = m .v;
       key = prod (dim z) (keyRowWords z) 16384 256 (omega arith) (omega arith);
-      work = prod (codim z) (halfWords z + halfWords z) 16384 256 (omega arith) (omega arith);
-      u-room = omega (arith, e, f);
-      v-room = omega (arith, e, f);
+      work = prod (codim z + 243) (halfWords z + halfWords z) 16777 256 (omega arith) (omega arith);
+      u-room = omega (arith, e, f, t, add-mul (ru z) 243 (halfWords z));
+      v-room = omega (arith, e, f, t, add-mul (rv z) 243 (halfWords z));
     }
 
 -- ---- the ranks

@@ -2,7 +2,7 @@
 use mathlib.Core.Path.{_≡_}
 use mathlib.Core.Bool.{true}
 use mathlib.Core.List.{List}
-use Prim.Native.Nat.{ℕ, _*_, _≤_}
+use Prim.Native.Nat.{ℕ, _+_, _*_, _≤_, _<_}
 use lib.ListN.{length}
 use Rattle.trits.specs.Rows.{matrixAt}
 use Rattle.matrix.specs.Linear.{zeros}
@@ -17,21 +17,25 @@ use Rattle.calls.specs.BuildCall.{buildWorkWords}
 abbrev pub matrices : Sizes → List ℕ → List ℕ → List ℕ → List ℕ → Secret
 matrices z a b c d = record { hu = matrixAt (halfWords z) a b; hv = matrixAt (halfWords z) c d; b = zeros; c = zeros }
 
--- a grid, and working space of its size
-pub record ForRankCopied (ones twos : List ℕ) (rows w n : ℕ) (workOnes workTwos : List ℕ) : Type 0 where
+-- a grid, and working space for it and for tables
+pub record ForRankIn (ones twos : List ℕ) (rows w n : ℕ) (workOnes workTwos : List ℕ) : Type 0 where
   pub grid : Rows ones twos rows w
-  pub small : length ones ≤ 4294967296
+  pub small : length workOnes ≤ 4294967296
+  pub narrow : w ≤ 65536
+  pub some : 0 < w
   pub columns : n ≤ 64 * w
-  pub work-ones : length ones ≡ length workOnes
-  pub work-twos : length twos ≡ length workTwos
+  pub work-ones : length workOnes ≡ (rows + 243) * w
+  pub work-twos : length workTwos ≡ (rows + 243) * w
 
--- a grid, and working space of at least its size
+-- a grid, and working space that is large enough
 pub record ForRankOf (ones twos : List ℕ) (rows w n : ℕ) (workOnes workTwos : List ℕ) : Type 0 where
   pub grid : Rows ones twos rows w
-  pub small : length ones ≤ 4294967296
+  pub small : (rows + 243) * w ≤ 4294967296
+  pub narrow : w ≤ 65536
+  pub some : 0 < w
   pub columns : n ≤ 64 * w
-  pub work-ones : length ones ≤ length workOnes
-  pub work-twos : length ones ≤ length workTwos
+  pub work-ones : (rows + 243) * w ≤ length workOnes
+  pub work-twos : (rows + 243) * w ≤ length workTwos
 
 -- sizes that fit, H_U and H_V, and working space
 pub record ForTestRanks (z : Sizes) (huOnes huTwos hvOnes hvTwos workOnes workTwos : List ℕ) : Type 0 where

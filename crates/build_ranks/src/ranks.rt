@@ -5,13 +5,13 @@ ghost use Rattle.trits.specs.Refusal.{codeOf};
 ghost use Rattle.matrix.specs.Linear.{rank, range};
 ghost use Rattle.scheme.specs.Sizes.{ru, rv};
 ghost use Rattle.scheme.specs.Build.{buildRefusal};
-ghost use Rattle.build_ranks.specs.Steps.{matrices, ForRankCopied, ForRankOf, ForTestRanks};
+ghost use Rattle.build_ranks.specs.Steps.{matrices, ForRankIn, ForRankOf, ForTestRanks};
 use scheme::sizes::Sizes;
 use trits::refusal::Outcome;
 use trits::refusal::Refusal;
 
-// The rank of a matrix, which is copied to planes of its size and eliminated there.
-pub fn rank_copied(
+// The rank of a matrix, which is copied to planes with room for tables after it, and eliminated there.
+pub fn rank_in(
     ones: &[u64],
     twos: &[u64],
     rows: usize,
@@ -20,15 +20,17 @@ pub fn rank_copied(
     work_ones: &mut [u64],
     work_twos: &mut [u64],
 ) -> usize
-    requires { ⌜ ForRankCopied (now ones) (now twos) rows w n (now «work_ones») (now «work_twos») ⌝ }
+    requires { ⌜ ForRankIn (now ones) (now twos) rows w n (now «work_ones») (now «work_twos») ⌝ }
     ensures { λ r. ⌜ r ≡ rank rows n (matrixAt w (now (ones .entry)) (now (twos .entry))) (range n) ⌝ }
 {
-    planes::words::copy_words(work_ones, ones);
-    planes::words::copy_words(work_twos, twos);
-    elimination::rank::eliminate(work_ones, work_twos, rows, w, n)
+    planes::words::zero_words(work_ones);
+    planes::words::zero_words(work_twos);
+    planes::words::put_row(work_ones, 0, ones);
+    planes::words::put_row(work_twos, 0, twos);
+    lowering::lower::lower(work_ones, work_twos, rows + 243, w, rows, w, n)
 }
 
-// The rank of a matrix, in planes of its size or more.
+// The rank of a matrix, in planes that have room for it and for tables.
 pub fn rank_of(
     ones: &[u64],
     twos: &[u64],
@@ -41,8 +43,8 @@ pub fn rank_of(
     requires { ⌜ ForRankOf (now ones) (now twos) rows w n (now «work_ones») (now «work_twos») ⌝ }
     ensures { λ r. ⌜ r ≡ rank rows n (matrixAt w (now (ones .entry)) (now (twos .entry))) (range n) ⌝ }
 {
-    let e = ones.len();
-    rank_copied(
+    let e = (rows + 243) * w;
+    rank_in(
         ones,
         twos,
         rows,

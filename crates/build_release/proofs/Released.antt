@@ -1,19 +1,20 @@
 -- The key that the arranged work matrix makes is the released one. Assumes nothing.
-use mathlib.Core.Path.{_≡_, sym, ap, ap₂, _∙_, subst, subst₂}
-use mathlib.Core.List.{List}
-use Prim.Native.Nat.{ℕ, _+_, _-_, _<_}
+use mathlib.Core.Path.{_≡_, refl, sym, ap, ap₂, _∙_, subst, subst₂}
+use mathlib.Core.Bool.{Bool, true, false, cond}
+use mathlib.Core.List.{List, _++_}
+use Prim.Native.Nat.{ℕ, zero, suc, _+_, _*_, _≤_, _<_}
 use native.Mathlib.Nat.{mul-add, add-mul}
 use native.Mathlib.Omega.{arith}
 use borrow.Author.Tests.{eqb-true}
-use lib.Dec.{eqb, lit<}
+use lib.Dec.{eqb, ltb, lit<}
 use lib.ListN.{length}
-use Rattle.trits.specs.Trit.{upTo}
+use Rattle.trits.specs.Trit.{t0, upTo}
 use Rattle.trits.specs.Planes.{onesOf, twosOf, zeroWords}
-use Rattle.trits.specs.Rows.{matrixAt}
+use Rattle.trits.specs.Rows.{rowsOf, matrixAt}
 use Rattle.trits.proofs.Lists.{length-zeros}
-use Rattle.trits.proofs.Ends.{zeros-row}
+use Rattle.trits.proofs.Ends.{zeros-row, zeros-hold, upto-out, upto-same}
 use Rattle.trits.proofs.Refusals.{passed-demand}
-use Rattle.matrix.specs.Linear.{Vector, Matrix, rank, range}
+use Rattle.matrix.specs.Linear.{Vector, Matrix, zeros, column, rank, range}
 use Rattle.matrix.specs.Orders.{Order}
 use Rattle.matrix.proofs.Rank.{full-reaches}
 use Rattle.grid.specs.Steps.{Rows, Grid}
@@ -27,35 +28,66 @@ use Rattle.scheme_laws.proofs.Pairs.{secret-reaches}
 use Rattle.scheme_laws.proofs.Build.{arranged-good}
 use Rattle.build_matrix.specs.Steps.{placedAt, halvesIn, leftU, rightU, leftV}
 use Rattle.build_matrix.proofs.Placed.{rows-joined, placed-secret}
-use Rattle.build_key.specs.Steps.{Keyed, readDown, keyOnes, keyTwos}
-use Rattle.build_key.proofs.Written.{rows-same, down-row}
+use Rattle.build_key.specs.Steps.{Keyed}
+use Rattle.key_rows.specs.Steps.{readDown, keyOnes, keyTwos}
 use Rattle.calls.specs.Lent.{Planes, halfWords, secretOf}
 use Rattle.calls.specs.Steps.{Readable}
 use Rattle.calls.specs.BuildCall.{keyRowWords, buildWorkWords, keyOnesOf, keyTwosOf}
 use Rattle.calls.proofs.Bounds.{Bounds}
-use Rattle.build_release.specs.Steps.{Filled}
+use Rattle.build_release.specs.Steps.{Filled, madeOnes, madeTwos}
 
 -- working planes of 0, as half-rows
-pub zero-rows : (z : Sizes) {o t : List ℕ} (n k : ℕ) → o ≡ zeroWords n → t ≡ zeroWords k → n ≡ buildWorkWords z → k ≡ buildWorkWords z
-    → Rows o t (codim z + codim z) (halfWords z)
-zero-rows z {o} {t} n k e f a b =
-    copied-rows (e ∙ ap zeroWords a) (f ∙ ap zeroWords b)
-    (record {
-      row = zeros-row (buildWorkWords z);
-      size = length-zeros (buildWorkWords z) ∙ omega (arith, mul-add (codim z) (halfWords z) (halfWords z), add-mul (codim z) (codim z) (halfWords z));
-    })
+module _ (z : Sizes) {o t : List ℕ} (n k : ℕ) (e : o ≡ zeroWords n) (f : t ≡ zeroWords k) (a : n ≡ buildWorkWords z) (b : k ≡ buildWorkWords z) where
+  pub zero-rows : Rows o t (codim z + 243 + (codim z + 243)) (halfWords z)
+  zero-rows =
+      copied-rows (e ∙ ap zeroWords a) (f ∙ ap zeroWords b)
+      (record {
+        row = zeros-row (buildWorkWords z);
+        size = length-zeros (buildWorkWords z)
+            ∙ omega (arith, mul-add (codim z + 243) (halfWords z) (halfWords z), add-mul (codim z + 243) (codim z + 243) (halfWords z));
+      })
+
+  pub zero-cells : (j q : ℕ) → matrixAt (halfWords z) o t j q ≡ t0
+  unfolding matrixAt
+  zero-cells j q =
+      ap (λ (v : Vector). cond (ltb q (64 * halfWords z)) (v (64 * (j * halfWords z) + q)) t0) (zeros-hold zeros e f (b ∙ sym a) .trits)
+      ∙ by (ltb q (64 * halfWords z))
+    where
+      by : (s : Bool) → cond s (upTo 0 zeros (64 * (j * halfWords z) + q)) t0 ≡ t0
+      by true = upto-out zeros 0 (64 * (j * halfWords z) + q) (omega arith)
+      by false = refl
 
 -- both parts filled
-pub filled-done : (z : Sizes) (k : Planes) {o₁ t₁ o t : List ℕ} (A : Matrix) → Readable z k
-    → Grid o₁ t₁ (codim z + codim z) (halfWords z) (halvesIn 0 (ru z) (leftU (secretOf z k .hu) (secretOf z k .b) (secretOf z k .c))
+pub filled-done : (z : Sizes) (k : Planes) {o₁ t₁ o t : List ℕ} (A : Matrix) → ((j q : ℕ) → A j q ≡ t0) → Readable z k
+    → Grid o₁ t₁ (codim z + 243 + (codim z + 243)) (halfWords z) (halvesIn 0 (ru z) (leftU (secretOf z k .hu) (secretOf z k .b) (secretOf z k .c))
     (rightU (secretOf z k .hu) (secretOf z k .b)) A)
-    → Grid o t (codim z + codim z) (halfWords z) (halvesIn (ru z) (rv z) (leftV (secretOf z k .hv) (secretOf z k .c)) (secretOf z k .hv)
+    → Grid o t (codim z + 243 + (codim z + 243)) (halfWords z) (halvesIn (ru z) (rv z) (leftV (secretOf z k .hv) (secretOf z k .c)) (secretOf z k .hv)
     (matrixAt (halfWords z) o₁ t₁)) → Filled z (secretOf z k) o t
-filled-done z k {o₁} {t₁} {o} {t} A r g h = record {
+filled-done z k {o₁} {t₁} {o} {t} A none r g h = record {
   rows = rows-joined (h .rows);
-  cells = placed-secret z (halfWords z) (secretOf z k .b) (secretOf z k .c) A (omega arith) (r .hu) (r .hv)
+  cells = placed-secret z (halfWords z) (codim z + 243 + (codim z + 243)) (secretOf z k .b) (secretOf z k .c) A none (omega arith) (r .hu) (r .hv)
       (grid-to h (ap (λ (B : Matrix). halvesIn (ru z) (rv z) (leftV (secretOf z k .hv) (secretOf z k .c)) (secretOf z k .hv) B) (g .cells)));
 }
+
+-- rows that are the same one by one
+rows-same : (f g : ℕ → List ℕ) (k : ℕ) → ((i : ℕ) → i < k → f i ≡ g i) → rowsOf f k ≡ rowsOf g k
+unfolding rowsOf
+rows-same f g zero e = refl
+rows-same f g (suc k) e = ap₂ (λ (x y : List ℕ). x ++ y) (rows-same f g k (λ i l. e i (omega arith))) (e k (omega arith))
+
+-- the rows of R are read down the columns of the arranged matrix
+module _ {r n : ℕ} {H M : Matrix} {q : List ℕ} (key : Keyed r n H M q) (k kw : ℕ) (h : r + k ≤ n) where
+  down : (i : ℕ) → i < k → readDown r M i ≡ upTo r (rowOfR r n H q i)
+  unfolding readDown
+  down i l = sym (upto-same r (rowOfR r n H q i) (column M (r + i)) (λ c g. key .entry i c g (omega arith)))
+
+  pub made-ones : keyOnes k kw r M ≡ madeOnes r n k kw H q
+  unfolding keyOnes madeOnes
+  made-ones = rows-same _ _ k (λ i l. ap (λ (v : Vector). onesOf v kw) (down i l))
+
+  pub made-twos : keyTwos k kw r M ≡ madeTwos r n k kw H q
+  unfolding keyTwos madeTwos
+  made-twos = rows-same _ _ k (λ i l. ap (λ (v : Vector). twosOf v kw) (down i l))
 
 -- both ranks are full, and so that of the secret matrix
 pub full-rank : (z : Sizes) (s : Secret) → buildRefusal z s ≡ 0 → rank (codim z) (places z) (secretMatrix z s) (range (places z)) ≡ codim z
@@ -89,30 +121,19 @@ module _ (z : Sizes) (s : Secret) (start : List ℕ) {o t p : List ℕ} (f : Fil
         a ∙ ap₂ (λ (m : ℕ) (H : Matrix). arranged (codim z) m H p .order) ready-size (f .cells)
         ∙ ap (λ (l : List ℕ). arranged (codim z) (places z) (secretMatrix z s) l .order) e
 
-    pub final-good : Order (places z) q
-    final-good =
-        subst (λ (l : List ℕ). Order (places z) l) (sym final-order)
-        (arranged-good (codim z) (places z) (secretMatrix z s) start (full-reaches (codim z) (places z) (secretMatrix z s) .0 full) ord .order)
+    -- the final order is that of the key
+    final : (i : ℕ) → upTo (codim z) (rowOfR (codim z) (length p) (placedAt (half z) (halfWords z) (halfWords z + halfWords z) o t) q i)
+        ≡ upTo (codim z) (rowOfR (codim z) (places z) (secretMatrix z s) (keyOrder z s start) i)
+    final i =
+        ap₂ (λ (m : ℕ) (H : Matrix). upTo (codim z) (rowOfR (codim z) m H q i)) ready-size (f .cells)
+        ∙ ap (λ (l : List ℕ). upTo (codim z) (rowOfR (codim z) (places z) (secretMatrix z s) l i)) final-order
 
-    pub final-ready : Order (length q) q
-    final-ready = subst (λ (m : ℕ). Order m q) (sym (final-good .size)) final-good
+    pub final-ones : madeOnes (codim z) (length p) (dim z) (keyRowWords z) (placedAt (half z) (halfWords z) (halfWords z + halfWords z) o t) q
+        ≡ keyOnesOf z s start
+    unfolding madeOnes keyOnesOf
+    final-ones = rows-same _ _ (dim z) (λ i l. ap (λ (v : Vector). onesOf v (keyRowWords z)) (final i))
 
-    module _ (o₂ t₂ : List ℕ) (k : Keyed (codim z) (length p) (placedAt (half z) (halfWords z) (halfWords z + halfWords z) o t)
-        (placedAt (half z) (halfWords z) (halfWords z + halfWords z) o₂ t₂) q)
-        (b : Bounds z) where
-      keyed : Keyed (codim z) (places z) (secretMatrix z s) (placedAt (half z) (halfWords z) (halfWords z + halfWords z) o₂ t₂) q
-      keyed = subst₂ (λ (m : ℕ) (H : Matrix). Keyed (codim z) m H (placedAt (half z) (halfWords z) (halfWords z + halfWords z) o₂ t₂) q) ready-size (f .cells) k
-
-      row : (i : ℕ) → i < dim z → readDown (codim z) (half z) (halfWords z) (matrixAt (halfWords z + halfWords z) o₂ t₂) q i
-          ≡ upTo (codim z) (rowOfR (codim z) (places z) (secretMatrix z s) (keyOrder z s start) i)
-      row i l =
-          down-row (half z) (halfWords z) (halfWords z + halfWords z) o₂ t₂ keyed i (omega (arith, b .ku, b .kv))
-          ∙ ap (λ (l : List ℕ). upTo (codim z) (rowOfR (codim z) (places z) (secretMatrix z s) l i)) final-order
-
-      pub final-ones : keyOnes (dim z) (keyRowWords z) (codim z) (half z) (halfWords z) (matrixAt (halfWords z + halfWords z) o₂ t₂) q ≡ keyOnesOf z s start
-      unfolding keyOnes keyOnesOf
-      final-ones = rows-same _ _ (dim z) (λ i l. ap (λ (v : Vector). onesOf v (keyRowWords z)) (row i l))
-
-      pub final-twos : keyTwos (dim z) (keyRowWords z) (codim z) (half z) (halfWords z) (matrixAt (halfWords z + halfWords z) o₂ t₂) q ≡ keyTwosOf z s start
-      unfolding keyTwos keyTwosOf
-      final-twos = rows-same _ _ (dim z) (λ i l. ap (λ (v : Vector). twosOf v (keyRowWords z)) (row i l))
+    pub final-twos : madeTwos (codim z) (length p) (dim z) (keyRowWords z) (placedAt (half z) (halfWords z) (halfWords z + halfWords z) o t) q
+        ≡ keyTwosOf z s start
+    unfolding madeTwos keyTwosOf
+    final-twos = rows-same _ _ (dim z) (λ i l. ap (λ (v : Vector). twosOf v (keyRowWords z)) (final i))

@@ -4,6 +4,7 @@ ghost use Rattle.scheme.specs.Build.{keyOrder};
 ghost use Rattle.calls.specs.Lent.{planes, secretOf};
 ghost use Rattle.calls.specs.BuildCall.{keyOnesOf, keyTwosOf};
 ghost use Rattle.build_release.specs.Steps.{Filled, ForFillMatrix, ForRelease};
+use super::make;
 use super::order;
 use scheme::sizes;
 use scheme::sizes::Sizes;
@@ -29,7 +30,8 @@ pub fn fill_matrix(
         (now («work_ones» .exit)) (now («work_twos» .exit)) ⌝ }
 {
     let s = sizes::shape_of(z);
-    let rows = s.ru + s.rv + (s.ru + s.rv);
+    let m = s.ru + s.rv + 243; // the secret matrix, and three tables
+    let rows = m + m; // in halves
     planes::words::zero_words(work_ones);
     planes::words::zero_words(work_twos);
     build_matrix::fill::fill_u(
@@ -102,16 +104,7 @@ pub fn release(
         work_twos,
     );
     order::copy_order(p, start);
-    build_key::arrange::arrange(
-        work_ones,
-        work_twos,
-        rows,
-        s.words + s.words,
-        s.half,
-        s.words,
-        p,
-    );
-    build_key::key::write_key(
+    make::make_key(
         work_ones,
         work_twos,
         rows,

@@ -31,12 +31,13 @@ buildCall s start p ko kt wo wt = record { secret = s; start = start; p = p; key
 
 -- ---- 2: a length differs from what the sizes say
 
--- the words of a row of the key, and of a working plane
+-- the words of a row of the key
 abbrev pub keyRowWords : Sizes → ℕ
 keyRowWords z = wordsFor (codim z)
 
+-- the words of a working plane: the secret matrix, and three tables of 81 rows
 abbrev pub buildWorkWords : Sizes → ℕ
-buildWorkWords z = codim z * (halfWords z + halfWords z)
+buildWorkWords z = (codim z + 243) * (halfWords z + halfWords z)
 
 -- the lengths of the starting order, p, the key and the working space
 unfoldable pub keyDiffers : Sizes → ℕ → ℕ → ℕ → ℕ → ℕ → ℕ → Bool

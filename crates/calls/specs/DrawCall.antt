@@ -55,13 +55,13 @@ choicesOf i = record { orderV = i .orderV; tritsV = tritAt (i .v .ones) (i .v .t
 
 -- ---- 2: a length differs from what the sizes say
 
--- the rows of the working space before its last five: as many as the larger of H_U and H_V has
+-- the rows of the matrix under elimination: as many as the larger of H_U and H_V has
 abbrev pub matrixRows : Sizes → ℕ
 matrixRows z = cond (ltb (ru z) (rv z)) (rv z) (ru z)
 
--- the words of a working plane
+-- the words of a working plane: the matrix under elimination, three tables of 81 rows, five rows
 abbrev pub drawWorkWords : Sizes → ℕ
-drawWorkWords z = (matrixRows z + 5) * halfWords z
+drawWorkWords z = (matrixRows z + 248) * halfWords z
 
 -- the lengths of p, y, the V order, the V trits, the U order, the U values, the word, s and the working space
 unfoldable pub choicesDiffer : Sizes → ℕ → ℕ → ℕ → ℕ → ℕ → ℕ → ℕ → ℕ → ℕ

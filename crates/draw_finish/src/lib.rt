@@ -58,7 +58,7 @@ pub fn finish(
         × (now («work_twos» .exit) ≡ zeroWords (length (now («work_twos» .entry))))) ⌝ }
 {
     let s = sizes::shape_of(z);
-    let l = calls::work::more_rows(s.ru, s.rv);
+    let l = calls::work::more_rows(s.ru, s.rv) + 243;
     let made = word::make_word(
         z,
         l,

@@ -1,37 +1,42 @@
--- The word of one half: what is supplied in row e, and solved for in the lowered matrix, is the word of the definition. Assumes nothing.
+-- The word of one half: what is solved for by position, and placed back, is the word of the definition. Assumes nothing.
 use mathlib.Core.Path.{_≡_, refl, sym, ap, ap₂, _∙_}
-use mathlib.Core.Bool.{true, false, true≢false}
-use mathlib.Core.List.{List}
+use mathlib.Core.Bool.{Bool, true, false, cond, true≢false}
+use mathlib.Core.List.{List, _++_, map}
 use Prim.Native.Nat.{ℕ, zero, suc, _+_, _-_, _≤_, _<_}
+use native.Mathlib.Decide.{decLt}
 use native.Mathlib.Omega.{arith}
-use borrow.Author.Tests.{eq-eqb, ne-eqb}
-use lib.Dec.{eqb}
-use lib.ListN.{length, getD, take, drop}
-use lib.Seq.{length-take-le, take-length}
-use Rattle.trits.specs.Trit.{subT, putV, dotV, zipV, upTo}
+use borrow.Author.Tests.{eq-eqb, ne-eqb, eqb-true, lt-ltb, le-ltb}
+use lib.Dec.{eqb, ltb}
+use lib.ListN.{length, getD, take, drop, length-map, length-drop, take-append-drop}
+use lib.Seq.{length-take-le, getD-drop}
+use Rattle.trits.specs.Trit.{t0, t1, subT, putV, dotV, zipV, upTo}
 use Rattle.trits.proofs.Ends.{upto-out}
-use Rattle.matrix.specs.Linear.{Vector, Matrix, zeros, times, solve, orZeros, rank, without, fill}
+use Rattle.matrix.specs.Linear.{Vector, Matrix, zeros, times, solve, orZeros, elem, pivots, rank, without, fill, range}
 use Rattle.matrix.specs.Orders.{Order}
 use Rattle.matrix.specs.Steps.{eliminated, firstSet, backed}
-use Rattle.matrix.proofs.Dots.{dot-past}
-use Rattle.matrix.proofs.Places.{Below, fill-off, elem-at, elem-past}
-use Rattle.matrix.proofs.Greedy.{Kept, pivots-kept}
-use Rattle.matrix.proofs.Orders.{order-good}
+use Rattle.matrix.proofs.Dots.{put-same, put-other}
+use Rattle.matrix.proofs.Places.{elem-past, fill-at, fill-off}
+use Rattle.matrix.proofs.Greedy.{pivots-kept, pivots-elem}
+use Rattle.matrix.proofs.Orders.{order-good, elem-index}
 use Rattle.matrix.proofs.Counts.{without-out}
+use Rattle.matrix.proofs.Field.{refuted}
 use Rattle.matrix.proofs.Kept.{eliminated-lowered}
-use Rattle.matrix.proofs.Values.{backed-cong, back-solves}
+use Rattle.matrix.proofs.Values.{back-solves}
+use Rattle.matrix.proofs.FirstPart.{Image, map-range, range-below}
+use Rattle.matrix.proofs.KnownPart.{order-apart, last-not-first, Holds, backed-alike, fill-holds}
+use Rattle.matrix.proofs.Fills.{fill-either, fill-append, fill-map, without-append, without-apart}
 use Rattle.grid.specs.Steps.{putRow}
 use Rattle.grid.proofs.RowParts.{put-here, put-else}
 use Rattle.scheme.specs.declared.sizes.Sizes.{Sizes}
 use Rattle.scheme.specs.Sizes.{half, ru, rv, gapU, gapV}
 use Rattle.scheme.specs.Secret.{Secret}
-use Rattle.scheme.specs.Draw.{Choices, pivotsV, suppliedV, drawV, pivotsU, suppliedU, drawU}
-use Rattle.scheme_laws.proofs.Draws.{first-below, last-in}
-use Rattle.draw_reduce.specs.Steps.{over, passed, pivotPlace}
-use Rattle.draw_reduce.proofs.Walked.{first-taken, first-passed, first-pivot, order-taken, order-passed, over-row, over-rest, over-passed}
-use Rattle.scheme.specs.Draw.{forcedBy}
-use Rattle.draw_walk.proofs.Supplied.{walk-length, put-again}
-use Rattle.draw_half.specs.Steps.{Ends, halfPivots, wordV, wordU, completed, Solved, SolvedWhere}
+use Rattle.scheme.specs.Draw.{Choices, pivotsV, suppliedV, drawV, pivotsU, suppliedU, drawU, forcedBy}
+use Rattle.scheme_laws.proofs.Draws.{parts, first-below, last-in}
+use Rattle.draw_walk.specs.Walks.{passed, pivotPlace, firstsOf, lastsOf}
+use Rattle.draw_walk.proofs.Walked.{walk-taken, walk-passed, passed-image}
+use Rattle.draw_walk.proofs.Filled.{put-again}
+use Rattle.draw_walk.proofs.Supplied.{walk-length, passed-below}
+use Rattle.draw_half.specs.Steps.{Ends, wordV, wordU, halfWord, LoweredFirst, marked, solvedFirst, completed, Solved, SolvedWhere}
 
 -- ---- the words are those of a draw
 
@@ -57,22 +62,13 @@ module _ {count k r : ℕ} (e : count ≡ k) where
   pub has-rank : count ≡ r → true ≡ eqb k r
   has-rank f = sym (eq-eqb k r (sym e ∙ f))
 
-pub not-solved : {r e : ℕ} {A B : Matrix} {v : Vector} → SolvedWhere false r e A B v
+pub not-solved : {r t e : ℕ} {A B : Matrix} {v : Vector} → SolvedWhere false r t e A B v
 not-solved = record { solved = λ z. absurd (true≢false (sym z)) }
 
-pub is-solved : {r e : ℕ} {A B : Matrix} {v : Vector} → Solved r e A B v → SolvedWhere true r e A B v
+pub is-solved : {r t e : ℕ} {A B : Matrix} {v : Vector} → Solved r t e A B v → SolvedWhere true r t e A B v
 is-solved h = record { solved = λ z. h }
 
--- ---- a word is 0 where nothing was put
-
--- past the places listed, and at those that are left out
-fill-past : (n : ℕ) (ps : List ℕ) (v w : Vector) → Below n ps → Ends n w → Ends n (fill ps v w)
-fill-past n ps v w b e = record { past = λ q h. fill-off ps v w q (elem-past n ps q b h) ∙ e .past q h }
-
-zeros-end : (n : ℕ) → Ends n zeros
-zeros-end n = record { past = λ q h. refl }
-
--- ---- row e is completed
+-- ---- the first part is solved by position
 
 -- the first c rows are all that is read
 same-rows : (n : ℕ) (A B : Matrix) (ps : List ℕ) (c : ℕ) (u : Vector) → ((i : ℕ) → i < c → A i ≡ B i)
@@ -83,167 +79,324 @@ same-rows n A B ps (suc c) u e =
     same-rows n A B ps c (putV u (pivotPlace A ps c) (subT (u (pivotPlace A ps c)) (times n A u c))) (λ i h. e i (omega arith))
     ∙ ap (λ (v : Vector). backed n B (pivotPlace B ps) c (putV u (firstSet v (drop c ps)) (subT (u (firstSet v (drop c ps))) (dotV v u n)))) (e c (omega arith))
 
--- the three matrices, one after another
-pub is-complete : (M : Matrix) {M₁ M₂ M₃ : Matrix} (n : ℕ) (ps : List ℕ) (r x e : ℕ) → r ≤ e → (x ≡ e → ⊥) → M₁ ≡ putRow e (zipV subT (M x) (M e)) M
-    → M₂ ≡ putRow e (backed n M₁ (pivotPlace M₁ ps) r (M₁ e)) M₁ → M₃ ≡ putRow e (zipV subT (M₂ x) (M₂ e)) M₂
-    → M₃ ≡ putRow e (completed n M ps r (M x) (M e)) M
-is-complete M {M₁} {M₂} {M₃} n ps r x e re xe a b c =
-    c ∙ ap₂ (λ (u v : Vector). putRow e (zipV subT u v) M₂) row-x row-e ∙ ap (putRow e (completed n M ps r (M x) (M e))) two
-    ∙ put-again e left M (completed n M ps r (M x) (M e))
-  where
-    start : Vector
-    start = zipV subT (M x) (M e)
+-- the five matrices, one after another
+module _ (M : Matrix) (N r : ℕ) (order : List ℕ) (m : ℕ) (v : Vector) (x t e : ℕ) (rt : r ≤ t) (xe : x ≡ e → ⊥) (te : t ≡ e → ⊥)
+    (xt : x ≡ t → ⊥) where
+  abbrev begins : Vector
+  begins = marked m (length order) (firstsOf r M order m v (M x) (M t))
 
-    left : Vector
-    left = backed n M (pivotPlace M ps) r (zipV subT (M x) (M e))
+  abbrev ends : Vector
+  ends = solvedFirst N r order m v x t M
 
-    first : (k : ℕ) → (k ≡ e → ⊥) → M₁ k ≡ M k
-    first k f = ap (λ (B : Matrix). B k) a ∙ put-else e start M k f
+  abbrev filled : Vector
+  filled = fill (take m order) (solvedFirst N r order m v x t M) (M e)
 
-    solved : backed n M₁ (pivotPlace M₁ ps) r (M₁ e) ≡ left
-    solved =
-        ap (backed n M₁ (pivotPlace M₁ ps) r) (ap (λ (B : Matrix). B e) a ∙ put-here e start M e refl)
-        ∙ same-rows n M₁ M ps r start (λ i h. first i (λ z. omega arith))
+  pub is-complete : {M₁ M₂ M₃ M₄ M₅ : Matrix} → M₁ ≡ putRow t (firstsOf r M order m v (M x) (M t)) M → M₂ ≡ putRow t (marked m (length order) (M₁ t)) M₁
+      → M₃ ≡ putRow t (backed N M₂ (pivotPlace M₂ (range m)) r (M₂ t)) M₂ → M₄ ≡ putRow e (fill (take m order) (M₃ t) (M₃ e)) M₃
+      → M₅ ≡ putRow e (zipV subT (M₄ x) (M₄ e)) M₄ → M₅ ≡ completed N r order m v x t e M
+  is-complete {M₁} {M₂} {M₃} {M₄} {M₅} a b c d f =
+      f
+      ∙ ap₂ (λ (y z : Vector). putRow e (zipV subT y z) M₄)
+      (ap (λ (B : Matrix). B x) four ∙ put-else e filled (putRow t ends M) x xe ∙ put-else t ends M x xt)
+      (ap (λ (B : Matrix). B e) four ∙ put-here e filled (putRow t ends M) e refl)
+      ∙ ap (putRow e (zipV subT (M x) filled)) four ∙ put-again e filled (putRow t ends M) (zipV subT (M x) filled)
+    where
+      two : M₂ ≡ putRow t begins M
+      two =
+          b ∙ ap (λ (B : Matrix). putRow t (marked m (length order) (B t)) B) a
+          ∙ ap (λ (u : Vector). putRow t (marked m (length order) u) (putRow t (firstsOf r M order m v (M x) (M t)) M))
+          (put-here t (firstsOf r M order m v (M x) (M t)) M t refl)
+          ∙ put-again t (firstsOf r M order m v (M x) (M t)) M begins
 
-    two : M₂ ≡ putRow e left M
-    two = b ∙ ap₂ (λ (v : Vector) (B : Matrix). putRow e v B) solved a ∙ put-again e start M left
+      solved : backed N M₂ (pivotPlace M₂ (range m)) r (M₂ t) ≡ ends
+      solved =
+          ap (backed N M₂ (pivotPlace M₂ (range m)) r) (ap (λ (B : Matrix). B t) two ∙ put-here t begins M t refl)
+          ∙ same-rows N M₂ M (range m) r begins (λ i h. ap (λ (B : Matrix). B i) two ∙ put-else t begins M i (λ z. omega arith))
 
-    row-x : M₂ x ≡ M x
-    row-x = ap (λ (B : Matrix). B x) two ∙ put-else e left M x xe
+      three : M₃ ≡ putRow t ends M
+      three = c ∙ ap₂ (λ (u : Vector) (B : Matrix). putRow t u B) solved two ∙ put-again t begins M ends
 
-    row-e : M₂ e ≡ left
-    row-e = ap (λ (B : Matrix). B e) two ∙ put-here e left M e refl
+      four : M₄ ≡ putRow e filled (putRow t ends M)
+      four =
+          d ∙ ap (λ (B : Matrix). putRow e (fill (take m order) (B t) (B e)) B) three
+          ∙ ap₂ (λ (y z : Vector). putRow e (fill (take m order) y z) (putRow t ends M)) (put-here t ends M t refl) (put-else t ends M e (λ z. te (sym z)))
 
--- ---- one half
+-- ---- what is supplied
 
-module _ (r g : ℕ) (H A : Matrix) (order : List ℕ) (o : Order (length order) order) (x e w : ℕ) (rx : r ≤ x) (re : r ≤ e) (xe : x ≡ e → ⊥) where
-  abbrev pub n : ℕ
+module _ (r : ℕ) (H : Matrix) (order : List ℕ) (o : Order (length order) order) (m : ℕ) (front : m ≤ length order) where
+  abbrev n : ℕ
   n = length order
 
-  abbrev pub piv : List ℕ
-  piv = halfPivots r (length order) H order g
+  abbrev piv : List ℕ
+  piv = pivots r (length order) H (take m order)
 
-  abbrev pub lowered : Matrix
-  lowered = over r (eliminated r H (take (r + g) order)) A
+  abbrev F : Matrix
+  F = eliminated r H (take m order)
 
-  module _ (full : rank r (length order) H (take (r + g) order) ≡ r) where
+  module _ (full : rank r (length order) H (take m order) ≡ r) where
     full-pivots : length piv ≡ r
     unfolding rank
     full-pivots = full
 
-    -- S is supplied in row e of the lowered matrix
-    module _ (S : Vector) (ends : Ends n (A x)) (past : Ends n S) (l : n ≤ w) where
-      abbrev F : Matrix
-      F = eliminated r H (take (r + g) order)
+    -- the places of the first part that are no pivot
+    other-count : length (without piv (take m order)) ≡ m - r
+    other-count =
+        let t = ap (λ (l : List ℕ). length l) (walk-taken r n H (take m order) (first-below n m order o)) in
+        let p = ap (λ (l : List ℕ). length l) (walk-passed r n H (take m order) (first-below n m order o) (parts n m order o .0)) in
+        omega (arith, t, p, walk-length r F 0 (take m order), full-pivots, length-take-le m order front)
 
-      abbrev supplied : Matrix
-      supplied = putRow e S (over r (eliminated r H (take (r + g) order)) A)
+    -- V: the whole order's places that are no pivot are those of the first part, and the last part
+    pub supplied-v : (g : ℕ) (v : Vector) → m ≡ r + g
+        → fill (without piv (take m order)) v (fill (drop m order) (λ j. v (g + j)) zeros) ≡ fill (without piv order) v zeros
+    supplied-v g v e =
+        let count : g ≡ length (without piv (take m order)) = omega (arith, other-count) in
+        ap (λ (k : ℕ). fill (without piv (take m order)) v (fill (drop m order) (λ j. v (k + j)) zeros)) count
+        ∙ sym (fill-append (without piv (take m order)) (drop m order) v zeros)
+        ∙ ap (λ (l : List ℕ). fill l v zeros) (ap (λ (l : List ℕ). without piv (take m order) ++ l) (sym (without-apart piv (drop m order) apart))
+        ∙ sym (without-append piv (take m order) (drop m order)) ∙ ap (without piv) (take-append-drop m order))
+      where
+        apart : (q : ℕ) → elem q (drop m order) ≡ true → elem q piv ≡ false
+        apart q k = refuted (elem q piv) (λ i. true≢false (sym k ∙ parts n m order o .2 q (pivots-elem r n H (take m order) q i)))
 
-      supplied-row : (i : ℕ) → i < r → supplied i ≡ F i
-      supplied-row i h = put-else e S lowered i (λ z. omega arith) ∙ over-row r F A i h
+  -- U: the two parts may be filled in either order
+  pub supplied-u : (u f : Vector) → fill (without piv (take m order)) u (fill (drop m order) f zeros)
+      ≡ fill (drop m order) f (fill (without piv (take m order)) u zeros)
+  supplied-u u f =
+      sym (fill-either (without piv (take m order)) (drop m order) u f zeros (λ q k. parts n m order o .2 q (without-out piv (take m order) q k .0)))
 
-      place : (i : ℕ) → i < r → pivotPlace supplied (take (r + g) order) i ≡ getD piv i 0
-      place i h = ap (λ (v : Vector). firstSet v (drop i (take (r + g) order))) (supplied-row i h) ∙ first-pivot r n H (r + g) order o full-pivots i h
+-- ---- one half
 
-      kept : Kept r n H piv
-      kept = pivots-kept r n H (take (r + g) order) (first-below n (r + g) order o)
+-- row e of the last part is 0 past the places
+pub made-ends : (A : Matrix) {A₁ : Matrix} (order : List ℕ) → Order (length order) order → (m x e : ℕ)
+    → ((q : ℕ) → elem q (drop m order) ≡ false → A e q ≡ t0) → A₁ ≡ putRow e (lastsOf (drop m order) (A x) (A e)) A → Ends (length order) (A₁ e)
+made-ends A {A₁} order o m x e last a = record {
+  past = λ q h.
+      let out = elem-past (length order) (drop m order) q (λ p k. order-good (length order) order o .1 p (last-in (length order) m order o p k)) h in
+      ap (λ (M : Matrix). M e q) a ∙ ap (λ (v : Vector). v q) (put-here e (lastsOf (drop m order) (A x) (A e)) A e refl)
+      ∙ fill-off (drop m order) (λ j. subT (A x (getD (drop m order) j 0)) (A e (getD (drop m order) j 0))) (A e) q out ∙ last q out;
+}
 
-      solved : backed w supplied (pivotPlace supplied (take (r + g) order)) r (zipV subT (A x) S) ≡ backed n F (λ c. getD piv c 0) r (zipV subT (A x) S)
-      solved =
-          backed-cong n w supplied F (pivotPlace supplied (take (r + g) order)) (λ c. getD piv c 0) r (zipV subT (A x) S) place
-          (λ i v h z. ap (λ (u : Vector). dotV u v w) (supplied-row i h) ∙ dot-past n w (F i) v l z)
-          (λ i h. kept .below (getD piv i 0) (elem-at piv i (omega (arith, full-pivots))))
-          (λ q h. ap₂ subT (ends .past q h) (past .past q h))
+module _ (r : ℕ) (H A : Matrix) (order : List ℕ) (o : Order (length order) order) (m N : ℕ) (front : m ≤ length order) (fits : length order ≤ N) (x t e : ℕ)
+    (rx : r + 243 ≤ x) (rt : r + 243 ≤ t) (re : r + 243 ≤ e) (xe : x ≡ e → ⊥) (te : t ≡ e → ⊥) (ends : Ends (length order) (A x)) (none : A t ≡ zeros)
+    (last : (q : ℕ) → elem q (drop m order) ≡ false → A e q ≡ t0) where
+  abbrev at : ℕ → ℕ
+  at j = getD order j 0
 
-      word : completed w supplied (take (r + g) order) r (A x) S ≡ orZeros (solve r n H (times n H (A x)) piv S)
-      word =
-          ap (zipV subT (A x)) solved
-          ∙ sym (ap orZeros (back-solves r n H F piv kept (eliminated-lowered r n H (take (r + g) order) (first-below n (r + g) order o)) full-pivots (A x) S))
+  abbrev z : Vector
+  z = lastsOf (drop m order) (A x) (A e)
 
-      -- the three matrices, one after another
-      pub half-done : {M₁ M₂ M₃ : Matrix} → M₁ ≡ lowered → M₂ ≡ putRow e S M₁ → M₃ ≡ putRow e (completed w M₂ (take (r + g) order) r (M₂ x) (M₂ e)) M₂
-          → Solved r e A M₃ (orZeros (solve r n H (times n H (A x)) piv S))
-      half-done {M₁} {M₂} {M₃} a b c = record {
-        word = ap (λ (B : Matrix). B e) made ∙ put-here e _ lowered e refl;
-        kept = λ k h f. ap (λ (B : Matrix). B k) made ∙ put-else e _ lowered k f ∙ over-rest r F A k h;
-      }
-        where
-          two : M₂ ≡ supplied
-          two = b ∙ ap (putRow e S) a
+  -- no place of the first part is in the last, nor one past the places
+  first-not-last : (j : ℕ) → j < m → elem (getD order j 0) (drop m order) ≡ false
+  first-not-last j h =
+      refuted (elem (at j) (drop m order)) (λ k.
+      let i = elem-index (at j) (drop m order) k in
+      order-apart order o j (m + i .0) (omega arith) (omega (arith, i .1, length-drop m order)) (λ y. omega arith)
+      (sym (sym (getD-drop m order (i .0) 0) ∙ i .2)))
 
-          made : M₃ ≡ putRow e (orZeros (solve r n H (times n H (A x)) piv S)) lowered
-          made =
-              c ∙ ap (λ (M : Matrix). putRow e (completed w M (take (r + g) order) r (M x) (M e)) M) two
-              ∙ ap₂ (λ (u v : Vector). putRow e (completed w supplied (take (r + g) order) r u v) supplied)
-              (put-else e S lowered x xe ∙ over-rest r F A x rx) (put-here e S lowered e refl)
-              ∙ ap (λ (v : Vector). putRow e v supplied) word
-              ∙ put-again e S lowered (orZeros (solve r n H (times n H (A x)) piv S))
+  past-not-last : (q : ℕ) → length order ≤ q → elem q (drop m order) ≡ false
+  past-not-last q h = elem-past (length order) (drop m order) q (λ p k. order-good (length order) order o .1 p (last-in (length order) m order o p k)) h
 
-    -- ---- V
+  first-zero : (j : ℕ) → j < m → z (getD order j 0) ≡ t0
+  first-zero j h = fill-off (drop m order) _ (A e) (at j) (first-not-last j h) ∙ last (at j) (first-not-last j h)
 
-    passedV : {M : Matrix} → M ≡ lowered → passed r M 0 (take n order) ≡ without piv order
-    passedV a =
-        ap₂ (λ (B : Matrix) (l : List ℕ). passed r B 0 l) a (take-length order)
-        ∙ over-passed r (eliminated r H (take (r + g) order)) A 0 order ∙ order-passed r n H (r + g) order o full-pivots
+  past-zero : (q : ℕ) → length order ≤ q → z q ≡ t0
+  past-zero q h = fill-off (drop m order) _ (A e) q (past-not-last q h) ∙ last q (past-not-last q h)
 
-    own-row : {M : Matrix} → M ≡ lowered → (k : ℕ) → r ≤ k → M k ≡ A k
-    own-row a k h = ap (λ (B : Matrix). B k) a ∙ over-rest r (eliminated r H (take (r + g) order)) A k h
+  last-value : (j : ℕ) → m ≤ j → j < length order → z (getD order j 0) ≡ subT (A x (getD order j 0)) (A e (getD order j 0))
+  last-value j h l =
+      let D = drop m order in
+      let val : Vector = λ i. subT (A x (getD D i 0)) (A e (getD D i 0)) in
+      let k : m + (j - m) ≡ j = omega arith in
+      let same : getD D (j - m) 0 ≡ at j = getD-drop m order (j - m) 0 ∙ ap at k in
+      ap (fill D val (A e)) (sym same) ∙ fill-at D val (A e) (j - m) (parts (length order) m order o .1) (omega (arith, length-drop m order))
+      ∙ ap (λ (q : ℕ). subT (A x q) (A e q)) same
+
+  module _ {A₁ B : Matrix} (v : Vector) (a : A₁ ≡ putRow e (lastsOf (drop m order) (A x) (A e)) A) (low : LoweredFirst r m order H (A₁ e) A₁ B)
+      (full : rank r (length order) H (take m order) ≡ r) where
+    row-kept : (k : ℕ) → r + 243 ≤ k → (k ≡ e → ⊥) → B k ≡ A k
+    row-kept k h f = low .kept k h ∙ ap (λ (M : Matrix). M k) a ∙ put-else e z A k f
+
+    row-e : A₁ e ≡ z
+    row-e = ap (λ (M : Matrix). M e) a ∙ put-here e z A e refl
+
+    passed-first : without (piv r H order o m front) (take m order) ≡ map (λ j. getD order j 0) (passed r B 0 (range m))
+    passed-first =
+        sym (walk-passed r (length order) H (take m order) (first-below (length order) m order o) (parts (length order) m order o .0))
+        ∙ ap (passed r (eliminated r H (take m order)) 0) (sym (map-range order m front))
+        ∙ passed-image r m (λ j. getD order j 0) B (eliminated r H (take m order)) (low .columns) (range m) (range-below m) 0
 
     -- there are trits enough
-    pub roomV : {M : Matrix} (N : ℕ) → M ≡ lowered → n - r ≤ N → length (passed r M 0 (take n order)) ≤ N
-    roomV {M} N a h =
-        let F : Matrix = eliminated r H (take (r + g) order) in
-        let p = ap₂ (λ (B : Matrix) (l : List ℕ). length (passed r B 0 l)) a (take-length order) ∙ ap (λ (l : List ℕ). length l) (over-passed r F A 0 order) in
-        let t = ap (λ (l : List ℕ). length l) (order-taken r n H (r + g) order o full-pivots) in
-        omega (arith, p, t, walk-length r F 0 order, full-pivots)
+    pub first-room : (M : ℕ) → m - r ≤ M → length (passed r B 0 (range m)) ≤ M
+    first-room M h =
+        omega (
+          arith,
+          other-count r H order o m front full,
+          ap (λ (l : List ℕ). length l) passed-first,
+          length-map (passed r B 0 (range m)) (λ j. getD order j 0),
+        )
 
-    module _ (v : Vector) (zero : A e ≡ zeros) where
-      pub halfV-done : {M₁ M₂ M₃ : Matrix} → Ends n (A x) → n ≤ w → M₁ ≡ lowered → M₂ ≡ putRow e (fill (passed r M₁ 0 (take n order)) v (M₁ e)) M₁
-          → M₃ ≡ putRow e (completed w M₂ (take (r + g) order) r (M₂ x) (M₂ e)) M₂ → Solved r e A M₃ (wordV r n H order g v (A x))
-      unfolding wordV
-      halfV-done {M₁} ends l a b c =
-          half-done (fill (without piv order) v zeros) ends
-          (fill-past n (without piv order) v zeros (λ q m. order-good n order o .1 q (without-out piv order q m .0)) (zeros-end n)) l a
-          (b ∙ ap₂ (λ (ps : List ℕ) (u : Vector). putRow e (fill ps v u) M₁) (passedV a) (own-row a e re ∙ zero)) c
+    abbrev S : Vector
+    S = fill (without (pivots r (length order) H (take m order)) (take m order)) v (A e)
 
-    -- ---- U
+    abbrev start : Vector
+    start = marked m (length order) (firstsOf r B order m v (A x) zeros)
 
-    passedU : {M : Matrix} → M ≡ lowered → passed r M 0 (take (r + g) order) ≡ without piv (take (r + g) order)
-    passedU a =
-        ap (λ (B : Matrix). passed r B 0 (take (r + g) order)) a
-        ∙ over-passed r (eliminated r H (take (r + g) order)) A 0 (take (r + g) order) ∙ first-passed r n H (r + g) order o
+    -- what stands by position before the pivots are solved
+    unmarked : (j : ℕ) → (j ≡ m → ⊥) → start j ≡ firstsOf r B order m v (A x) zeros j
+    unmarked j f = by (ltb m (length order))
+      where
+        by : (b : Bool) → cond b (putV (firstsOf r B order m v (A x) zeros) m t1) (firstsOf r B order m v (A x) zeros) j ≡ firstsOf r B order m v (A x) zeros j
+        by true = put-other (firstsOf r B order m v (A x) zeros) m t1 j f
+        by false = refl
 
-    pub roomU : {M : Matrix} (N : ℕ) → M ≡ lowered → r + g ≤ n → n - r ≤ N → length (passed r M 0 (take (r + g) order)) ≤ N
-    roomU {M} N a k h =
-        let F : Matrix = eliminated r H (take (r + g) order) in
-        let p = ap (λ (B : Matrix). length (passed r B 0 (take (r + g) order))) a ∙ ap (λ (l : List ℕ). length l) (over-passed r F A 0 (take (r + g) order)) in
-        let t = ap (λ (l : List ℕ). length l) (first-taken r n H (r + g) order o) in
-        omega (arith, p, t, walk-length r F 0 (take (r + g) order), full-pivots, length-take-le (r + g) order k)
+    past-first : (j : ℕ) → m ≤ j → firstsOf r B order m v (A x) zeros j ≡ t0
+    past-first j h = ap (λ (b : Bool). cond b (subT (A x (at j)) (fill (passed r B 0 (range m)) v zeros j)) t0) (le-ltb j m h)
 
-    module _ (b c u : Vector) (ev : ℕ) (zero : A e ≡ zeros) (rev : r ≤ ev) (eve : ev ≡ e → ⊥) where
-      abbrev lastPart : List ℕ
-      lastPart = drop (r + g) order
+    first-supplied : (j : ℕ) → j < m → S (getD order j 0) ≡ fill (passed r B 0 (range m)) v zeros j
+    first-supplied j h =
+        ap (λ (l : List ℕ). fill l v (A e) (at j)) passed-first
+        ∙ fill-map at (passed r B 0 (range m)) v (A e) j
+        (λ p k f. order-apart order o p j (omega (arith, passed-below r B m 0 p k)) (omega arith) f) (last (at j) (first-not-last j h))
 
-      abbrev firstWord : Vector
-      firstWord = fill (without piv (take (r + g) order)) u zeros
+    holds : Holds order o m N front fits z start (zipV subT (A x) S)
+    holds = record {
+      first = λ j h. unmarked j (λ y. omega arith)
+          ∙ ap (λ (b : Bool). cond b (subT (A x (at j)) (fill (passed r B 0 (range m)) v zeros j)) t0) (lt-ltb j m h)
+          ∙ ap (subT (A x (at j))) (sym (first-supplied j h));
+      last = λ j h l. ap (subT (A x (at j))) (fill-off (without (pivots r (length order) H (take m order)) (take m order)) v (A e) (at j) (not-first j h l))
+          ∙ sym (last-value j h l);
+      one = λ h. ap (λ (b : Bool). cond b (putV (firstsOf r B order m v (A x) zeros) m t1) (firstsOf r B order m v (A x) zeros) m) (lt-ltb m (length order) h)
+          ∙ put-same (firstsOf r B order m v (A x) zeros) m t1;
+      rest = λ j h l. rest j h l (decLt m (length order));
+      past = λ q h. ap₂ subT (ends .past q h) (fill-off (without (pivots r (length order) H (take m order)) (take m order)) v (A e) q (past-out q h)
+          ∙ last q (past-not-last q h));
+    }
+      where
+        not-first : (j : ℕ) → m ≤ j → j < length order → elem (getD order j 0) (without (pivots r (length order) H (take m order)) (take m order)) ≡ false
+        not-first j h l =
+            refuted (elem (at j) (without (pivots r (length order) H (take m order)) (take m order))) (λ k.
+            true≢false (sym (without-out (pivots r (length order) H (take m order)) (take m order) (at j) k .0) ∙ last-not-first order o m j h l))
 
-      abbrev forces : Vector → Vector
-      forces eV j = forcedBy b c eV (getD (drop (r + g) order) j 0) (u (g + j))
+        past-out : (q : ℕ) → length order ≤ q → elem q (without (pivots r (length order) H (take m order)) (take m order)) ≡ false
+        past-out q h =
+            elem-past (length order) (without (pivots r (length order) H (take m order)) (take m order)) q
+            (λ p k. first-below (length order) m order o p (without-out (pivots r (length order) H (take m order)) (take m order) p k .0)) h
 
-      pub halfU-done : {M₁ M₂ M₃ M₄ : Matrix} → Ends n (A x) → n ≤ w → M₁ ≡ lowered → M₂ ≡ putRow e (fill (passed r M₁ 0 (take (r + g) order)) u (M₁ e)) M₁
-          → M₃ ≡ putRow e (fill (drop (r + g) order) (λ j. forcedBy b c (M₂ ev) (getD (drop (r + g) order) j 0) (u (g + j))) (M₂ e)) M₂
-          → M₄ ≡ putRow e (completed w M₃ (take (r + g) order) r (M₃ x) (M₃ e)) M₃ → Solved r e A M₄ (wordU r n H b c order g u (A ev) (A x))
-      unfolding wordU
-      halfU-done {M₁} {M₂} {M₃} ends l a s t d =
-          half-done (fill lastPart (forces (A ev)) firstWord) ends
-          (fill-past n lastPart (forces (A ev)) firstWord (λ q m. order-good n order o .1 q (last-in n (r + g) order o q m))
-          (fill-past n (without piv (take (r + g) order)) u zeros (λ q m. first-below n (r + g) order o q (without-out piv (take (r + g) order) q m .0))
-          (zeros-end n))) l a
-          (t
-          ∙ ap (λ (M : Matrix). putRow e (fill lastPart (forces (M ev)) (M e)) M) two
-          ∙ ap₂ (λ (y z : Vector). putRow e (fill lastPart (forces y) z) (putRow e firstWord M₁)) (put-else e firstWord M₁ ev eve ∙ own-row a ev rev)
-          (put-here e firstWord M₁ e refl)
-          ∙ put-again e firstWord M₁ (fill lastPart (forces (A ev)) firstWord)) d
-        where
-          two : M₂ ≡ putRow e firstWord M₁
-          two = s ∙ ap₂ (λ (ps : List ℕ) (y : Vector). putRow e (fill ps u y) M₁) (passedU a) (own-row a e re ∙ zero)
+        rest : (j : ℕ) → m ≤ j → (m < length order → m < j) → Dec (m < length order) → start j ≡ t0
+        rest j h l (yes k) = unmarked j (λ y. omega (arith, l k)) ∙ past-first j h
+        rest j h l (no f) =
+            ap (λ (b : Bool). cond b (putV (firstsOf r B order m v (A x) zeros) m t1) (firstsOf r B order m v (A x) zeros) j)
+            (le-ltb m (length order) (omega arith))
+            ∙ past-first j h
+
+    word : zipV subT (A x) (fill (take m order) (backed N B (pivotPlace B (range m)) r start) z) ≡ halfWord r (length order) H order m v (A e) (A x)
+    unfolding halfWord
+    word =
+        ap (zipV subT (A x)) (fill-holds order o m N front fits z (backed N B (pivotPlace B (range m)) r start)
+        (backed (length order) F′ (λ c. getD piv′ c 0) r (zipV subT (A x) S)) past-zero
+        (backed-alike order o m N front fits z r B F′ image first-zero (pivotPlace B (range m)) (λ c. getD piv′ c 0) (low .pivot full) r (omega arith) start
+        (zipV subT (A x) S) holds))
+        ∙ sym (ap orZeros (back-solves r (length order) H F′ piv′ (pivots-kept r (length order) H (take m order) below)
+        (eliminated-lowered r (length order) H (take m order) below) (full-pivots r H order o m front full) (A x) S))
+      where
+        F′ : Matrix
+        F′ = eliminated r H (take m order)
+
+        piv′ : List ℕ
+        piv′ = pivots r (length order) H (take m order)
+
+        below : (q : ℕ) → elem q (take m order) ≡ true → q < length order
+        below = first-below (length order) m order o
+
+        image : Image r (length order) m (λ j. getD order j 0) (lastsOf (drop m order) (A x) (A e)) B (eliminated r H (take m order))
+        image = record {
+          columns = low .columns;
+          known = λ l i h. low .known l i h ∙ ap (λ (u : Vector). times (length order) (eliminated r H (take m order)) u i) row-e;
+        }
+
+    -- the last matrix
+    pub half-done : {C : Matrix} → C ≡ completed N r order m v x t e B → Solved r t e A C (halfWord r (length order) H order m v (A e) (A x))
+    half-done {C} c = record {
+      word = ap (λ (M : Matrix). M e) c ∙ put-here e _ (putRow t (solvedFirst N r order m v x t B) B) e refl
+          ∙ ap₂ (λ (y s : Vector). zipV subT y (fill (take m order) (backed N B (pivotPlace B (range m)) r (marked m (length order) s)) (B e)))
+          (row-kept x rx xe) (ap₂ (λ (y s : Vector). firstsOf r B order m v y s) (row-kept x rx xe) (row-kept t rt te ∙ none))
+          ∙ ap (λ (u : Vector). zipV subT (A x) (fill (take m order) (backed N B (pivotPlace B (range m)) r start) u))
+          (low .kept e re ∙ row-e) ∙ word;
+      kept = λ k h f y. ap (λ (M : Matrix). M k) c ∙ put-else e _ (putRow t (solvedFirst N r order m v x t B) B) k f
+          ∙ put-else t (solvedFirst N r order m v x t B) B k y ∙ row-kept k h f;
+    }
+
+-- ---- the rows before it
+
+-- rows t and e were made, and then the half was solved
+module _ (A : Matrix) (t e : ℕ) (y u : Vector) {A₁ A₂ : Matrix} (te : t ≡ e → ⊥) (a : A₁ ≡ putRow t y A) (b : A₂ ≡ putRow e u A₁) where
+  pub row-before : (k : ℕ) → (k ≡ e → ⊥) → (k ≡ t → ⊥) → A₂ k ≡ A k
+  row-before k f h = ap (λ (M : Matrix). M k) b ∙ put-else e u A₁ k f ∙ ap (λ (M : Matrix). M k) a ∙ put-else t y A k h
+
+  pub row-t : A₂ t ≡ y
+  row-t = ap (λ (M : Matrix). M t) b ∙ put-else e u A₁ t te ∙ ap (λ (M : Matrix). M t) a ∙ put-here t y A t refl
+
+  pub row-made : A₂ e ≡ u
+  row-made = ap (λ (M : Matrix). M e) b ∙ put-here e u A₁ e refl
+
+  solved-before : {r : ℕ} {B : Matrix} {v w : Vector} {s : Bool} → SolvedWhere s r t e A₂ B v → (s ≡ true → v ≡ w) → SolvedWhere s r t e A B w
+  solved-before g d = record {
+    solved = λ z. record {
+      word = g .solved z .word ∙ d z;
+      kept = λ k h f y. g .solved z .kept k h f y ∙ row-before k f y;
+    };
+  }
+
+-- a row that is as another ends where it does
+pub ends-row : {n : ℕ} {u v : Vector} → v ≡ u → Ends n u → Ends n v
+ends-row e k = record { past = λ q h. ap (λ (w : Vector). w q) e ∙ k .past q h }
+
+-- row e, which was 0, is 0 off the places that were filled
+pub last-alone : (A : Matrix) (t e : ℕ) (ps : List ℕ) (v : Vector) {A₁ A₂ : Matrix} → (t ≡ e → ⊥) → A e ≡ zeros → A₁ ≡ putRow t zeros A
+    → A₂ ≡ putRow e (fill ps v (A₁ e)) A₁ → (q : ℕ) → elem q ps ≡ false → A₂ e q ≡ t0
+last-alone A t e ps v {A₁} te z a b q h =
+    ap (λ (u : Vector). u q) (row-made A t e zeros (fill ps v (A₁ e)) te a b) ∙ fill-off ps v (A₁ e) q h
+    ∙ ap (λ (u : Vector). u q) (ap (λ (M : Matrix). M e) a ∙ put-else t zeros A e (λ y. te (sym y)) ∙ z)
+
+-- both halves: row t is made 0, and the last part put in row e
+module _ (r g : ℕ) (H A : Matrix) (order : List ℕ) (o : Order (length order) order) (front : r + g ≤ length order) (x t e : ℕ) (xe : x ≡ e → ⊥)
+    (te : t ≡ e → ⊥) (xt : x ≡ t → ⊥) (none : A e ≡ zeros) where
+  -- what row e and row x hold
+  module _ (f : Vector) {A₁ A₂ : Matrix} (a : A₁ ≡ putRow t zeros A) (b : A₂ ≡ putRow e (fill (drop (r + g) order) f (A₁ e)) A₁) where
+    last-row : A₂ e ≡ fill (drop (r + g) order) f zeros
+    last-row =
+        row-made A t e zeros (fill (drop (r + g) order) f (A₁ e)) te a b
+        ∙ ap (fill (drop (r + g) order) f) (ap (λ (M : Matrix). M e) a ∙ put-else t zeros A e (λ y. te (sym y)) ∙ none)
+
+    half-of : (v : Vector) → halfWord r (length order) H order (r + g) v (A₂ e) (A₂ x)
+        ≡ halfWord r (length order) H order (r + g) v (fill (drop (r + g) order) f zeros) (A x)
+    half-of v =
+        ap₂ (halfWord r (length order) H order (r + g) v) last-row (row-before A t e zeros (fill (drop (r + g) order) f (A₁ e)) te a b x xe xt)
+
+  pub solved-v : (v : Vector) {A₁ A₂ B : Matrix} {s : Bool} → A₁ ≡ putRow t zeros A → A₂ ≡ putRow e (fill (drop (r + g) order) (λ j. v (g + j)) (A₁ e)) A₁
+      → s ≡ eqb (rank r (length order) H (take (r + g) order)) r
+      → SolvedWhere s r t e A₂ B (halfWord r (length order) H order (r + g) v (A₂ e) (A₂ x))
+      → SolvedWhere s r t e A B (wordV r (length order) H order g v (A x))
+  unfolding halfWord wordV
+  solved-v v {A₁} a b c k =
+      solved-before A t e zeros (fill (drop (r + g) order) (λ j. v (g + j)) (A₁ e)) te a b k
+      (λ y. half-of (λ j. v (g + j)) a b v
+      ∙ ap (λ (w : Vector). orZeros (solve r (length order) H (times (length order) H (A x)) (pivots r (length order) H (take (r + g) order)) w))
+      (supplied-v r H order o (r + g) front (eqb-true (rank r (length order) H (take (r + g) order)) r (sym c ∙ y)) g v refl))
+
+  pub solved-u : (b c u : Vector) (ev : ℕ) → (ev ≡ t → ⊥) → {A₁ A₂ B : Matrix} {s : Bool} → A₁ ≡ putRow t zeros A
+      → A₂ ≡ putRow e (fill (drop (r + g) order) (λ j. forcedBy b c (A₁ ev) (getD (drop (r + g) order) j 0) (u (g + j))) (A₁ e)) A₁
+      → SolvedWhere s r t e A₂ B (halfWord r (length order) H order (r + g) u (A₂ e) (A₂ x))
+      → SolvedWhere s r t e A B (wordU r (length order) H b c order g u (A ev) (A x))
+  unfolding halfWord wordU
+  solved-u b c u ev ne {A₁} a d k =
+      solved-before A t e zeros (fill (drop (r + g) order) (forces A₁) (A₁ e)) te a d k
+      (λ y. half-of (forces A₁) a d u
+      ∙ ap (λ (w : Vector). orZeros (solve r (length order) H (times (length order) H (A x)) (pivots r (length order) H (take (r + g) order)) w))
+      (supplied-u r H order o (r + g) front u (forces A₁)
+      ∙ ap (λ (w : Vector). fill (drop (r + g) order) (λ j. forcedBy b c w (getD (drop (r + g) order) j 0) (u (g + j)))
+      (fill (without (pivots r (length order) H (take (r + g) order)) (take (r + g) order)) u zeros))
+      (ap (λ (M : Matrix). M ev) a ∙ put-else t zeros A ev ne)))
+    where
+      forces : Matrix → Vector
+      forces M j = forcedBy b c (M ev) (getD (drop (r + g) order) j 0) (u (g + j))

@@ -1,2 +1,3 @@
--- The laws of the two words.
+-- The laws: the first part stands for the half's matrix; the word of one half.
+pub mod Firsts
 pub mod HalfWords

@@ -15,7 +15,7 @@ use Rattle.calls.specs.Lent.{halfWords}
 pub record ForReleaseWord (z : Sizes) (l : ℕ) (p workOnes workTwos wordOnes wordTwos sOnes sTwos : List ℕ) : Type 0 where
   pub sizes : sizesFit z ≡ true
   pub is-order : Order (places z) p
-  pub small : l ≤ 8192
+  pub small : l ≤ 8435
   pub grid : Rows workOnes workTwos (l + 5) (halfWords z)
   pub word-ones-size : length wordOnes ≡ wordsFor (places z)
   pub word-twos-size : length wordTwos ≡ wordsFor (places z)

@@ -23,11 +23,11 @@ pub record Space (z : Sizes) : Type 0 where
   pub u : ru z ≤ matrixRows z
   pub v : rv z ≤ matrixRows z
   pub rows : matrixRows z ≤ 8192
-  pub work : drawWorkWords z ≤ 1049216
+  pub work : drawWorkWords z ≤ 1080320
 
 pub space : (z : Sizes) → Bounds z → Space z
 space z b =
     let h = b .high in
     let l = larger (ru z) (rv z) 8192 (omega arith) (omega arith) in
     let r = l .2 in
-    record { u = l .0; v = l .1; rows = r; work = prod (matrixRows z + 5) (halfWords z) 8197 128 (omega (arith, r)) (omega arith) }
+    record { u = l .0; v = l .1; rows = r; work = prod (matrixRows z + 248) (halfWords z) 8440 128 (omega (arith, r)) (omega arith) }

@@ -39,7 +39,7 @@ pub fn choices_differ(
     let half = z.n as usize / 2;
     let ku = z.ku as usize;
     let kv = z.kv as usize;
-    let rows = work::more_rows(half - ku, half - kv) + 5;
+    let rows = work::more_rows(half - ku, half - kv) + 248;
     if p != half + half {
         return true;
     }

@@ -18,7 +18,7 @@ use Rattle.matrix.specs.Linear.{Vector, Matrix}
 use Rattle.grid.specs.Steps.{Rows, Grid, putRow}
 use Rattle.grid.proofs.RowParts.{read-trit}
 use Rattle.grid.proofs.Cells.{cell, grid-to, read-set, read-unset}
-use Rattle.draw_reduce.specs.Steps.{isNext}
+use Rattle.draw_walk.specs.Walks.{isNext}
 use Rattle.scheme.specs.Draw.{forcedBy}
 
 -- ---- trits as numbers

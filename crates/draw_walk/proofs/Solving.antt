@@ -5,37 +5,38 @@ use mathlib.Core.List.{List, _∷_}
 use Prim.Native.Nat.{ℕ, suc, _+_, _*_, _≤_, _<_}
 use native.Mathlib.Numerals.{add-one}
 use native.Mathlib.Omega.{arith}
-use lib.ListN.{length, getD, take, drop, drop-of-length-le}
-use lib.Seq.{drop-cons, getD-take, length-take-le}
+use lib.ListN.{drop, drop-of-length-le}
+use lib.Seq.{drop-cons}
 use Rattle.trits.specs.Trit.{subT, isSet, putV, dotV}
 use Rattle.trits.specs.Rows.{matrixAt}
-use Rattle.matrix.specs.Linear.{Vector, Matrix}
+use Rattle.matrix.specs.Linear.{Vector, Matrix, range}
+use Rattle.matrix.proofs.Counts.{range-length, range-at}
 use Rattle.matrix.specs.Steps.{firstSet, backed}
 use Rattle.matrix.proofs.Tried.{first-set, first-unset}
 use Rattle.grid.specs.Steps.{Rows, Grid, putRow}
 use Rattle.grid.proofs.Cells.{grid-to}
 use Rattle.grid.proofs.RowParts.{put-here, put-else}
-use Rattle.draw_reduce.specs.Steps.{pivotPlace}
+use Rattle.draw_walk.specs.Walks.{pivotPlace}
 use Rattle.draw_walk.proofs.Puts.{put-own}
-use Rattle.draw_walk.proofs.Supplied.{put-again}
+use Rattle.draw_walk.proofs.Filled.{put-again}
 
--- ---- the search for a row's pivot, at position i of the first m places
+-- ---- the search for a row's pivot, at column i of the first m
 
-module _ (v : Vector) (l : List ℕ) (m i : ℕ) (h : m ≤ length l) where
-  places-left : i < m → drop i (take m l) ≡ getD l i 0 ∷ drop (i + 1) (take m l)
-  places-left b =
-      drop-cons (take m l) i 0 (omega (arith, length-take-le m l h))
-      ∙ ap₂ (λ (q k : ℕ). q ∷ drop k (take m l)) (getD-take m l i 0 b) (sym (add-one i))
+module _ (v : Vector) (m i : ℕ) where
+  columns-left : i < m → drop i (range m) ≡ i ∷ drop (i + 1) (range m)
+  columns-left b =
+      drop-cons (range m) i 0 (omega (arith, range-length m))
+      ∙ ap₂ (λ (q k : ℕ). q ∷ drop k (range m)) (range-at m i b) (sym (add-one i))
 
-  pub found-here : i < m → isSet (v (getD l i 0)) ≡ true → getD l i 0 ≡ firstSet v (drop i (take m l))
-  found-here b e = sym (ap (firstSet v) (places-left b) ∙ first-set v (getD l i 0) (drop (i + 1) (take m l)) e)
+  pub found-here : i < m → isSet (v i) ≡ true → i ≡ firstSet v (drop i (range m))
+  found-here b e = sym (ap (firstSet v) (columns-left b) ∙ first-set v i (drop (i + 1) (range m)) e)
 
-  pub found-later : i < m → isSet (v (getD l i 0)) ≡ false → firstSet v (drop i (take m l)) ≡ firstSet v (drop (i + 1) (take m l))
-  found-later b e = ap (firstSet v) (places-left b) ∙ first-unset v (getD l i 0) (drop (i + 1) (take m l)) e
+  pub found-later : i < m → isSet (v i) ≡ false → firstSet v (drop i (range m)) ≡ firstSet v (drop (i + 1) (range m))
+  found-later b e = ap (firstSet v) (columns-left b) ∙ first-unset v i (drop (i + 1) (range m)) e
 
-  pub found-none : m ≤ i → 0 ≡ firstSet v (drop i (take m l))
+  pub found-none : m ≤ i → 0 ≡ firstSet v (drop i (range m))
   unfolding firstSet
-  found-none b = sym (ap (firstSet v) (drop-of-length-le (take m l) {i = i} (omega (arith, length-take-le m l h))))
+  found-none b = sym (ap (firstSet v) (drop-of-length-le (range m) {i = i} (omega (arith, range-length m))))
 
 -- ---- row after row
 

@@ -1,2 +1,3 @@
--- What the walk along an order asks of the grid, the order and the supplied trits.
+-- The walk along a lowered matrix, and what its functions ask of the grid, the order and the supplied trits.
+pub mod Walks
 pub mod Steps

@@ -84,22 +84,22 @@ module _ (z : Sizes) (l : ℕ) (s : Secret) (ch : Choices) where
   test-u e = ap (λ (n : ℕ). eqb (rank (ru z) n (s .hu) (firstU z ch)) (ru z)) e
 
   module _ {A B : Matrix} (e : length (ch .orderV) ≡ half z)
-      (h : Solved (rv z) (l + 3) A B (Rattle.draw_half.specs.Steps.wordV (rv z) (length (ch .orderV)) (s .hv) (ch .orderV) (gapV z) (ch .tritsV)
+      (h : Solved (rv z) (l + 2) (l + 3) A B (Rattle.draw_half.specs.Steps.wordV (rv z) (length (ch .orderV)) (s .hv) (ch .orderV) (gapV z) (ch .tritsV)
       (A (l + 1)))) where
     pub row-v : B (l + 3) ≡ drawV z s (A (l + 1)) ch
     row-v =
         h .word ∙ ap (λ (n : ℕ). Rattle.draw_half.specs.Steps.wordV (rv z) n (s .hv) (ch .orderV) (gapV z) (ch .tritsV) (A (l + 1))) e
         ∙ word-drawV z s (A (l + 1)) ch
 
-    module _ (g : rv z ≤ l) where
+    module _ (g : rv z + 243 ≤ l) where
       pub kept-x : B l ≡ A l
-      kept-x = h .kept l g (λ y. omega arith)
+      kept-x = h .kept l g (λ y. omega arith) (λ y. omega arith)
 
       pub kept-u : B (l + 4) ≡ A (l + 4)
-      kept-u = h .kept (l + 4) (omega arith) (λ y. omega arith)
+      kept-u = h .kept (l + 4) (omega arith) (λ y. omega arith) (λ y. omega arith)
 
-      module _ {C : Matrix} (f : length (ch .orderU) ≡ half z) (m : ru z ≤ l)
-          (k : Solved (ru z) (l + 4) B C (Rattle.draw_half.specs.Steps.wordU (ru z) (length (ch .orderU)) (s .hu) (s .b) (s .c) (ch .orderU) (gapU z)
+      module _ {C : Matrix} (f : length (ch .orderU) ≡ half z) (m : ru z + 243 ≤ l)
+          (k : Solved (ru z) (l + 2) (l + 4) B C (Rattle.draw_half.specs.Steps.wordU (ru z) (length (ch .orderU)) (s .hu) (s .b) (s .c) (ch .orderU) (gapU z)
           (ch .valuesU) (B (l + 3)) (B l))) where
         row-u : C (l + 4) ≡ drawU z s (A l) (drawV z s (A (l + 1)) ch) ch
         row-u =
@@ -107,7 +107,7 @@ module _ (z : Sizes) (l : ℕ) (s : Secret) (ch : Choices) where
             ∙ word-drawU z s (B l) (B (l + 3)) ch ∙ ap₂ (λ (x y : Vector). drawU z s x y ch) kept-x row-v
 
         pub halves-solved : SolvedHalves 0 z l s ch (A l) (A (l + 1)) C
-        halves-solved = record { eV = λ y. k .kept (l + 3) (omega arith) (λ y. omega arith) ∙ row-v; eU = λ y. row-u }
+        halves-solved = record { eV = λ y. k .kept (l + 3) (omega arith) (λ y. omega arith) (λ y. omega arith) ∙ row-v; eU = λ y. row-u }
 
 pub unsolved : {n : ℕ} {z : Sizes} {l : ℕ} {s : Secret} {ch : Choices} {xU xV : Vector} {A : Matrix} → 0 < n → SolvedHalves n z l s ch xU xV A
 unsolved h = record { eV = λ y. absurd (omega arith); eU = λ y. absurd (omega arith) }

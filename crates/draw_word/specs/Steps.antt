@@ -1,4 +1,4 @@
--- The working space of a draw, stage after stage: rows of N places, the matrix under elimination below row l, then x_U, x_V,
+-- The working space of a draw, stage after stage: rows of N places, the matrix under elimination and its tables below row l, then x_U, x_V,
 -- a row for products, e_V, e_U ("One draw"). No rule of the paper: code is tied to it. Assumes nothing.
 use mathlib.Core.Path.{_≡_}
 use mathlib.Core.Bool.{true}
@@ -72,7 +72,7 @@ pub record ForPartWord (z : Sizes) (l : ℕ) (bOnes bTwos cOnes cTwos p yOnes yT
   pub is-order : Order (places z) p
   pub y-size : length yOnes ≡ wordsFor (codim z)
   pub y-twos : length yTwos ≡ length yOnes
-  pub small : l ≤ 8192
+  pub small : l ≤ 8435
   pub work-ones-size : length workOnes ≡ (l + 5) * halfWords z
   pub work-twos-size : length workTwos ≡ (l + 5) * halfWords z
 
@@ -87,9 +87,9 @@ pub record ForSolveHalves (z : Sizes) (l : ℕ) (huOnes huTwos hvOnes hvTwos bOn
   pub u-row : Row uOnes uTwos
   pub v-size : length vOnes ≡ wordsFor (z .kv)
   pub u-size : length uOnes ≡ wordsFor (z .ku)
-  pub u-few : ru z ≤ l
-  pub v-few : rv z ≤ l
-  pub small : l ≤ 8192
+  pub u-few : ru z + 243 ≤ l
+  pub v-few : rv z + 243 ≤ l
+  pub small : l ≤ 8435
   pub grid : Rows workOnes workTwos (l + 5) (halfWords z)
   pub u-ends : Ends (half z) ((matrixAt (halfWords z) workOnes workTwos) l)
   pub v-ends : Ends (half z) ((matrixAt (halfWords z) workOnes workTwos) (l + 1))
@@ -103,7 +103,7 @@ pub record ForJoinWord (z : Sizes) (l : ℕ) (bOnes bTwos cOnes cTwos workOnes w
   pub c-row : Row cOnes cTwos
   pub b-size : length bOnes ≡ halfWords z
   pub c-size : length cOnes ≡ halfWords z
-  pub small : l ≤ 8192
+  pub small : l ≤ 8435
   pub grid : Rows workOnes workTwos (l + 5) (halfWords z)
 
 -- sizes that fit, all that a draw is given, tested, and working space
@@ -111,8 +111,8 @@ pub record ForMakeWord (z : Sizes) (l : ℕ) (huOnes huTwos hvOnes hvTwos bOnes 
     workTwos : List ℕ) : Type 0 where
   pub sizes : sizesFit z ≡ true
   pub ready : Ready z (given (planes huOnes huTwos hvOnes hvTwos bOnes bTwos cOnes cTwos) p yOnes yTwos vOrder vOnes vTwos uOrder uOnes uTwos)
-  pub u-few : ru z ≤ l
-  pub v-few : rv z ≤ l
-  pub small : l ≤ 8192
+  pub u-few : ru z + 243 ≤ l
+  pub v-few : rv z + 243 ≤ l
+  pub small : l ≤ 8435
   pub work-ones-size : length workOnes ≡ (l + 5) * halfWords z
   pub work-twos-size : length workTwos ≡ (l + 5) * halfWords z

@@ -1,4 +1,4 @@
-// The word of a draw, made in the working space: the matrix below row l, then x_U, x_V, a row for products, e_V, e_U.
+// The word of a draw, made in the working space: the matrix and its tables below row l, then x_U, x_V, a row for products, e_V, e_U.
 ghost use mathlib.Core.Path.{_≡_};
 ghost use Prim.Native.Nat.{_+_, _*_};
 ghost use Rattle.trits.specs.Trit.{weightV};
@@ -102,6 +102,7 @@ pub fn solve_halves(
     let gv = z.gv as usize;
     let gu = z.gu as usize;
     let rows = l + 5;
+    let t = l + 2;
     let v = l + 3;
     let u = l + 4;
     if !draw_half::halves::draw_v(
@@ -117,6 +118,7 @@ pub fn solve_halves(
         v_ones,
         v_twos,
         l + 1,
+        t,
         v,
     ) {
         return Outcome::Refused(Refusal::FirstPartV);
@@ -139,6 +141,7 @@ pub fn solve_halves(
         u_twos,
         v,
         l,
+        t,
         u,
     ) {
         return Outcome::Refused(Refusal::FirstPartU);

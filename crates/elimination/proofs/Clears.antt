@@ -1,24 +1,21 @@
--- The pivot's row is taken from the other rows, one after another; the steps of a column in one. Assumes nothing.
-use mathlib.Core.Path.{_≡_, refl, sym, ap, ap₂, _∙_, subst, fun-ext}
+-- The pivot's row made to have 1 at its column, and taken from other rows, one after another. Assumes nothing.
+use mathlib.Core.Path.{_≡_, refl, sym, ap, ap₂, _∙_, fun-ext}
 use mathlib.Core.Logic.{_⊎_, inl, inr, _≢_}
-use mathlib.Core.Bool.{Bool, true, false, _&&_, cond, and-false, true≢false}
+use mathlib.Core.Bool.{Bool, true, false, _&&_, cond, and-false}
 use mathlib.Core.List.{List}
-use Prim.Native.Nat.{ℕ, _+_, _-_, _*_, _^_, _≤_, _<_}
+use Prim.Native.Nat.{ℕ, _+_, _≤_, _<_}
 use native.Mathlib.Decide.{decLt, ℕ-discrete}
 use native.Mathlib.Omega.{arith}
 use borrow.Author.Tests.{eq-eqb, ne-eqb, lt-ltb, le-ltb, lt-leb, le-leb}
 use lib.Dec.{eqb, leb}
-use lib.ListN.{getD}
-use Rattle.trits.specs.Trit.{Trit, t0, t1, t2, addT, subT, mulT, isSet}
+use Rattle.trits.specs.Trit.{Trit, t0, t1, t2, addT, subT, mulT}
 use Rattle.trits.specs.Rows.{matrixAt}
 use Rattle.trits.proofs.Arithmetic.{add-zero-r}
 use Rattle.matrix.specs.Linear.{Matrix}
-use Rattle.matrix.specs.Steps.{swapRows, scaleRow, takeBelow, takeAbove, pivoted, pivotRow, hasPivot, stepOf}
+use Rattle.matrix.specs.Steps.{scaleRow}
 use Rattle.matrix.proofs.Field.{neg-neg}
-use Rattle.matrix.proofs.Steps.{first-found, a-pivot, step-above, step-one, step-below}
-use Rattle.grid.specs.Steps.{Rows, Grid, joinRow, clearRow, takenOut}
-use Rattle.grid.proofs.Cells.{cell-none, grid-to, same-row}
-use Rattle.elimination.specs.Step.{Stepped}
+use Rattle.grid.specs.Steps.{Grid, joinRow, clearRow, takenOut}
+use Rattle.grid.proofs.Cells.{grid-to}
 
 -- ---- the pivot's row
 
@@ -102,21 +99,6 @@ module _ (j q : ℕ) (A : Matrix) where
           (ne-eqb k i f)
           ∙ else k t f (decLt k a) (decLt k i)
 
-  -- the rows above j
-  pub taken-above : takenOut 0 j j q A ≡ takeAbove j q A
-  taken-above = fun-ext (λ k. fun-ext (λ t. rw (le-leb 0 k (omega arith))))
-
-  -- the rows below j, of r rows past which there is 0
-  pub taken-below : (r : ℕ) → ((k t : ℕ) → r ≤ k → A k t ≡ t0) → takenOut (j + 1) r j q A ≡ takeBelow j q A
-  taken-below r z = fun-ext (λ k. fun-ext (λ t. by k t (decLt j k) (decLt k r)))
-    where
-      by : (k t : ℕ) → Dec (j < k) → Dec (k < r) → takenOut (j + 1) r j q A k t ≡ takeBelow j q A k t
-      by k t (yes l) (yes m) = taken-in (j + 1) r k t (omega arith) m ∙ sym (rw (lt-ltb j k l))
-      by k t (yes l) (no f) =
-          taken-high (j + 1) r k t (omega arith) ∙ z k t (omega arith)
-          ∙ sym (rw (lt-ltb j k l) (ap₂ (λ (x y : Trit). subT x (mulT y (A j t))) (z k t (omega arith)) (z k q (omega arith))))
-      by k t (no f) m = taken-low (j + 1) r k t (omega arith) ∙ sym (rw (le-ltb j k (omega arith)))
-
 -- ---- the loop over the rows
 
 -- no row of the stretch is the pivot's, and so of a part of it
@@ -129,67 +111,12 @@ apart-from (inl l) h g e = omega arith
 apart-from (inr l) h g e = omega arith
 
 module _ {o t : List ℕ} {r w : ℕ} (j q : ℕ) (A : Matrix) (a : ℕ) {i : ℕ} (g : Grid o t r w (takenOut a i j q A)) where
+  -- the pivot's row is as it was
+  pub pivot-kept : (i ≤ j) ⊎ (j < a) → (p : ℕ) → matrixAt w o t j p ≡ A j p
+  pivot-kept n p = ap (λ (B : Matrix). B j p) (g .cells) ∙ taken-pivot j q A a i p n
+
   pub rows-turn : {o′ t′ : List ℕ} → a ≤ i → (i ≤ j) ⊎ (j < a) → Grid o′ t′ r w (clearRow i j q (matrixAt w o t)) → Grid o′ t′ r w (takenOut a (i + 1) j q A)
   rows-turn h n d = grid-to d (ap (λ (B : Matrix). clearRow i j q B) (g .cells) ∙ taken-turn j q A a i h n)
 
   pub rows-done : (b : ℕ) → i ≡ b → Grid o t r w (takenOut a b j q A)
   rows-done b e = grid-to g (ap (λ (n : ℕ). takenOut a n j q A) e)
-
--- ---- the whole step, from what its calls promise
-
-module _ (r at q p : ℕ) (A : Matrix) (h : at ≤ r) (e : p ≡ pivotRow r A q at) (f : p ≡ r → ⊥) where
-  pub chosen : (at ≤ p) × (p < r) × (isSet (A p q) ≡ true)
-  chosen =
-      let ne : p ≢ r = f in
-      let g = first-found A q at (r - at) in
-      let l : p < r = omega (arith, g .within, e, h) in
-      (omega (arith, g .above, e), l, ap (λ (z : ℕ). isSet (A z q)) e ∙ g .set (omega (arith, e)))
-
-  module _ {o₁ t₁ : List ℕ} {w : ℕ} (g₁ : Grid o₁ t₁ r w (swapRows at p A)) where
-    moved-cell : swapRows at p A at q ≡ A p q
-    moved-cell = rw (eq-eqb at at refl)
-
-    pub moved-set : isSet (matrixAt w o₁ t₁ at q) ≡ true
-    moved-set = ap (λ (B : Matrix). isSet (B at q)) (g₁ .cells) ∙ ap isSet moved-cell ∙ chosen .2
-
-    pub step-done : {o₂ t₂ o t : List ℕ} → Grid o₂ t₂ r w (scaleRow at (matrixAt w o₁ t₁ at q) (matrixAt w o₁ t₁))
-        → Grid o t r w (takenOut (at + 1) r at q (matrixAt w o₂ t₂)) → (true ≡ hasPivot r at q A) × Grid o t r w (stepOf r at q A)
-    step-done {o₂} {t₂} g₂ c =
-        let a = a-pivot r at q A (subst (λ (z : ℕ). z < r) e (chosen .1)) in (
-          a .0,
-          grid-to c
-              (taken-below at q (matrixAt w o₂ t₂) r (cell-none (g₂ .rows))
-              ∙ ap (λ (B : Matrix). takeBelow at q B) (g₂ .cells)
-              ∙ ap (λ (B : Matrix). takeBelow at q (scaleRow at (B at q) B)) (g₁ .cells)
-              ∙ ap (λ (x : Trit). takeBelow at q (scaleRow at x (swapRows at p A))) moved-cell
-              ∙ ap (λ (z : ℕ). pivoted at q z A) e
-              ∙ a .1),
-        )
-
--- ---- what a step leaves
-
-module _ {o₀ t₀ o t : List ℕ} (r w at q : ℕ) (b : Bool) (g₀ : Rows o₀ t₀ r w) (e : b ≡ hasPivot r at q (matrixAt w o₀ t₀))
-    (g : Grid o t r w (stepOf r at q (matrixAt w o₀ t₀))) where
-  -- it found a pivot
-  pub stepped-on : b ≡ true → ((j : ℕ) → getD o₀ j 0 < 2 ^ 64) → ((j : ℕ) → getD t₀ j 0 < 2 ^ 64) → ((j : ℕ) → getD o j 0 < 2 ^ 64)
-      → ((j : ℕ) → getD t j 0 < 2 ^ 64) → Stepped b r w q at o₀ t₀ o t
-  stepped-on f ho₀ ht₀ ho ht = record {
-    above = λ i j l m.
-        same-row (g .rows) g₀ i (λ p. at-cell i p ∙ step-above r at q (matrixAt w o₀ t₀) i p l) j m (ho (i * w + j)) (ht (i * w + j)) (ho₀ (i * w + j))
-        (ht₀ (i * w + j));
-    one = λ y. at-cell at q ∙ step-one r at q (matrixAt w o₀ t₀) (sym e ∙ y);
-    below = λ y i l m. at-cell i q ∙ step-below r at q (matrixAt w o₀ t₀) (sym e ∙ y) i l;
-    none = λ y. absurd (true≢false (sym f ∙ y));
-  }
-    where
-      at-cell : (i p : ℕ) → matrixAt w o t i p ≡ stepOf r at q (matrixAt w o₀ t₀) i p
-      at-cell i p = ap (λ (B : Matrix). B i p) (g .cells)
-
--- it found none, and changed nothing
-pub stepped-none : (o t : List ℕ) (r w at q : ℕ) → Stepped false r w q at o t o t
-stepped-none o t r w at q = record {
-  above = λ i j l m. (refl, refl);
-  one = λ y. absurd (true≢false (sym y));
-  below = λ y i l m. absurd (true≢false (sym y));
-  none = λ y. (refl, refl);
-}

@@ -1,3 +1,2 @@
--- The laws: one column cleared, the loop over columns.
+-- The laws: the pivot's row, and the rows that lose it.
 pub mod Clears
-pub mod Went

@@ -1,3 +1,2 @@
--- What a step leaves, and what the steps of an elimination ask of the grid.
-pub mod Step
+-- What the row operations of an elimination ask of the grid.
 pub mod Steps

@@ -1,6 +1,7 @@
 -- The cells of a matrix in planes: what is read there, and a matrix known by its cells. Assumes nothing.
 use mathlib.Core.Path.{_≡_, refl, sym, ap, _∙_, fun-ext}
 use mathlib.Core.Bool.{Bool, true, false, cond}
+use mathlib.Core.Logic.{_⊎_, inl, inr}
 use mathlib.Core.List.{List}
 use Prim.Native.Nat.{ℕ, _+_, _*_, _/_, _%_, _^_, _≤_, _<_}
 use native.Mathlib.Nat.{mul-le-mul-right}
@@ -11,7 +12,7 @@ use lib.ListN.{getD}
 use Rattle.trits.specs.Trit.{Trit, t0, t1, t2, isSet, number}
 use Rattle.trits.specs.Planes.{bit, trit, tritAt}
 use Rattle.trits.specs.Rows.{matrixAt}
-use Rattle.trits.proofs.Reading.{read-past, tritAt-word, same-word}
+use Rattle.trits.proofs.Reading.{read-past, tritAt-word}
 use Rattle.matrix.specs.Linear.{Matrix}
 use Rattle.matrix.proofs.Field.{number-set, number-unset, number-two, number-unit, number-one}
 use Rattle.grid.specs.Steps.{Rows, Grid}
@@ -27,6 +28,11 @@ module _ (w : ℕ) (ones twos : List ℕ) (i q : ℕ) where
 
   pub cell-word : q < 64 * w → matrixAt w ones twos i q ≡ trit (bit (q % 64) (getD ones (i * w + q / 64) 0)) (bit (q % 64) (getD twos (i * w + q / 64) 0))
   cell-word h = cell h ∙ tritAt-word ones twos (64 * (i * w) + q) (i * w + q / 64) (q % 64) (omega arith) (omega arith)
+
+  -- all words of a row: there is nothing outside them
+  pub whole-row : (q < 64 * 0) ⊎ (64 * w ≤ q) → matrixAt w ones twos i q ≡ t0
+  whole-row (inl h) = absurd (omega arith)
+  whole-row (inr h) = cell-past h
 
 -- rows past the last are 0
 pub cell-none : {ones twos : List ℕ} {r w : ℕ} → Rows ones twos r w → (i q : ℕ) → r ≤ i → matrixAt w ones twos i q ≡ t0
@@ -52,16 +58,6 @@ grid-to g e = record { rows = g .rows; cells = g .cells ∙ e }
 
 pub grid-of : {o t : List ℕ} {r w : ℕ} {A : Matrix} → Rows o t r w → matrixAt w o t ≡ A → Grid o t r w A
 grid-of g e = record { rows = g; cells = e }
-
--- rows that read alike have the same words
-pub same-row : {o t o′ t′ : List ℕ} {r w : ℕ} → Rows o t r w → Rows o′ t′ r w → (i : ℕ) → ((q : ℕ) → matrixAt w o t i q ≡ matrixAt w o′ t′ i q)
-    → (j : ℕ) → j < w
-    → getD o (i * w + j) 0 < 2 ^ 64 → getD t (i * w + j) 0 < 2 ^ 64 → getD o′ (i * w + j) 0 < 2 ^ 64 → getD t′ (i * w + j) 0 < 2 ^ 64
-    → (getD o (i * w + j) 0 ≡ getD o′ (i * w + j) 0) × (getD t (i * w + j) 0 ≡ getD t′ (i * w + j) 0)
-same-row {o} {t} {o′} {t′} {w = w} g g′ i e j h ho ht ho′ ht′ =
-    same-word (g .row) (g′ .row) (i * w + j) ho ht ho′ ht′ (λ b l.
-    let p : 64 * (i * w + j) + b ≡ 64 * (i * w) + (64 * j + b) = omega arith in
-    ap (tritAt o t) p ∙ sym (cell w o t i (64 * j + b) (omega arith)) ∙ e (64 * j + b) ∙ cell w o′ t′ i (64 * j + b) (omega arith) ∙ sym (ap (tritAt o′ t′) p))
 
 -- ---- the number that is read of a cell
 

@@ -1,48 +1,25 @@
 -- An operation on one row of a matrix in planes. Assumes nothing.
-use mathlib.Core.Path.{_≡_, refl, sym, ap, ap₂, _∙_, subst, fun-ext}
+use mathlib.Core.Path.{_≡_, sym, ap, _∙_, subst, fun-ext}
 use mathlib.Core.Logic.{_⊎_, inl, inr}
 use mathlib.Core.List.{List}
-use Prim.Native.Nat.{ℕ, _+_, _*_, _/_, _%_, _≤_, _<_}
+use Prim.Native.Nat.{ℕ, _+_, _*_, _≤_, _<_}
 use native.Mathlib.Decide.{ℕ-discrete}
 use native.Mathlib.Omega.{arith}
 use borrow.Author.Tests.{eq-eqb, ne-eqb}
 use borrow.Rule.Slice.PartMut.{midOf, putMid}
-use lib.ListN.{length, getD, set, drop}
-use lib.Seq.{getD-drop}
-use lib.Bits.{bitAnd}
+use lib.ListN.{length}
 use Rattle.trits.specs.Trit.{Trit, t0, t2, addT, subT, negT, negV, zipV, zipAt, one, two}
-use Rattle.trits.specs.Planes.{bit, trit, tritAt, Apart, Reads}
+use Rattle.trits.specs.Planes.{tritAt, Reads}
 use Rattle.trits.specs.Rows.{matrixAt}
-use Rattle.trits.proofs.Reading.{tritAt-word}
 use Rattle.trits.proofs.Arithmetic.{add-comm}
 use Rattle.trits.proofs.WordOps.{WordOp, table, addOnes, addTwos, add-op}
-use Rattle.trits.proofs.Patches.{Patched, patch-none, patch-more, patch-here, zip-at, zip-below, zip-above, wordsAt, stretch-reads}
+use Rattle.trits.proofs.Patches.{zip-at, zip-below, zip-above}
 use Rattle.trits.proofs.Parts.{part-back, part-trit}
 use Rattle.trits.proofs.Matrix.{row-le, rows-apart}
 use Rattle.matrix.specs.Linear.{Matrix}
 use Rattle.matrix.specs.Steps.{scaleRow}
 use Rattle.grid.specs.Steps.{Rows, Grid, putRow, joinRow}
 use Rattle.grid.proofs.Cells.{cell, cell-past, grid-by}
-
--- ---- the planes from a word on
-
-pub drop-apart : {o t : List ℕ} (a : ℕ) → Apart o t → Apart (drop a o) (drop a t)
-drop-apart {o} {t} a s = record { word = λ j. ap₂ bitAnd (getD-drop a o j 0) (getD-drop a t j 0) ∙ s .word (a + j) }
-
-pub drop-trit : (o t : List ℕ) (a q : ℕ) → tritAt (drop a o) (drop a t) q ≡ tritAt o t (64 * a + q)
-drop-trit o t a q =
-    tritAt-word (drop a o) (drop a t) q (q / 64) (q % 64) refl refl
-    ∙ ap₂ (λ (x y : ℕ). trit (bit (q % 64) x) (bit (q % 64) y)) (getD-drop a o (q / 64) 0) (getD-drop a t (q / 64) 0)
-    ∙ sym (tritAt-word o t (64 * a + q) (a + q / 64) (q % 64) (omega arith) (omega arith))
-
--- a turn that stores in row i reads in row j what was there at first
-pub patch-source : {f : ℕ → ℕ} (w i j : ℕ) {k : ℕ} {l₀ l : List ℕ} → Patched f (i * w) k l₀ l → (i ≡ j → ⊥) → k < w
-    → getD l (j * w + k) 0 ≡ getD (drop (j * w) l₀) k 0
-patch-source w i j {k} {l₀} {l} p f h = by (rows-apart i j w f) ∙ sym (getD-drop (j * w) l₀ k 0)
-  where
-    by : (i * w + w ≤ j * w) ⊎ (j * w + w ≤ i * w) → getD l (j * w + k) 0 ≡ getD l₀ (j * w + k) 0
-    by (inl g) = p .above (j * w + k) (omega arith)
-    by (inr g) = p .below (j * w + k) (omega arith)
 
 -- ---- an operation on the words of row i
 
@@ -91,56 +68,17 @@ sub-op = record {
   twos-table = table (λ x y. subTwos (one x) (two x) (one y) (two y)) (λ x y. two (subT x y)) tt;
 }
 
--- the loop has made k words of row i by the masks F and G, from its own words and row j's; the rest is as it was
-pub record Joining (F G : ℕ → ℕ → ℕ → ℕ → ℕ) (w i j : ℕ) (o₀ t₀ : List ℕ) (k : ℕ) (o t : List ℕ) : Type 0 where
-  pub within : k ≤ w
-  pub own : i * w + w ≤ length o₀
-  pub source : j * w + w ≤ length o₀
-  pub same : length t₀ ≡ length o₀
-  pub ones : Patched (wordsAt F o₀ t₀ (drop (j * w) o₀) (drop (j * w) t₀) (i * w)) (i * w) k o₀ o
-  pub twos : Patched (wordsAt G o₀ t₀ (drop (j * w) o₀) (drop (j * w) t₀) (i * w)) (i * w) k t₀ t
+-- row i gets what the operation makes of it and row j
+pub join-put : (op : Trit → Trit → Trit) (i j : ℕ) (A : Matrix) → putRow i (zipV op (A i) (A j)) A ≡ joinRow op i j A
+join-put op i j A = fun-ext (λ k. fun-ext (λ q. by k q (ℕ-discrete k i)))
+  where
+    by : (k q : ℕ) → Dec (k ≡ i) → putRow i (zipV op (A i) (A j)) A k q ≡ joinRow op i j A k q
+    by k q (yes e) = rw (eq-eqb k i e) (ap (λ (n : ℕ). op (A n q) (A j q)) (sym e))
+    by k q (no f) = rw (ne-eqb k i f)
 
-pub joining-none : {F G : ℕ → ℕ → ℕ → ℕ → ℕ} {o t : List ℕ} {r w i j : ℕ} → Rows o t r w → i < r → j < r → Joining F G w i j o t 0 o t
-joining-none {w = w} g h l = record {
-  within = omega arith;
-  own = omega (arith, row-le w h, g .size);
-  source = omega (arith, row-le w l, g .size);
-  same = g .row .same;
-  ones = patch-none _ _ _;
-  twos = patch-none _ _ _;
-}
-
--- a turn: x and y are what the masks make of the words that are there
-pub joining-more : {F G : ℕ → ℕ → ℕ → ℕ → ℕ} {w i j : ℕ} {o₀ t₀ : List ℕ} {k : ℕ} {o t : List ℕ} {x y : ℕ} → Joining F G w i j o₀ t₀ k o t
-    → (i ≡ j → ⊥) → k < w → x ≡ F (getD o (i * w + k) 0) (getD t (i * w + k) 0) (getD o (j * w + k) 0) (getD t (j * w + k) 0)
-    → y ≡ G (getD o (i * w + k) 0) (getD t (i * w + k) 0) (getD o (j * w + k) 0) (getD t (j * w + k) 0)
-    → Joining F G w i j o₀ t₀ (k + 1) (set o (i * w + k) x) (set t (i * w + k) y)
-joining-more {w = w} {i} {j} {k = k} s ne h e f =
-    let a = patch-here (s .ones) (i * w + k) refl in
-    let b = patch-here (s .twos) (i * w + k) refl in
-    let c = patch-source w i j (s .ones) ne h in
-    let d = patch-source w i j (s .twos) ne h in
-    record {
-      within = omega arith;
-      own = s .own;
-      source = s .source;
-      same = s .same;
-      ones = patch-more (s .ones) _ _ refl (omega arith) (e ∙ rw (a, b, c, d));
-      twos = patch-more (s .twos) _ _ refl (omega arith) (f ∙ rw (a, b, c, d));
-    }
-
--- where it ends the matrix has the trits' operation in row i
-module _ {F G : ℕ → ℕ → ℕ → ℕ → ℕ} {op : Trit → Trit → Trit} (x : WordOp F G op) (z : op t0 t0 ≡ t0) {o₀ t₀ o t : List ℕ} {r : ℕ} (w i j : ℕ) {k : ℕ}
-    (g : Rows o₀ t₀ r w) (po : Patched (wordsAt F o₀ t₀ (drop (j * w) o₀) (drop (j * w) t₀) (i * w)) (i * w) k o₀ o)
-    (pt : Patched (wordsAt G o₀ t₀ (drop (j * w) o₀) (drop (j * w) t₀) (i * w)) (i * w) k t₀ t) where
-  pub joined-grid : k ≡ w → Grid o t r w (joinRow op i j (matrixAt w o₀ t₀))
-  joined-grid e =
-      row-op g op (tritAt (drop (j * w) o₀) (drop (j * w) t₀)) i (joinRow op i j (matrixAt w o₀ t₀))
-      (subst (λ (n : ℕ). Reads o t (length o₀) (zipAt op (tritAt o₀ t₀) (tritAt (drop (j * w) o₀) (drop (j * w) t₀)) (i * w) n)) e
-      (stretch-reads x (g .row .apart) (drop-apart (j * w) (g .row .apart)) po pt (g .row .same)))
-      (λ n q d l. ap (op (matrixAt w o₀ t₀ n q)) (drop-trit o₀ t₀ (j * w) q ∙ sym (cell w o₀ t₀ j q l)) ∙ rw (eq-eqb n i d))
-      (λ n q f. rw (ne-eqb n i f))
-      (λ n q d l. rw (eq-eqb n i d, cell-past w o₀ t₀ n q l, cell-past w o₀ t₀ j q l) (sym z))
+-- where row j is 0, row i stays as it is
+pub join-nothing : (op : Trit → Trit → Trit) → ((x : Trit) → op x t0 ≡ x) → (i j : ℕ) (A : Matrix) (t : ℕ) → A j t ≡ t0 → A i t ≡ zipV op (A i) (A j) t
+join-nothing op z i j A t e = rw e (sym (z (A i t)))
 
 -- ---- row i is negated
 

@@ -84,13 +84,13 @@ lent-part {o} {t} {r} {w} g i h k e =
     let fits : i * w + k ≤ length o = omega (arith, row-le w h, g .size) in
     record { row = part-row (g .row) (i * w) k fits; size = length-mid (i * w) k o fits ∙ e; trits = lent-trits w i k g h e }
 
--- the dot product of two rows that are lent
-pub rows-product : {o t : List ℕ} {w i j k l n : ℕ} (a : Part o t w i k) (b : Part o t w j l)
-    → n ≡ number (dotV (tritAt (midOf (i * w) k o) (midOf (i * w) k t)) (tritAt (midOf (j * w) l o) (midOf (j * w) l t)) (64 * length (midOf (i * w) k o)))
-    → n ≡ number (dotV (matrixAt w o t i) (matrixAt w o t j) (64 * w))
-rows-product {o} {t} {w} {i} {j} {k} {l} a b d =
+-- the dot product of two rows that are lent, of one matrix or of two
+pub rows-product : {o t o′ t′ : List ℕ} {w i j k l n : ℕ} (a : Part o t w i k) (b : Part o′ t′ w j l)
+    → n ≡ number (dotV (tritAt (midOf (i * w) k o) (midOf (i * w) k t)) (tritAt (midOf (j * w) l o′) (midOf (j * w) l t′)) (64 * length (midOf (i * w) k o)))
+    → n ≡ number (dotV (matrixAt w o t i) (matrixAt w o′ t′ j) (64 * w))
+rows-product {o} {t} {o′} {t′} {w} {i} {j} {k} a b d =
     d ∙ ap₂ (λ (u v : Vector). number (dotV u v (64 * length (midOf (i * w) k o)))) (a .trits) (b .trits)
-    ∙ ap (λ (m : ℕ). number (dotV (matrixAt w o t i) (matrixAt w o t j) (64 * m))) (a .size)
+    ∙ ap (λ (m : ℕ). number (dotV (matrixAt w o t i) (matrixAt w o′ t′ j) (64 * m))) (a .size)
 
 -- ---- a matrix with another row
 

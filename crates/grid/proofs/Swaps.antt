@@ -110,7 +110,7 @@ pub swap-done : {a b w k : ℕ} {l₀ l : List ℕ} → SwappedTo a b w k l₀ l
 swap-done s e = record { kept = s .kept; words = λ i j h. s .moved i j (omega arith) }
 
 -- a word of the planes is a word of a row
-split : (w r q : ℕ) → q < r * w → (i : ℕ) × (j : ℕ) × (j < w) × (q ≡ i * w + j)
+pub split : (w r q : ℕ) → q < r * w → (i : ℕ) × (j : ℕ) × (j < w) × (q ≡ i * w + j)
 split zero r q h = absurd (omega (arith, mul-zero r))
 split (suc w) r q h = (q / suc w, q % suc w, mod-lt q (zero-lt-suc w), sym (div-add-mod' q (suc w)))
 

@@ -2,11 +2,11 @@
 use mathlib.Core.Path.{_≡_}
 use mathlib.Core.Bool.{_&&_, cond}
 use mathlib.Core.List.{List}
-use mathlib.Core.Logic.{_≢_}
+use mathlib.Core.Logic.{_≢_, _⊎_}
 use Prim.Native.Nat.{ℕ, _+_, _*_, _≤_, _<_}
 use lib.Dec.{eqb, leb, ltb}
 use lib.ListN.{length, getD}
-use Rattle.trits.specs.Trit.{Trit, subT, mulT, zipV}
+use Rattle.trits.specs.Trit.{Trit, t0, subT, mulT, zipV}
 use Rattle.trits.specs.Planes.{Row}
 use Rattle.trits.specs.Rows.{matrixAt}
 use Rattle.matrix.specs.Linear.{Vector, Matrix}
@@ -25,6 +25,10 @@ pub record Grid (ones twos : List ℕ) (r w : ℕ) (A : Matrix) : Type 0 where
 abbrev pub putRow : ℕ → Vector → Matrix → Matrix
 putRow j v A k q = cond (eqb k j) (v q) (A k q)
 
+-- the trits of x in the words f to v - 1, and those of y in all others
+unfoldable pub within : ℕ → ℕ → Vector → Vector → Vector
+within f v x y t = cond (leb (64 * f) t && ltb t (64 * v)) (x t) (y t)
+
 -- row i when rows a and b have changed places
 abbrev pub other : ℕ → ℕ → ℕ → ℕ
 other a b i = cond (eqb i a) b (cond (eqb i b) a i)
@@ -37,6 +41,10 @@ pub record Swapped (a b w : ℕ) (l₀ l : List ℕ) : Type 0 where
 -- row j is joined to row i by an operation
 abbrev pub joinRow : (Trit → Trit → Trit) → ℕ → ℕ → Matrix → Matrix
 joinRow op i j A k t = cond (eqb k i) (op (A k t) (A j t)) (A k t)
+
+-- row i less the rows a, b and c
+abbrev pub lessThree : Matrix → ℕ → ℕ → ℕ → ℕ → Vector
+lessThree A i a b c t = subT (subT (subT (A i t) (A a t)) (A b t)) (A c t)
 
 -- row t becomes row i times v, and is joined to row a by an operation
 unfoldable pub joinProduct : (Trit → Trit → Trit) → ℕ → ℕ → ℕ → Vector → Matrix → Matrix
@@ -141,3 +149,34 @@ pub record ForAddRows (ones twos : List ℕ) (rows w i j : ℕ) : Type 0 where
   pub i-in : i < rows
   pub j-in : j < rows
   pub apart : i ≢ j
+
+-- a grid, and two of its rows: the first, and the one that is added to it or taken from it, which is 0 before word f and from word v on
+pub record ForAddWords (ones twos : List ℕ) (rows w f v i j : ℕ) : Type 0 where
+  pub grid : Rows ones twos rows w
+  pub width : v ≤ w
+  pub i-in : i < rows
+  pub j-in : j < rows
+  pub apart : i ≢ j
+  pub outside : (t : ℕ) → (t < 64 * f) ⊎ (64 * v ≤ t) → matrixAt w ones twos j t ≡ t0
+
+-- a grid, words of its rows, and three rows: in these words the first becomes the sum of the others
+pub record ForSumRow (ones twos : List ℕ) (rows w f v d a b : ℕ) : Type 0 where
+  pub grid : Rows ones twos rows w
+  pub width : v ≤ w
+  pub d-in : d < rows
+  pub a-in : a < rows
+  pub b-in : b < rows
+  pub a-apart : d ≢ a
+  pub b-apart : d ≢ b
+
+-- a grid, words of its rows, and four rows: the first, and three that are taken from it in these words
+pub record ForSubThree (ones twos : List ℕ) (rows w f v i a b c : ℕ) : Type 0 where
+  pub grid : Rows ones twos rows w
+  pub width : v ≤ w
+  pub i-in : i < rows
+  pub a-in : a < rows
+  pub b-in : b < rows
+  pub c-in : c < rows
+  pub a-apart : i ≢ a
+  pub b-apart : i ≢ b
+  pub c-apart : i ≢ c

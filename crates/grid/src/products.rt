@@ -43,7 +43,7 @@ pub fn put_product(
         (matrixAt w (now (ones .entry)) (now (twos .entry)))) ⌝ }
 {
     one_row::zero_row(ones, twos, rows, w, t);
-    two_rows::add_rows(ones, twos, rows, w, t, i);
+    two_rows::add_rows(ones, twos, rows, w, 0, w, t, i);
     mul_by(ones, twos, rows, w, t, so, st);
 }
 
@@ -64,7 +64,7 @@ pub fn add_product(
         (joinProduct addT a i t (tritAt (now (so .entry)) (now (st .entry))) (matrixAt w (now (ones .entry)) (now (twos .entry)))) ⌝ }
 {
     put_product(ones, twos, rows, w, t, i, so, st);
-    two_rows::add_rows(ones, twos, rows, w, a, t);
+    two_rows::add_rows(ones, twos, rows, w, 0, w, a, t);
 }
 
 // Row i times the source is subtracted from row a, through row t.
@@ -84,5 +84,5 @@ pub fn sub_product(
         (joinProduct subT a i t (tritAt (now (so .entry)) (now (st .entry))) (matrixAt w (now (ones .entry)) (now (twos .entry)))) ⌝ }
 {
     put_product(ones, twos, rows, w, t, i, so, st);
-    two_rows::sub_rows(ones, twos, rows, w, a, t);
+    two_rows::sub_rows(ones, twos, rows, w, 0, w, a, t);
 }

@@ -4,7 +4,7 @@ ghost use Prim.Native.Nat.{_*_, _<_};
 ghost use Rattle.trits.specs.Trit.{addT, subT, zipV, number, dotV};
 ghost use Rattle.trits.specs.Rows.{matrixAt};
 ghost use Rattle.matrix.specs.Steps.{swapRows};
-ghost use Rattle.grid.specs.Steps.{Grid, Swapped, putRow, joinRow, ForSwapPlane, ForSwapRows, ForRowDot, ForAddRows};
+ghost use Rattle.grid.specs.Steps.{Grid, Swapped, putRow, joinRow, ForSwapPlane, ForSwapRows, ForRowDot, ForAddRows, ForAddWords};
 use super::one_row;
 
 // Rows a and b of one plane change places.
@@ -35,15 +35,24 @@ pub fn swap_rows(ones: &mut [u64], twos: &mut [u64], rows: usize, w: usize, a: u
     swap_plane(twos, rows, w, a, b);
 }
 
-// Row j is added to row i.
-pub fn add_rows(ones: &mut [u64], twos: &mut [u64], rows: usize, w: usize, i: usize, j: usize)
-    requires { ⌜ ForAddRows (now ones) (now twos) rows w i j ⌝ }
+// Row j is added to row i, in the words f to v - 1: row j is 0 at all others.
+pub fn add_rows(
+    ones: &mut [u64],
+    twos: &mut [u64],
+    rows: usize,
+    w: usize,
+    f: usize,
+    v: usize,
+    i: usize,
+    j: usize,
+)
+    requires { ⌜ ForAddWords (now ones) (now twos) rows w f v i j ⌝ }
     ensures { λ _. ⌜ Grid (now (ones .exit)) (now (twos .exit)) rows w (joinRow addT i j (matrixAt w (now (ones .entry)) (now (twos .entry)))) ⌝ }
 {
     let at = i * w;
     let from = j * w;
-    let mut k = 0;
-    while k < w {
+    let mut k = f;
+    while k < v {
         let p = at + k;
         let q = from + k;
         let a = ones[p];
@@ -57,15 +66,24 @@ pub fn add_rows(ones: &mut [u64], twos: &mut [u64], rows: usize, w: usize, i: us
     }
 }
 
-// Row j is subtracted from row i.
-pub fn sub_rows(ones: &mut [u64], twos: &mut [u64], rows: usize, w: usize, i: usize, j: usize)
-    requires { ⌜ ForAddRows (now ones) (now twos) rows w i j ⌝ }
+// Row j is subtracted from row i, in the words f to v - 1: row j is 0 at all others.
+pub fn sub_rows(
+    ones: &mut [u64],
+    twos: &mut [u64],
+    rows: usize,
+    w: usize,
+    f: usize,
+    v: usize,
+    i: usize,
+    j: usize,
+)
+    requires { ⌜ ForAddWords (now ones) (now twos) rows w f v i j ⌝ }
     ensures { λ _. ⌜ Grid (now (ones .exit)) (now (twos .exit)) rows w (joinRow subT i j (matrixAt w (now (ones .entry)) (now (twos .entry)))) ⌝ }
 {
     let at = i * w;
     let from = j * w;
-    let mut k = 0;
-    while k < w {
+    let mut k = f;
+    while k < v {
         let p = at + k;
         let q = from + k;
         let a = ones[p];
@@ -87,7 +105,7 @@ pub fn take_from(ones: &mut [u64], twos: &mut [u64], rows: usize, w: usize, i: u
         (matrixAt w (now (ones .entry)) (now (twos .entry)))) ⌝ }
 {
     one_row::negate(ones, twos, rows, w, i);
-    add_rows(ones, twos, rows, w, i, j);
+    add_rows(ones, twos, rows, w, 0, w, i, j);
 }
 
 // The dot product of rows i and j.

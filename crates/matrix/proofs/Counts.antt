@@ -5,10 +5,12 @@ use mathlib.Core.Logic.{_⊎_, inl, inr}
 use mathlib.Core.List.{List, [], _∷_, _++_}
 use Prim.Native.Nat.{ℕ, zero, suc, _+_, _≤_, _<_}
 use native.Mathlib.Numerals.{add-one}
+use native.Mathlib.Decide.{ℕ-discrete}
 use native.Mathlib.Omega.{arith}
 use borrow.Author.Tests.{eqb-true, eqb-false}
 use lib.Dec.{eqb}
-use lib.ListN.{length, getD, length-append}
+use lib.ListN.{length, getD, length-append, List·getD-append}
+use lib.Seq.{getD-at}
 use Rattle.matrix.specs.Linear.{Vector, elem, without, range, fill}
 use Rattle.matrix.specs.Orders.{Distinct, Order}
 use Rattle.matrix.proofs.Places.{Below, or-false-left, or-false-right, or-true-right, or-cases, false-or-false, elem-append, elem-here, fill-at}
@@ -124,6 +126,15 @@ pub range-length : (n : ℕ) → length (range n) ≡ n
 unfolding range
 range-length zero = refl
 range-length (suc n) = length-append (range n) (n ∷ []) ∙ omega (arith, range-length n)
+
+pub range-at : (n i : ℕ) → i < n → getD (range n) i 0 ≡ i
+unfolding range
+range-at zero i h = absurd (omega arith)
+range-at (suc n) i h = by (range-at n i) (ℕ-discrete i n)
+  where
+    by : (i < n → getD (range n) i 0 ≡ i) → Dec (i ≡ n) → getD (range n ++ (n ∷ [])) i 0 ≡ i
+    by ih (yes e) = getD-at (range n) n [] 0 i (range-length n ∙ sym e) ∙ sym e
+    by ih (no f) = List·getD-append (range n) (n ∷ []) 0 i (omega (arith, f, range-length n)) ∙ ih (omega (arith, f))
 
 pub range-elem : (n q : ℕ) → q < n → elem q (range n) ≡ true
 unfolding range

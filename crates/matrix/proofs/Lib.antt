@@ -7,7 +7,11 @@
 -- the first pass leaves 1 on the diagonal of the kept columns and 0 below, `stepped-lowered`, which is enough for the test of a column, `test-in`, `test-out`;
 -- the last pass makes them the identity, `raise-reduced`; the coefficients of a column, `reduced-column`, are then the only ones, `reduced-one` (Elimination)
 -- elimination keeps the pivots, `eliminate-pivots` (Kept); what was tried stays as its step left it, `end-one`, `end-below`, `end-none` (Tried);
--- the values at the pivots, from the last row on, `back-solves` (Values)
+-- the values at the pivots, from the last row on, `back-solves` (Values);
+-- columns in the order of places, and one more for what is known: as many are kept, `image-rank`, for the same places, `image-pivots` (FirstPart), and the
+-- values at the pivots are the same, `backed-alike`, `fill-holds` (KnownPart);
+-- a row less a block's rows is what the steps make of it, `less-more` (Less), `lazy-pivot` (Lazy); an entry is the sum of two before it, `entry-sum`, and
+-- that of a row's own trits its combination, `entry-code` (Entries); blocks one after another are columns tried, `lowering-next` (Lowering)
 pub mod Cases
 pub mod Field
 pub mod Dots
@@ -26,3 +30,11 @@ pub mod Elimination
 pub mod Kept
 pub mod Tried
 pub mod Values
+pub mod Less
+pub mod Lazy
+pub mod Entries
+pub mod Blocks
+pub mod Lowering
+pub mod FirstPart
+pub mod KnownPart
+pub mod Fills

@@ -110,27 +110,12 @@ module _ (r at q : ℕ) (A : Matrix) where
   unfolding stepOf
   step-none e = rw e
 
-  -- what a step leaves above its row, at it and below
-  pub step-above : (i t : ℕ) → i < at → stepOf r at q A i t ≡ A i t
-  step-above i t l = by (hasPivot r at q A) refl
-    where
-      by : (b : Bool) → hasPivot r at q A ≡ b → stepOf r at q A i t ≡ A i t
-      by true e = ap (λ (B : Matrix). B i t) (step-has e) ∙ pivoted-above at q (pivotRow r A q at) A i t (has-row e .0) l
-      by false e = ap (λ (B : Matrix). B i t) (step-none e)
-
+  -- what a step leaves at its row and below
   pub step-one : hasPivot r at q A ≡ true → stepOf r at q A at q ≡ t1
   step-one e = ap (λ (B : Matrix). B at q) (step-has e) ∙ pivoted-one at q (pivotRow r A q at) A (has-row e .2)
 
   pub step-below : hasPivot r at q A ≡ true → (i : ℕ) → at < i → stepOf r at q A i q ≡ t0
   step-below e i l = ap (λ (B : Matrix). B i q) (step-has e) ∙ pivoted-below at q (pivotRow r A q at) A (has-row e .2) i l
-
-  -- the count stays within the rows
-  pub count-room : at ≤ r → cond (hasPivot r at q A) (suc at) at ≤ r
-  count-room h = by (hasPivot r at q A) refl
-    where
-      by : (t : Bool) → hasPivot r at q A ≡ t → cond (hasPivot r at q A) (suc at) at ≤ r
-      by true e = rw e (let f = has-row e in omega (arith, f .0, f .1))
-      by false e = rw e h
 
 -- ---- what a test chose
 

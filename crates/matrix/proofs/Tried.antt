@@ -69,7 +69,7 @@ module _ (r at p : ℕ) (A : Matrix) (e : hasPivot r at p A ≡ true) (q : ℕ) 
       go false = scaled-keep i
 
 -- a step leaves a column whose rows from `at` on are 0
-step-keep : (r at p : ℕ) (A : Matrix) (q : ℕ) → ZeroFrom r at A q → (i : ℕ) → stepOf r at p A i q ≡ A i q
+pub step-keep : (r at p : ℕ) (A : Matrix) (q : ℕ) → ZeroFrom r at A q → (i : ℕ) → stepOf r at p A i q ≡ A i q
 step-keep r at p A q z i = go (hasPivot r at p A) refl
   where
     go : (s : Bool) → hasPivot r at p A ≡ s → stepOf r at p A i q ≡ A i q

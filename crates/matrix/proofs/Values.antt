@@ -35,18 +35,6 @@ times-less n A u q v i h =
     by p (yes e) = ap (putV (putV u q (subT (u q) v)) q t0) e ∙ put-same (putV u q (subT (u q) v)) q t0 ∙ sym (put-same u q t0) ∙ ap (putV u q t0) (sym e)
     by p (no f) = put-other (putV u q (subT (u q) v)) q t0 p f ∙ put-other u q (subT (u q) v) p f ∙ sym (put-other u q t0 p f)
 
--- the rows that are read, and their places, are all that counts
-pub backed-cong : (n m : ℕ) (A B : Matrix) (p p′ : ℕ → ℕ) (c : ℕ) (u : Vector) → ((i : ℕ) → i < c → p i ≡ p′ i)
-    → ((i : ℕ) (v : Vector) → i < c → ((q : ℕ) → n ≤ q → v q ≡ t0) → times m A v i ≡ times n B v i)
-    → ((i : ℕ) → i < c → p′ i < n) → ((q : ℕ) → n ≤ q → u q ≡ t0) → backed m A p c u ≡ backed n B p′ c u
-unfolding backed
-backed-cong n m A B p p′ zero u e f l z = refl
-backed-cong n m A B p p′ (suc c) u e f l z =
-    backed-cong n m A B p p′ c (putV u (p c) (subT (u (p c)) (times m A u c))) (λ i h. e i (omega arith)) (λ i v h. f i v (omega arith))
-    (λ i h. l i (omega arith))
-    (λ q h. put-other u (p c) (subT (u (p c)) (times m A u c)) q (λ y. omega (arith, l c (omega arith), e c (omega arith), y)) ∙ z q h)
-    ∙ ap₂ (λ (q : ℕ) (t : Trit). backed n B p′ c (putV u q (subT (u q) t))) (e c (omega arith)) (f c u (omega arith) z)
-
 module _ (r n : ℕ) (H A : Matrix) (ps : List ℕ) (k : Kept r n H ps) (d : Lowered r n H A ps) (full : length ps ≡ r) where
   -- the rows from c on have product 0, and then all rows
   back-rows : (c : ℕ) (u : Vector) → c ≤ r → ((i : ℕ) → c ≤ i → i < r → times n A u i ≡ t0) → (i : ℕ) → i < r

@@ -36,8 +36,8 @@ fn build(p: &mut [u16], key_ones: &mut [u64], key_twos: &mut [u64]) -> u64 {
         p,
         key_ones,
         key_twos,
-        &mut [0u64; 76],
-        &mut [0u64; 76],
+        &mut [0u64; 562],
+        &mut [0u64; 562],
     );
     trits::refusal::code(outcome)
 }
@@ -77,8 +77,8 @@ fn draw_with(
         &mut [0],
         s_ones,
         s_twos,
-        &mut [0u64; 27],
-        &mut [0u64; 27],
+        &mut [0u64; 270],
+        &mut [0u64; 270],
     );
     trits::refusal::code(outcome)
 }

@@ -1,12 +1,12 @@
--- The bits of a number: the operators work at each bit apart, a number is its bits, and the number that `fromBits` makes of given bits has them.
--- Assumes nothing.
+-- The bits of a number: the operators work at each bit apart, a number is its bits, and the number that `fromBits` makes of given bits has them;
+-- shifts move them. Assumes nothing.
 use mathlib.Core.Path.{_≡_, sym, ap, _∙_}
 use Prim.Native.Nat.{ℕ, zero, suc, _+_, _-_, _*_, _/_, _%_, _^_, _≤_, _<_, suc-le-suc}
-use native.Mathlib.Nat.{zero-lt-suc, not-suc-le-zero, le-of-suc-le-suc, mod-lt, div-one, zero-div, pow-suc, div-eq-of-lt}
+use native.Mathlib.Nat.{zero-lt-suc, not-suc-le-zero, le-of-suc-le-suc, mod-lt, div-one, zero-div, pow-suc, div-eq-of-lt, mul-assoc}
 use native.Mathlib.Numerals.{one-add}
 use native.Mathlib.Omega.{arith}
-use lib.Bits.{bitAnd, bitOr, bitXor, and-shr, or-shr, xor-shr, and-mod, or-mod, xor-mod}
-use lib.Pow.{shr-shr, pow-mono}
+use lib.Bits.{bitAnd, bitOr, bitXor, and-shr, or-shr, xor-shr, and-mod, or-mod, xor-mod, shifted-even}
+use lib.Pow.{shr-shr, shl-shr, field, mod-mod-pow, pow-add, pow-mono}
 use lib.Arith.{lt-one}
 use Rattle.trits.specs.Planes.{bit, fromBits}
 
@@ -78,3 +78,33 @@ bit-from (suc k) f d (suc i) l =
 -- a number is the one that has its bits
 pub from-bits : (k n : ℕ) (f : ℕ → ℕ) → n < 2 ^ k → ((i : ℕ) → f i < 2) → ((i : ℕ) → i < k → bit i n ≡ f i) → n ≡ fromBits f k
 from-bits k n f h d e = bits-eq k n (fromBits f k) h (from-lt k f d) (λ i l. e i l ∙ sym (bit-from k f d i l))
+
+-- ---- a word shifted right, and left
+
+pub shr-bit : (u i n : ℕ) → bit i (n / 2 ^ u) ≡ bit (u + i) n
+unfolding bit
+shr-bit u i n = ap (λ (x : ℕ). x % 2) (shr-shr n u i)
+
+bit-cut : (n q : ℕ) → q < 64 → bit q (n % 2 ^ 64) ≡ bit q n
+unfolding bit
+bit-cut n q h =
+    let e : suc (63 - q) + q ≡ 64 = omega arith in
+    let d : (63 - q) + 1 ≡ suc (63 - q) = omega arith in
+    ap (λ (k : ℕ). n % 2 ^ k / 2 ^ q % 2) (sym e) ∙ ap (λ (x : ℕ). x % 2) (field n (suc (63 - q)) q)
+    ∙ ap (λ (k : ℕ). n / 2 ^ q % 2 ^ k % 2) (sym d) ∙ mod-mod-pow (n / 2 ^ q) (63 - q) 1
+
+-- below the shift there is 0
+pub bit-low : (x j q : ℕ) → q < 64 → q < j → bit q (x * 2 ^ j % 2 ^ 64) ≡ 0
+unfolding bit
+bit-low x j q h l =
+    let e : j ≡ suc (j - suc q) + q = omega arith in
+    bit-cut (x * 2 ^ j) q h ∙ ap (λ (k : ℕ). x * 2 ^ k / 2 ^ q % 2) e
+    ∙ ap (λ (y : ℕ). y / 2 ^ q % 2) (ap (λ (y : ℕ). x * y) (pow-add 2 (suc (j - suc q)) q) ∙ sym (mul-assoc x (2 ^ suc (j - suc q)) (2 ^ q)))
+    ∙ ap (λ (y : ℕ). y % 2) (shl-shr (x * 2 ^ suc (j - suc q)) q) ∙ shifted-even x (j - suc q)
+
+pub bit-high : (x j q : ℕ) → q < 64 → j ≤ q → bit q (x * 2 ^ j % 2 ^ 64) ≡ bit (q - j) x
+unfolding bit
+bit-high x j q h l =
+    let e : q ≡ j + (q - j) = omega arith in
+    bit-cut (x * 2 ^ j) q h ∙ ap (λ (k : ℕ). x * 2 ^ j / 2 ^ k % 2) e ∙ ap (λ (y : ℕ). y % 2) (sym (shr-shr (x * 2 ^ j) j (q - j)))
+    ∙ ap (λ (y : ℕ). y / 2 ^ (q - j) % 2) (shl-shr x j)

@@ -171,16 +171,6 @@ reads-words {ones} {twos} {k} {n} {v} r e ho hw = reads-holds ones twos n v (rec
 pub same-words : {o t o′ t′ : List ℕ} {n : ℕ} {v : ℕ → Trit} → Holds o t n v → Holds o′ t′ n v → (o ≡ o′) × (t ≡ t′)
 same-words h g = (h .ones-are ∙ sym (g .ones-are), h .twos-are ∙ sym (g .twos-are))
 
--- and a word of theirs is the same where they read alike at its places
-pub same-word : {o t o′ t′ : List ℕ} → Row o t → Row o′ t′ → (j : ℕ) → getD o j 0 < 2 ^ 64 → getD t j 0 < 2 ^ 64 → getD o′ j 0 < 2 ^ 64 → getD t′ j 0 < 2 ^ 64
-    → ((b : ℕ) → b < 64 → tritAt o t (64 * j + b) ≡ tritAt o′ t′ (64 * j + b)) → (getD o j 0 ≡ getD o′ j 0) × (getD t j 0 ≡ getD t′ j 0)
-same-word {o} {t} {o′} {t′} r r′ j ho ht ho′ ht′ e = (
-  ones-word (tritAt o t) j (getD o j 0) ho (λ b h. coded-at o t (r .apart) j b h .0)
-      ∙ sym (ones-word (tritAt o t) j (getD o′ j 0) ho′ (λ b h. coded-at o′ t′ (r′ .apart) j b h .0 ∙ ap one (sym (e b h)))),
-  twos-word (tritAt o t) j (getD t j 0) ht (λ b h. coded-at o t (r .apart) j b h .1)
-      ∙ sym (twos-word (tritAt o t) j (getD t′ j 0) ht′ (λ b h. coded-at o′ t′ (r′ .apart) j b h .1 ∙ ap two (sym (e b h)))),
-)
-
 -- and planes that are those of v read as v, where v is 0 past the words
 pub holds-reads : (ones twos : List ℕ) (n : ℕ) (v : ℕ → Trit) → ((i : ℕ) → 64 * n ≤ i → v i ≡ t0) → Holds ones twos n v → Reads ones twos n v
 holds-reads ones twos n v z h =

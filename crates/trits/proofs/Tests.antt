@@ -14,10 +14,10 @@ use borrow.Author.Tests.{eq-eqb, ne-eqb, eqb-true, eqb-false}
 use lib.ListN.{length, getD, List·getD-eq-default}
 use lib.Dec.{eqb}
 use lib.Bits.{bitAnd, bitOr, and-lt, or-lt}
-use lib.Pow.{shr-lt, shr-shr, pow-pos}
+use lib.Pow.{shr-lt, pow-pos}
 use Rattle.trits.specs.Trit.{Trit, t0, t1, t2, anyTo, one, two}
 use Rattle.trits.specs.Planes.{bit, trit, bitAt, tritAt, onesOf, twosOf, bothAt, eitherAt, bothSet, pastEnd, wordsFor, Apart}
-use Rattle.trits.proofs.Bits.{bit-and, bit-or, bit-lt, bit-none, bits-eq}
+use Rattle.trits.proofs.Bits.{bit-and, bit-or, bit-lt, bit-none, bits-eq, shr-bit}
 use Rattle.trits.proofs.Reading.{bitAt-place, read-past, ones-bit, twos-bit, length-ones, holds-reads}
 use Rattle.trits.proofs.WordOps.{no-bits}
 
@@ -169,10 +169,6 @@ either-digit (suc zero) zero p q = refl
 either-digit (suc zero) (suc zero) p q = refl
 either-digit (suc zero) (suc (suc b)) p q = absurd (omega arith)
 either-digit (suc (suc a)) b p q = absurd (omega arith)
-
-shr-bit : (u i n : ℕ) → bit i (n / 2 ^ u) ≡ bit (u + i) n
-unfolding bit
-shr-bit u i n = ap (λ (x : ℕ). x % 2) (shr-shr n u i)
 
 -- the places of word j from bit u on
 past-word : (os ts : List ℕ) (j u : ℕ) → u ≤ 64 → Fits w64 (getD os j 0) → Fits w64 (getD ts j 0)

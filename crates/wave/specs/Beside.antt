@@ -3,6 +3,7 @@
 use mathlib.Core.Path.{_≡_}
 use mathlib.Core.Bool.{true}
 use mathlib.Core.List.{[], _∷_}
+use lib.ListN.{replicate}
 use Rattle.matrix.specs.Linear.{Vector}
 use Rattle.trits.specs.InDigits.{vector, digits, matrix, digitRows}
 use Rattle.verdict.specs.Verdict.{Key}
@@ -44,11 +45,11 @@ pub record Beside : Type 0 where
   pub p-0023 : orderExit (sizes4 0 0 4) (build4 (0 ∷ 0 ∷ 2 ∷ 3 ∷ [])) ≡ 9 ∷ 9 ∷ 9 ∷ 9 ∷ []
   pub key-ones-0023 : keyExit (sizes4 0 0 4) (build4 (0 ∷ 0 ∷ 2 ∷ 3 ∷ [])) .ones ≡ 5 ∷ 6 ∷ []
   pub key-twos-0023 : keyExit (sizes4 0 0 4) (build4 (0 ∷ 0 ∷ 2 ∷ 3 ∷ [])) .twos ≡ 7 ∷ 8 ∷ []
-  pub work-0023 : buildWorkExit (sizes4 0 0 4) (build4 (0 ∷ 0 ∷ 2 ∷ 3 ∷ [])) .ones ≡ 1 ∷ 2 ∷ 3 ∷ 4 ∷ []
+  pub work-0023 : buildWorkExit (sizes4 0 0 4) (build4 (0 ∷ 0 ∷ 2 ∷ 3 ∷ [])) .ones ≡ replicate 490 3
   -- a U value of 0 is refused 8 though e_V is not 0 there: the word and the working space stay
   pub refused-zero : drawAnswer (sizes4 0 0 4) (draw4 start1 0 1 0 0) ≡ 8
   pub ones-zero : wordExit (sizes4 0 0 4) (draw4 start1 0 1 0 0) .ones ≡ 5 ∷ []
-  pub work-zero : drawWorkExit (sizes4 0 0 4) (draw4 start1 0 1 0 0) .ones ≡ 1 ∷ 2 ∷ 3 ∷ 4 ∷ 5 ∷ 6 ∷ []
+  pub work-zero : drawWorkExit (sizes4 0 0 4) (draw4 start1 0 1 0 0) .ones ≡ replicate 249 5
   -- ---- the five terms: each word below the first three meets all of them but one
 
   -- 2111 meets them under the first key at w = 4

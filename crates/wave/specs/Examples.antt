@@ -4,6 +4,7 @@ use mathlib.Core.Path.{refl}
 use mathlib.Core.List.{List, [], _∷_}
 use Prim.Native.Nat.{ℕ}
 use native.Mathlib.Omega.{arith}
+use lib.ListN.{replicate}
 use Rattle.trits.specs.Planes.{pairOf}
 use Rattle.matrix.specs.Linear.{Vector}
 use Rattle.trits.specs.InDigits.{vector, digits, matrix}
@@ -71,7 +72,7 @@ build4 start = record {
   start = start;
   p = 9 ∷ 9 ∷ 9 ∷ 9 ∷ [];
   key = pairOf (5 ∷ 6 ∷ []) (7 ∷ 8 ∷ []);
-  work = pairOf (1 ∷ 2 ∷ 3 ∷ 4 ∷ []) (1 ∷ 2 ∷ 3 ∷ 4 ∷ []);
+  work = pairOf (replicate 490 3) (replicate 490 4);
 }
 
 -- a draw under p for y = 12 with both orders (0,1), a V trit and a U value, each by its two planes
@@ -86,7 +87,7 @@ draw4 p v1 v2 u1 u2 = record {
   u = pairOf (u1 ∷ []) (u2 ∷ []);
   word = pairOf (5 ∷ []) (6 ∷ []);
   s = pairOf (7 ∷ []) (8 ∷ []);
-  work = pairOf (1 ∷ 2 ∷ 3 ∷ 4 ∷ 5 ∷ 6 ∷ []) (1 ∷ 2 ∷ 3 ∷ 4 ∷ 5 ∷ 6 ∷ []);
+  work = pairOf (replicate 249 5) (replicate 249 6);
 }
 
 -- a module's host with key number 7, which never held a key

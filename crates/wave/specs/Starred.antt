@@ -3,6 +3,7 @@ use mathlib.Core.Path.{_≡_}
 use mathlib.Core.Bool.{true}
 use mathlib.Core.List.{[], _∷_}
 use Prim.Native.Nat.{ℕ}
+use lib.ListN.{replicate}
 use Rattle.packed.specs.Packed.{packedRow, packedBytes}
 use Rattle.packed.specs.Calls.{packOf, packExit, unpackOf, unpackRefusal, unpackOnes, unpackTwos}
 use Rattle.trits.specs.InDigits.{vector, digits, matrix, digitRows}
@@ -43,8 +44,8 @@ pub record Starred : Type 0 where
   pub p-0123 : orderExit (sizes4 0 0 4) (build4 start1) ≡ 0 ∷ 1 ∷ 2 ∷ 3 ∷ []
   pub key-ones-0123 : keyExit (sizes4 0 0 4) (build4 start1) .ones ≡ 0 ∷ 0 ∷ []
   pub key-twos-0123 : keyExit (sizes4 0 0 4) (build4 start1) .twos ≡ 2 ∷ 3 ∷ []
-  pub work-ones-0123 : buildWorkExit (sizes4 0 0 4) (build4 start1) .ones ≡ 0 ∷ 0 ∷ 0 ∷ 0 ∷ []
-  pub work-twos-0123 : buildWorkExit (sizes4 0 0 4) (build4 start1) .twos ≡ 0 ∷ 0 ∷ 0 ∷ 0 ∷ []
+  pub work-ones-0123 : buildWorkExit (sizes4 0 0 4) (build4 start1) .ones ≡ replicate 490 0
+  pub work-twos-0123 : buildWorkExit (sizes4 0 0 4) (build4 start1) .twos ≡ replicate 490 0
   -- start (1,2,0,3): p = (1,3,0,2), R rows 22 and 20
   pub order-1203 : keyOrder (sizes4 0 0 4) secret4 start2 ≡ 1 ∷ 3 ∷ 0 ∷ 2 ∷ []
   pub rows-1203 : digitRows 2 2 (keyRow (sizes4 0 0 4) secret4 start2) ≡ (2 ∷ 2 ∷ []) ∷ (2 ∷ 0 ∷ []) ∷ []
@@ -80,8 +81,8 @@ pub record Starred : Type 0 where
   pub twos-0212 : wordExit (sizes4 0 0 4) (draw4 start1 1 0 1 0) .twos ≡ 6 ∷ []
   pub s-ones-0212 : sExit (sizes4 0 0 4) (draw4 start1 1 0 1 0) .ones ≡ 7 ∷ []
   pub s-twos-0212 : sExit (sizes4 0 0 4) (draw4 start1 1 0 1 0) .twos ≡ 8 ∷ []
-  pub work-ones-0212 : drawWorkExit (sizes4 0 0 4) (draw4 start1 1 0 1 0) .ones ≡ 0 ∷ 0 ∷ 0 ∷ 0 ∷ 0 ∷ 0 ∷ []
-  pub work-twos-0212 : drawWorkExit (sizes4 0 0 4) (draw4 start1 1 0 1 0) .twos ≡ 0 ∷ 0 ∷ 0 ∷ 0 ∷ 0 ∷ 0 ∷ []
+  pub work-ones-0212 : drawWorkExit (sizes4 0 0 4) (draw4 start1 1 0 1 0) .ones ≡ replicate 249 0
+  pub work-twos-0212 : drawWorkExit (sizes4 0 0 4) (draw4 start1 1 0 1 0) .twos ≡ replicate 249 0
   -- at w = 2, V trit 0 and U value 1 release 0102
   pub word-0102 : word4 0 0 2 0 1 ≡ 0 ∷ 1 ∷ 0 ∷ 2 ∷ []
   pub released-0102 : refusal4 0 0 2 0 1 ≡ 0

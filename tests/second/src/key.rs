@@ -3,6 +3,9 @@
 use crate::algebra::{clear_column, negative, plus, rank, times};
 use crate::planes::{fault, read, read_row, words, write};
 
+/// Rows of working space for tables, by the header; nothing here uses them.
+const TABLE_ROWS: usize = 3 * 81;
+
 /// The sizes, as the C header has them.
 #[repr(C)]
 #[derive(Clone, Copy, Debug, PartialEq, Eq)]
@@ -64,12 +67,12 @@ impl Sizes {
 
     /// Words of one working plane of a build, by the header.
     pub fn build_work(&self) -> usize {
-        (self.n() - self.k()) * 2 * words(self.half())
+        (self.n() - self.k() + TABLE_ROWS) * 2 * words(self.half())
     }
 
     /// Words of one working plane of a draw, by the header.
     pub fn draw_work(&self) -> usize {
-        (self.ru().max(self.rv()) + 5) * words(self.half())
+        (self.ru().max(self.rv()) + TABLE_ROWS + 5) * words(self.half())
     }
 }
 

@@ -164,9 +164,9 @@ fn through_the_border() {
     let s = secret();
     let (hu, hv, b, c) = (planes(&s.hu), planes(&s.hv), planes(std::slice::from_ref(&s.b)), planes(std::slice::from_ref(&s.c)));
     let lent = SecretWords { hu: [&hu.0, &hu.1], hv: [&hv.0, &hv.1], b: [&b.0, &b.1], c: [&c.0, &c.1] };
-    let (mut p, mut ones, mut twos, mut w1, mut w2) = ([9; 4], [7; 2], [8; 2], [5; 4], [6; 4]);
+    let (mut p, mut ones, mut twos, mut w1, mut w2) = ([9; 4], [7; 2], [8; 2], [5; 490], [6; 490]);
     assert_eq!(build(z, lent, &[0, 1, 2, 3], &mut p, [&mut ones, &mut twos], [&mut w1, &mut w2]), 0);
-    assert_eq!((p, ones, twos, w1, w2), ([0, 1, 2, 3], [0, 0], [2, 3], [0; 4], [0; 4]));
+    assert_eq!((p, ones, twos, w1, w2), ([0, 1, 2, 3], [0, 0], [2, 3], [0; 490], [0; 490]));
     for z in [Sizes { gv: 2, ..z }, Sizes { gu: 2, ..z }] {
         assert_eq!(build(z, lent, &[0, 1, 2, 3], &mut p, [&mut ones, &mut twos], [&mut w1, &mut w2]), 1);
     }
@@ -243,9 +243,9 @@ fn zeros_from_the_gap_of_u_on() {
     for (gv, gu, refusal) in [(0, 0, 8), (1, 0, 8), (0, 1, 0), (1, 1, 0)] {
         let z = Sizes { n: 4, ku: 1, kv: 1, gv, gu, w: 2 };
         let given = DrawWords { p: &[0, 1, 2, 3], y: [&y.0, &y.1], v_order: &[0, 1], v_trits: [&vt.0, &vt.1], u_order: &[0, 1], u_values: [&uv.0, &uv.1] };
-        let (mut word1, mut word2, mut s1, mut s2, mut w1, mut w2) = ([9], [9], [9], [9], [3; 6], [4; 6]);
+        let (mut word1, mut word2, mut s1, mut s2, mut w1, mut w2) = ([9], [9], [9], [9], [3; 249], [4; 249]);
         assert_eq!(draw(z, lent, given, [&mut word1, &mut word2], [&mut s1, &mut s2], [&mut w1, &mut w2]), refusal, "g_V = {gv}, g_U = {gu}");
-        let left = if refusal == 0 { ([1], [2], [0], [0], [0; 6], [0; 6]) } else { ([9], [9], [9], [9], [3; 6], [4; 6]) };
+        let left = if refusal == 0 { ([1], [2], [0], [0], [0; 249], [0; 249]) } else { ([9], [9], [9], [9], [3; 249], [4; 249]) };
         assert_eq!((word1, word2, s1, s2, w1, w2), left);
     }
 }

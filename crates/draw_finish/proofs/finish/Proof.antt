@@ -104,17 +104,21 @@ shape-of-requires c κs = search needs
 more-rows-requires : tie.Need-more-rows-requires
 more-rows-requires c κs = search needs
 
+add-l : tie.Need-add-l
+add-l c = omega (arith, rows c, roomy (start-from-more-rows c) .rows)
+
 make-word-requires : tie.Need-make-word-requires
 make-word-requires c κs =
     let s = start-from-more-rows (c .before .before) in
-    let e = rows (c .before .before) in record {
+    let e = rows (c .before .before) in
+    let all : matrixRows (s .args .z) + 248 ≡ c .before .before .more-rows .result + 243 + 5 = omega (arith, e) in record {
       sizes = s .pre .sizes;
       ready = s .pre .ready;
       u-few = omega (arith, e, roomy s .u);
       v-few = omega (arith, e, roomy s .v);
       small = omega (arith, e, roomy s .rows);
-      work-ones-size = s .pre .work-ones-size ∙ ap (λ (n : ℕ). (n + 5) * halfWords (s .args .z)) (sym e);
-      work-twos-size = s .pre .work-twos-size ∙ ap (λ (n : ℕ). (n + 5) * halfWords (s .args .z)) (sym e);
+      work-ones-size = s .pre .work-ones-size ∙ ap (λ (n : ℕ). n * halfWords (s .args .z)) all;
+      work-twos-size = s .pre .work-twos-size ∙ ap (λ (n : ℕ). n * halfWords (s .args .z)) all;
     }
 
 code-requires : tie.Need-code-requires
@@ -171,6 +175,7 @@ finish-spec =
     (tie.spec
     shape-of-requires
     more-rows-requires
+    add-l
     make-word-requires
     code-requires
     release-word-requires

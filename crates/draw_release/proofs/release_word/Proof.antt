@@ -69,7 +69,7 @@ write-places-requires c κs =
     let n = s .pre in
     let o = s .pre .is-order in
     let h = bounds (a .z) (s .pre .sizes) .high in
-    let big = prod (a .l + 5) (halfWords (a .z)) 8197 128 (omega (arith, s .pre .small)) (omega (arith, h)) in
+    let big = prod (a .l + 5) (halfWords (a .z)) 8440 128 (omega (arith, s .pre .small)) (omega (arith, h)) in
     rw (after-shape-of .shape-of .ensures) (record {
       grid = R;
       is-order = o;
@@ -92,7 +92,7 @@ write-places-requires-2 c κs =
     let n = s .pre in
     let o = s .pre .is-order in
     let h = b .high in
-    let big = prod (a .l + 5) (halfWords (a .z)) 8197 128 (omega (arith, s .pre .small)) (omega (arith, h)) in
+    let big = prod (a .l + 5) (halfWords (a .z)) 8440 128 (omega (arith, s .pre .small)) (omega (arith, h)) in
     rw (after-shape-of .shape-of .ensures) (record {
       grid = R;
       is-order = o;

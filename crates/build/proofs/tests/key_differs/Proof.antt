@@ -80,6 +80,11 @@ returns-2 c =
 
 add-pair-differs-3 : tie.Need-add-pair-differs-3
 add-pair-differs-3 c =
+    let after-shape-of = shape-of-from-else2 c in
+    rw (after-shape-of .shape-of .ensures) (omega (arith, within (after-shape-of .before) .high))
+
+add-pair-differs-4 : tie.Need-add-pair-differs-4
+add-pair-differs-4 c =
     let after-shape-of = shape-of-from-else2 (c .before) in
     rw (after-shape-of .shape-of .ensures) (omega (arith, within (after-shape-of .before) .high))
 
@@ -114,6 +119,7 @@ key-differs-spec =
     pair-differs-requires-2
     returns-2
     add-pair-differs-3
+    add-pair-differs-4
     mul-pair-differs-2
     pair-differs-requires-3
     returns-3)

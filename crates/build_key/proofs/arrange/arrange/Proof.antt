@@ -1,42 +1,42 @@
--- The first pass leaves what the last one asks for (`lowered-left`), and R stands in the other columns after both (`both-keyed`).
+-- The first pass leaves 1 on the diagonal and 0 below it, and the last pass the key (`key-left`).
 -- Assumes nothing.
-use native.Mathlib.Omega.{arith}
 use borrow.Author.Needs.{needs}
+use native.Mathlib.Omega.{arith}
 use denote.Ref.{now}
+use Rattle.matrix.specs.Linear.{Matrix}
 use Rattle.build_matrix.specs.Steps.{placedAt}
-use Rattle.build_key.proofs.LastPass.{lowered-left, order-left, order-size, rows-fit, both-keyed}
+use Rattle.build_key.proofs.BothPasses.{diagonal-one, diagonal-none, key-left}
 use Rattle.build_key.proofs.arrange.arrange.Statement.{statement}
 use Rattle.build_key.proofs.arrange.arrange.Tie as tie
 
 -- The places that the answers look back to, each from a later one.
-abbrev clear-below-from-clear-above-arg3 : tie.After-clear-above-arg3 → tie.After-clear-below
-clear-below-from-clear-above-arg3 c = c .before .before .before .before .before .before .before .before .before
+abbrev start-from-first-pass : tie.After-first-pass → tie.Start
+start-from-first-pass c = c .before .before .before .before .before .before .before
 
-abbrev start-from-clear-below : tie.After-clear-below → tie.Start
-start-from-clear-below c = c .before .before .before .before .before .before .before
+abbrev first-pass-from-raise-arg2 : tie.After-raise-arg2 → tie.After-first-pass
+first-pass-from-raise-arg2 c = c .before .before .before .before .before .before .before .before
 
-abbrev clear-above-from-slice-known8 : tie.After-slice-known8 → tie.After-clear-above
-clear-above-from-slice-known8 c = c .before .before .before .before
+-- the secret matrix by places
+abbrev secret : tie.Start → Matrix
+secret s = placedAt (s .args .half) (s .args .hw) (s .args .w) (now (s .args .ones)) (now (s .args .twos))
 
-clear-below-requires : tie.Need-clear-below-requires
-clear-below-requires c κs = search needs
+first-pass-requires : tie.Need-first-pass-requires
+first-pass-requires c κs = c .before .before .before .before .before .before .pre
 
-clear-above-requires : tie.Need-clear-above-requires
-clear-above-requires c κs =
-    let after-clear-below = clear-below-from-clear-above-arg3 c in
-    let s = start-from-clear-below after-clear-below in
-    let a = s .args in
-    let H = placedAt (a .half) (a .hw) (a .w) (now (a .ones)) (now (a .twos)) in
-    let e = after-clear-below .clear-below .ensures in record {
-      grid = e .1 .1;
-      small = omega (arith, e .1 .1 .size, s .pre .grid .size, s .pre .small);
-      half-fits = s .pre .half-fits;
-      words = s .pre .words;
-      places-fit = omega (arith, order-size (a .rows) H (s .pre .is-order) (s .pre .rank-full) (e .0), s .pre .places-fit);
-      half-small = s .pre .half-small;
-      is-order = order-left (a .rows) H (s .pre .is-order) (s .pre .rank-full) (e .0);
-      enough = rows-fit (a .rows) H (s .pre .is-order) (s .pre .rank-full) (e .0);
-      lowered = lowered-left (a .rows) _ _ (e .1 .0);
+raise-requires : tie.Need-raise-requires
+raise-requires c κs =
+    let after-first-pass = first-pass-from-raise-arg2 c in
+    let s = start-from-first-pass after-first-pass in
+    let e = after-first-pass .first-pass .ensures .1 in
+    let g = e .1 in
+    let f = e .0 in record {
+      grid = g;
+      small = omega (arith, g .size, s .pre .grid .size, s .pre .small);
+      narrow = s .pre .narrow;
+      room = s .pre .room;
+      columns = omega (arith, f .fits, s .pre .places-fit, s .pre .half-fits, s .pre .words);
+      one = diagonal-one f;
+      none = diagonal-none f;
     }
 
 same-length : tie.Need-same-length
@@ -50,21 +50,20 @@ same-length-3 c = search needs
 
 returns : tie.Need-returns
 returns c =
-    let after-clear-above = clear-above-from-slice-known8 c in
-    let after-clear-below = clear-below-from-clear-above-arg3 (after-clear-above .before) in
-    let s = start-from-clear-below after-clear-below in
+    let after-raise = c .before .before .before .before in
+    let after-first-pass = first-pass-from-raise-arg2 (after-raise .before) in
+    let s = start-from-first-pass after-first-pass in
     let a = s .args in
-    let H = placedAt (a .half) (a .hw) (a .w) (now (a .ones)) (now (a .twos)) in
-    let e = after-clear-below .clear-below .ensures in
-    let f = after-clear-above .clear-above .ensures in
-    (e .0, (both-keyed (a .rows) H (s .pre .is-order) (s .pre .rank-full) (e .0) _ _ (e .1 .0) (f .0), f .1))
+    let e = after-first-pass .first-pass .ensures in
+    let g = after-raise .raise .ensures in
+    (e .0, (key-left (a .r) (secret s) (now (a .order)) (s .pre .is-order) (s .pre .rank-full) (e .0) (e .1 .0) (g .1), g .0))
 
 pub arrange-spec : {M : Type 1} → statement M
 arrange-spec =
     tie.close
     (tie.spec
-    clear-below-requires
-    clear-above-requires
+    first-pass-requires
+    raise-requires
     same-length
     same-length-2
     same-length-3

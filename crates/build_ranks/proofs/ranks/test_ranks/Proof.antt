@@ -45,13 +45,15 @@ sub-ru c =
 rank-of-requires : tie.Need-rank-of-requires
 rank-of-requires c κs =
     let s = start-from-rank-of-arg2 c in
-    let p = products (s .args .z) (bounds (s .args .z) (s .pre .sizes)) in
-    let g = s .pre .hu-grid in record {
-      grid = g;
-      small = omega (arith, g .size, p .u);
+    let b = bounds (s .args .z) (s .pre .sizes) in
+    let p = products (s .args .z) b in record {
+      grid = s .pre .hu-grid;
+      small = omega (arith, p .u-room, p .work);
+      narrow = omega (arith, b .high);
+      some = omega (arith, b .low);
       columns = omega arith;
-      work-ones = omega (arith, g .size, p .u-room, s .pre .work-ones);
-      work-twos = omega (arith, g .size, p .u-room, s .pre .work-twos);
+      work-ones = omega (arith, p .u-room, s .pre .work-ones);
+      work-twos = omega (arith, p .u-room, s .pre .work-twos);
     }
 
 same-length : tie.Need-same-length
@@ -72,15 +74,15 @@ sub-rv c =
 rank-of-requires-2 : tie.Need-rank-of-requires-2
 rank-of-requires-2 c κs =
     let s = start-from-else1 (c .before .before) in
-    let p = products (s .args .z) (bounds (s .args .z) (s .pre .sizes)) in
-    let u = s .pre .hu-grid in
-    let v = s .pre .hv-grid in
-    let l = s .pre in record {
+    let b = bounds (s .args .z) (s .pre .sizes) in
+    let p = products (s .args .z) b in record {
       grid = search needs;
-      small = omega (arith, u .size, v .size, p .u, p .v);
+      small = omega (arith, p .v-room, p .work);
+      narrow = omega (arith, b .high);
+      some = omega (arith, b .low);
       columns = omega arith;
-      work-ones = omega (arith, u .size, v .size, p .u-room, p .v-room, l .work-ones);
-      work-twos = omega (arith, u .size, v .size, p .u-room, p .v-room, l .work-twos);
+      work-ones = omega (arith, p .v-room, s .pre .work-ones);
+      work-twos = omega (arith, p .v-room, s .pre .work-twos);
     }
 
 same-length-3 : tie.Need-same-length-3

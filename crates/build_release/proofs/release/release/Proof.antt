@@ -7,7 +7,7 @@ use Rattle.scheme.specs.Secret.{Secret}
 use Rattle.calls.specs.Lent.{planes, secretOf}
 use Rattle.calls.proofs.Bounds.{Bounds, bounds}
 use Rattle.build_ranks.proofs.Lengths.{Products, products}
-use Rattle.build_release.proofs.Released.{ready-order, ready-size, ready-rank, final-order, final-good, final-ready, final-ones, final-twos}
+use Rattle.build_release.proofs.Released.{ready-order, ready-size, ready-rank, final-order, final-ones, final-twos}
 use borrow.Author.Needs.{needs}
 use Rattle.build_release.proofs.release.release.Statement.{statement}
 use Rattle.build_release.proofs.release.release.Tie as tie
@@ -32,47 +32,17 @@ start-from-fill-matrix c = start-from-shape-of (c .before .before .before .befor
 abbrev start-from-copy-order-arg : tie.After-copy-order-arg → tie.Start
 start-from-copy-order-arg c = start-from-fill-matrix (fill-matrix-from-copy-order-arg c)
 
-abbrev copy-order-from-struct-known2 : tie.After-struct-known2 → tie.After-copy-order
-copy-order-from-struct-known2 c = c .before .before .before .before .before
-
 abbrev fill-matrix-from-copy-order : tie.After-copy-order → tie.After-fill-matrix
 fill-matrix-from-copy-order c = c .before .before .before .before .before .before
 
 abbrev shape-of-from-copy-order : tie.After-copy-order → tie.After-shape-of
 shape-of-from-copy-order c = fill-matrix-from-copy-order c .before .before .before .before
 
-abbrev shape-of-from-struct-known2 : tie.After-struct-known2 → tie.After-shape-of
-shape-of-from-struct-known2 c = shape-of-from-copy-order (copy-order-from-struct-known2 c)
+abbrev copy-order-from-struct-known2 : tie.After-struct-known2 → tie.After-copy-order
+copy-order-from-struct-known2 c = c .before .before .before .before .before
 
-abbrev copy-order-from-arrange-arg3 : tie.After-arrange-arg3 → tie.After-copy-order
-copy-order-from-arrange-arg3 c = c .before .before .before .before .before .before
-
-abbrev arrange-from-struct-known3 : tie.After-struct-known3 → tie.After-arrange
-arrange-from-struct-known3 c = c .before .before .before .before .before .before .before .before .before
-
-abbrev copy-order-from-arrange : tie.After-arrange → tie.After-copy-order
-copy-order-from-arrange c = c .before .before .before .before .before .before .before
-
-abbrev shape-of-from-arrange : tie.After-arrange → tie.After-shape-of
-shape-of-from-arrange c = shape-of-from-copy-order (copy-order-from-arrange c)
-
-abbrev shape-of-from-struct-known3 : tie.After-struct-known3 → tie.After-shape-of
-shape-of-from-struct-known3 c = shape-of-from-arrange (arrange-from-struct-known3 c)
-
-abbrev work-ones2-from-write-key : tie.After-write-key → tie.After-work-ones2
-work-ones2-from-write-key c = c .before .before .before .before .before .before .before .before .before .before .before .before
-
-abbrev work-ones-from-copy-order : tie.After-copy-order → tie.After-work-ones
-work-ones-from-copy-order c = c .before .before .before .before .before
-
-abbrev work-ones-from-arrange : tie.After-arrange → tie.After-work-ones
-work-ones-from-arrange c = work-ones-from-copy-order (copy-order-from-arrange c)
-
-abbrev work-twos2-from-write-key : tie.After-write-key → tie.After-work-twos2
-work-twos2-from-write-key c = c .before .before .before .before .before .before .before .before .before .before
-
-abbrev work-twos-from-arrange : tie.After-arrange → tie.After-work-twos
-work-twos-from-arrange c = copy-order-from-arrange c .before .before .before
+abbrev copy-order-from-make-key-arg5 : tie.After-make-key-arg5 → tie.After-copy-order
+copy-order-from-make-key-arg5 c = copy-order-from-struct-known2 (c .before .before .before)
 
 -- the sizes are in their ranges
 within : (s : tie.Start) → Bounds (s .args .z)
@@ -106,14 +76,14 @@ copy-order-requires c κs =
     let s = start-from-copy-order-arg c in
     s .pre .is-order .size ∙ sym (s .pre .p-size)
 
-add-arrange : tie.Need-add-arrange
-add-arrange c =
-    let after-shape-of = shape-of-from-struct-known2 c in
+add-make-key : tie.Need-add-make-key
+add-make-key c =
+    let after-shape-of = shape-of-from-copy-order (copy-order-from-struct-known2 c) in
     rw (after-shape-of .shape-of .ensures) (omega (arith, within (start-from-shape-of after-shape-of) .high))
 
-arrange-requires : tie.Need-arrange-requires
-arrange-requires c κs =
-    let after-copy-order = copy-order-from-arrange-arg3 c in
+make-key-requires : tie.Need-make-key-requires
+make-key-requires c κs =
+    let after-copy-order = copy-order-from-make-key-arg5 c in
     let after-fill-matrix = fill-matrix-from-copy-order after-copy-order in
     let after-shape-of = after-fill-matrix .before .before .before .before in
     let s = start-from-shape-of after-shape-of in
@@ -128,47 +98,15 @@ arrange-requires c κs =
     rw (after-shape-of .shape-of .ensures) (record {
       grid = f .rows;
       small = omega (arith, f .rows .size, few s .work);
+      narrow = omega (arith, b .high);
+      few = omega (arith, b .high);
       half-fits = omega arith;
       words = omega arith;
       places-fit = omega (arith, n);
-      half-small = omega (arith, b .high);
       is-order = ready-order z (secret s) o f e (r .size) r m;
       rank-full = ready-rank z (secret s) o f e (r .size) r m;
-    })
-
-add-write-key : tie.Need-add-write-key
-add-write-key c =
-    let after-shape-of = shape-of-from-struct-known3 c in
-    rw (after-shape-of .shape-of .ensures) (omega (arith, within (start-from-shape-of after-shape-of) .high))
-
-write-key-requires : tie.Need-write-key-requires
-write-key-requires c κs =
-    let after-slice-known11 = c .before .before .before .before .before .before in
-    let after-arrange = after-slice-known11 .before .before .before .before .before .before in
-    let after-p = after-arrange .before .before .before .before .before .before in
-    let after-copy-order = after-p .before in
-    let after-fill-matrix = after-copy-order .before .before .before .before .before .before in
-    let after-shape-of = after-fill-matrix .before .before .before .before in
-    let s = start-from-shape-of after-shape-of in
-    let z = s .args .z in
-    let o = now (s .args .start) in
-    let r = s .pre .is-order in
-    let m = s .pre .rank-full in
-    let b = within s in
-    let f = after-fill-matrix .fill-matrix .ensures in
-    let e = after-copy-order .copy-order .ensures in
-    let g = rw (after-shape-of .shape-of .ensures) at (after-arrange .arrange .ensures) in
-    let n = final-good z (secret s) o f e (r .size) r m (g .0) .size in
-    rw (after-shape-of .shape-of .ensures) (record {
-      grid = g .1 .1;
-      small = omega (arith, g .1 .1 .size, few s .work);
-      half-fits = omega arith;
-      words = omega arith;
-      places-fit = omega (arith, n);
-      half-small = omega (arith, b .high);
-      is-order = final-ready z (secret s) o f e (r .size) r m (g .0);
       columns = omega (arith, n, b .ku, b .kv);
-      narrow = omega (arith, b .high);
+      key-words = omega (arith, b .ku, b .kv, b .high);
       ones-size = s .pre .key-ones-size;
       twos-size = s .pre .key-twos-size;
     })
@@ -183,26 +121,17 @@ same-length-3 : tie.Need-same-length-3
 same-length-3 c = search needs
 
 same-length-4 : tie.Need-same-length-4
-same-length-4 c =
-    let after-work-ones2 = work-ones2-from-write-key (c .before .before .before .before) in
-    let after-work-ones = work-ones-from-arrange (after-work-ones2 .before) in
-    omega (arith, after-work-ones2 .work-ones2 .given, after-work-ones .work-ones .given)
+same-length-4 c = search needs
 
 same-length-5 : tie.Need-same-length-5
-same-length-5 c =
-    let after-work-twos2 = work-twos2-from-write-key (c .before .before .before .before) in
-    let after-work-twos = work-twos-from-arrange (after-work-twos2 .before .before .before) in
-    omega (arith, after-work-twos2 .work-twos2 .given, after-work-twos .work-twos .given)
+same-length-5 c = search needs
 
 returns : tie.Need-returns
 returns c =
-    let after-write-key = c .before .before .before .before in
-    let after-write-key-arg = after-write-key .before .before .before .before .before .before in
-    let after-work-ones2 = after-write-key-arg .before .before .before .before .before .before in
-    let after-arrange = after-work-ones2 .before in
-    let after-p = after-arrange .before .before .before .before .before .before in
-    let after-copy-order = after-p .before in
-    let after-fill-matrix = after-copy-order .before .before .before .before .before .before in
+    let earlier = c .before .before .before .before .before .before in
+    let after-make-key = earlier .before .before .before .before in
+    let after-copy-order = copy-order-from-make-key-arg5 (after-make-key .before) in
+    let after-fill-matrix = fill-matrix-from-copy-order after-copy-order in
     let after-shape-of = after-fill-matrix .before .before .before .before in
     let s = start-from-shape-of after-shape-of in
     let z = s .args .z in
@@ -211,11 +140,10 @@ returns c =
     let m = s .pre .rank-full in
     let f = after-fill-matrix .fill-matrix .ensures in
     let e = after-copy-order .copy-order .ensures in
-    let g = rw (after-shape-of .shape-of .ensures) at (after-arrange .arrange .ensures) in
-    let w = rw (after-shape-of .shape-of .ensures) at (after-write-key .write-key .ensures) in (
+    let g = rw (after-shape-of .shape-of .ensures) at (after-make-key .make-key .ensures) in (
       final-order z (secret s) o f e (r .size) r m (g .0),
-      w .0 ∙ final-ones z (secret s) o f e (r .size) r m (g .0) _ _ (g .1 .0) (within s),
-      w .1 ∙ final-twos z (secret s) o f e (r .size) r m (g .0) _ _ (g .1 .0) (within s),
+      g .1 .0 ∙ final-ones z (secret s) o f e (r .size) r m (g .0),
+      g .1 .1 ∙ final-twos z (secret s) o f e (r .size) r m (g .0),
     )
 
 pub release-spec : {M : Type 1} → statement M
@@ -228,10 +156,8 @@ release-spec =
     add-kw
     fill-matrix-requires
     copy-order-requires
-    add-arrange
-    arrange-requires
-    add-write-key
-    write-key-requires
+    add-make-key
+    make-key-requires
     same-length
     same-length-2
     same-length-3

@@ -213,7 +213,7 @@ mul-pair-differs c =
     let s = after-more-rows .before in
     let h = within s .high in
     let r = few-rows after-more-rows in
-    omega (arith, prod (after-more-rows .more-rows .result + 5) (halfWords (s .args .z)) 8197 128 (omega (arith, r)) (omega (arith, h)))
+    omega (arith, prod (after-more-rows .more-rows .result + 248) (halfWords (s .args .z)) 8440 128 (omega (arith, r)) (omega (arith, h)))
 
 pair-differs-requires-7 : tie.Need-pair-differs-requires-7
 pair-differs-requires-7 c κs = search needs
@@ -222,7 +222,7 @@ returns-8 : tie.Need-returns-8
 returns-8 c =
     let after-more-rows = more-rows-from-else7 (c .before) in
     let a = after-more-rows .before .args in
-    c .pair-differs7 .ensures ∙ ap (λ (m : ℕ). pairDiffers ((m + 5) * halfWords (a .z)) (a .w1) (a .w2)) (after-more-rows .more-rows .ensures)
+    c .pair-differs7 .ensures ∙ ap (λ (m : ℕ). pairDiffers ((m + 248) * halfWords (a .z)) (a .w1) (a .w2)) (after-more-rows .more-rows .ensures)
     ∙ past-s (c .before)
 
 pub choices-differ-spec : {M : Type 1} → statement M

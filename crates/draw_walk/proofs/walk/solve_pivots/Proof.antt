@@ -2,22 +2,21 @@
 -- Assumes nothing.
 use Prim.Native.Nat.{_-_, _≤_}
 use native.Mathlib.Omega.{arith}
-use denote.Ref.{now}
-use lib.ListN.{take}
 use Rattle.trits.specs.Rows.{matrixAt}
+use Rattle.matrix.specs.Linear.{range}
 use Rattle.draw_walk.proofs.Solving.{Solving, solving-none, solving-turn, solving-done}
 use Rattle.draw_walk.proofs.walk.solve_pivots.Statement.{statement}
 use Rattle.draw_walk.proofs.walk.solve_pivots.Tie as tie
 
 abbrev Inv-loop : tie.InvT-loop
-Inv-loop ones₀ twos₀ rows w r order m e i₀ ones twos i = (i ≤ r) × Solving rows w e (matrixAt w ones₀ twos₀) (take m order) r (r - i) ones twos
+Inv-loop ones₀ twos₀ rows w r m e i₀ ones twos i = (i ≤ r) × Solving rows w e (matrixAt w ones₀ twos₀) (range m) r (r - i) ones twos
 
 abbrev μ-loop : tie.MeasureT-loop
-μ-loop ones₀ twos₀ rows w r order m e i₀ ones twos i = r - i
+μ-loop ones₀ twos₀ rows w r m e i₀ ones twos i = r - i
 
 -- The places that the answers look back to, each from a later one.
 abbrev start-from-at-loop : tie.At-loop Inv-loop μ-loop → tie.Start Inv-loop μ-loop
-start-from-at-loop c = c .before .before .before .before
+start-from-at-loop c = c .before .before .before
 
 abbrev at-loop-from-pivot-place : tie.After-pivot-place Inv-loop μ-loop → tie.At-loop Inv-loop μ-loop
 at-loop-from-pivot-place c = c .before .before .before .before
@@ -27,9 +26,9 @@ start-from-after-loop c = start-from-at-loop (c .before)
 
 loop-holds : tie.Need-loop-holds Inv-loop μ-loop
 loop-holds c =
-    let s = c .before .before .before in
+    let s = c .before .before in
     let a = s .args in
-    (omega arith, solving-none (a .e) (take (a .m) (now (a .order))) (omega arith) (s .pre .grid))
+    (omega arith, solving-none (a .e) (range (a .m)) (omega arith) (s .pre .grid))
 
 add-i : tie.Need-add-i Inv-loop μ-loop
 add-i c = omega arith
@@ -43,10 +42,8 @@ pivot-place-requires c κs =
     let s = start-from-at-loop at-loop in
     let g = at-loop .loop .inv .1 .grid .rows in record {
       grid = g;
-      is-order = s .pre .is-order;
       small = omega (arith, g .size, s .pre .grid .size);
-      places-fit = s .pre .places-fit;
-      front = s .pre .front;
+      columns = s .pre .columns;
       c-in = omega arith;
       begins = omega arith;
     }

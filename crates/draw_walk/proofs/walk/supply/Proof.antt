@@ -1,33 +1,33 @@
--- Each turn walks one place more (`supply-turn`); a place passed over finds a trit (`supply-room`).
+-- Each turn walks one position more (`supply-turn`); a position passed over finds a trit (`supply-room`).
 -- Assumes nothing.
-use Rattle.draw_walk.proofs.Supplied.{Walking, walking-none, passed-nil, passed-count, supply-room, supply-turn}
-use Rattle.draw_reduce.specs.Steps.{passed}
-use Rattle.matrix.specs.Linear.{fill}
-use Rattle.matrix.proofs.Orders.{place-below}
-use Rattle.trits.specs.Rows.{matrixAt}
-use Rattle.trits.specs.Planes.{tritAt}
-use denote.Ref.{now}
-use lib.ListN.{length, take}
-use native.Mathlib.Omega.{arith}
-use mathlib.Core.Path.{_≡_}
 use Prim.Native.Nat.{_-_, _*_, _≤_}
+use mathlib.Core.Path.{_≡_}
+use native.Mathlib.Omega.{arith}
+use denote.Ref.{now}
+use lib.ListN.{length}
+use Rattle.trits.specs.Planes.{tritAt}
+use Rattle.trits.specs.Rows.{matrixAt}
+use Rattle.matrix.specs.Linear.{Vector, Matrix, range}
+use Rattle.matrix.proofs.Orders.{place-below}
+use Rattle.draw_walk.specs.Walks.{firstsOf}
+use Rattle.draw_walk.proofs.Supplied.{Walking, walking-none, passed-count, supply-room, supply-turn}
 use Rattle.draw_walk.proofs.walk.supply.Statement.{statement}
 use Rattle.draw_walk.proofs.walk.supply.Tie as tie
 
 abbrev Inv-loop : tie.InvT-loop
-Inv-loop ones₀ twos₀ rows w r order m vo vt e c₀ i₀ ones twos c i = (i ≤ m)
-    × Walking rows w r e (matrixAt w ones₀ twos₀) (fill (passed r (matrixAt w ones₀ twos₀) 0 (take i order)) (tritAt vo vt) ((matrixAt w ones₀ twos₀) e))
-    (take i order) c ones twos
+Inv-loop ones₀ twos₀ rows w r order m vo vt x t c₀ i₀ ones twos c i = (i ≤ m)
+    × Walking rows w r t (matrixAt w ones₀ twos₀)
+    (firstsOf r (matrixAt w ones₀ twos₀) order i (tritAt vo vt) ((matrixAt w ones₀ twos₀) x) ((matrixAt w ones₀ twos₀) t)) (range i) c ones twos
 
 abbrev μ-loop : tie.MeasureT-loop
-μ-loop ones₀ twos₀ rows w r order m vo vt e c₀ i₀ ones twos c i = m - i
+μ-loop ones₀ twos₀ rows w r order m vo vt x t c₀ i₀ ones twos c i = m - i
 
 -- The places that the answers look back to, each from a later one.
 abbrev start-from-shared-slice-known3 : tie.After-shared-slice-known3 Inv-loop μ-loop → tie.Start Inv-loop μ-loop
 start-from-shared-slice-known3 c = c .before .before .before .before .before
 
 abbrev start-from-at-loop : tie.At-loop Inv-loop μ-loop → tie.Start Inv-loop μ-loop
-start-from-at-loop c = c .before .before .before .before .before .before
+start-from-at-loop c = start-from-shared-slice-known3 (c .before)
 
 abbrev at-loop-from-supply-place : tie.After-supply-place Inv-loop μ-loop → tie.At-loop Inv-loop μ-loop
 at-loop-from-supply-place c = c .before .before .before .before .before
@@ -35,14 +35,18 @@ at-loop-from-supply-place c = c .before .before .before .before .before
 abbrev start-from-after-loop : tie.After-loop Inv-loop μ-loop → tie.Start Inv-loop μ-loop
 start-from-after-loop c = start-from-at-loop (c .before)
 
+-- the rows at the entry, and the supplied trits
+abbrev held : tie.Start Inv-loop μ-loop → Matrix
+held s = matrixAt (s .args .w) (now (s .args .ones)) (now (s .args .twos))
+
+abbrev trits-v : tie.Start Inv-loop μ-loop → Vector
+trits-v s = tritAt (now (s .args .vo)) (now (s .args .vt))
+
 loop-holds : tie.Need-loop-holds Inv-loop μ-loop
 loop-holds c =
     let s = start-from-shared-slice-known3 c in
-    let a = s .args in (
-      omega arith,
-      walking-none (a .e) (now (a .order)) (λ B. passed (a .r) B 0 (take 0 (now (a .order)))) (tritAt (now (a .vo)) (now (a .vt))) (s .pre .grid)
-          (passed-nil (a .r) (matrixAt (a .w) (now (a .ones)) (now (a .twos))) (now (a .order))),
-    )
+    let a = s .args in
+    (omega arith, walking-none (a .t) (now (a .order)) (trits-v s) (held s (a .x)) (s .pre .grid))
 
 mul-q : tie.Need-mul-q Inv-loop μ-loop
 mul-q c = omega arith
@@ -51,20 +55,14 @@ shared-slice-read-q : tie.Need-shared-slice-read-q Inv-loop μ-loop
 shared-slice-read-q c = omega arith
 
 cast-q : tie.Need-cast-q Inv-loop μ-loop
-cast-q c =
-    omega (arith, c .shared-slice-known4 .given (c .before .before .loop .i))
+cast-q c = omega (arith, c .shared-slice-known4 .given (c .before .before .loop .i))
 
 sub-supply-place : tie.Need-sub-supply-place Inv-loop μ-loop
 sub-supply-place c =
     let at-loop = c .before .before .before .before in
     let s = start-from-at-loop at-loop in
-    let a = s .args in
     let l = at-loop .loop in
-    omega (
-      arith,
-      passed-count (now (a .order)) (matrixAt (a .w) (now (a .ones)) (now (a .twos))) {i = l .i} (s .pre .is-order) (omega arith) (s .pre .e-past)
-          (l .inv .1),
-    )
+    omega (arith, passed-count (held s) (l .i) (s .pre .t-past) (l .inv .1))
 
 supply-place-requires : tie.Need-supply-place-requires Inv-loop μ-loop
 supply-place-requires c κs =
@@ -73,17 +71,16 @@ supply-place-requires c κs =
     let a = s .args in
     let l = at-loop .loop in
     let q = place-below (now (a .order)) (length (now (a .order))) (l .i) (s .pre .is-order) (omega arith) in
-    let p = passed-count (now (a .order)) (matrixAt (a .w) (now (a .ones)) (now (a .twos))) {i = l .i} (s .pre .is-order) (omega arith) (s .pre .e-past)
-    (l .inv .1) in
-    record {
+    let p = passed-count (held s) (l .i) (s .pre .t-past) (l .inv .1) in record {
       grid = l .inv .1 .grid .rows;
       source = s .pre .source;
       small = omega (arith, l .inv .1 .grid .rows .size, s .pre .grid .size);
+      position = omega arith;
       place = omega (arith, q);
       r-in = omega arith;
-      e-in = s .pre .e-in;
-      enough = supply-room (now (a .order)) (matrixAt (a .w) (now (a .ones)) (now (a .twos))) (s .pre .is-order) (omega arith) (s .pre .e-past) (l .inv .1)
-          (a .m) (64 * length (now (a .vo))) (omega arith) (s .pre .enough) (omega (arith, p));
+      x-in = s .pre .x-in;
+      t-in = s .pre .t-in;
+      enough = supply-room (held s) (l .i) (s .pre .t-past) (l .inv .1) (a .m) (64 * length (now (a .vo))) (omega arith) (s .pre .enough) (omega (arith, p));
     }
 
 add-i : tie.Need-add-i Inv-loop μ-loop
@@ -99,22 +96,17 @@ loop-again c =
     let s = start-from-at-loop at-loop in
     let a = s .args in
     let l = at-loop .loop in
-    let e = after-supply-place .supply-place .ensures in (
-      omega arith,
-      supply-turn (now (a .order)) (matrixAt (a .w) (now (a .ones)) (now (a .twos))) (s .pre .is-order) (omega arith) (s .pre .e-past)
-          (tritAt (now (a .vo)) (now (a .vt))) (l .inv .1) (e .0) (e .1),
-    )
+    let e = after-supply-place .supply-place .ensures in
+    (omega arith, supply-turn (held s) (l .i) (s .pre .t-past) (now (a .order)) (trits-v s) (a .x) (s .pre .apart) (l .inv .1) (e .0) (e .1))
 
 same-length : tie.Need-same-length Inv-loop μ-loop
-same-length c =
-    let s = start-from-after-loop c in
-    omega (arith, c .before .loop .inv .1 .grid .rows .size, s .pre .grid .size)
+same-length c = omega (arith, c .before .loop .inv .1 .grid .rows .size, start-from-after-loop c .pre .grid .size)
 
 same-length-2 : tie.Need-same-length-2 Inv-loop μ-loop
 same-length-2 c =
-    let s = start-from-after-loop c in
+    let h = start-from-after-loop c .pre .grid in
     let g = c .before .loop .inv .1 .grid .rows in
-    omega (arith, g .size, g .row .same, s .pre .grid .size, s .pre .grid .row .same)
+    omega (arith, g .size, g .row .same, h .size, h .row .same)
 
 returns : tie.Need-returns Inv-loop μ-loop
 returns c =

@@ -21,10 +21,10 @@ within : (s : tie.Start) → Bounds (s .args .z)
 within s = bounds (s .args .z) (s .pre .sizes)
 
 -- the working space has few words
-few : (s : tie.Start) → (s .args .l + 5) * halfWords (s .args .z) ≤ 8197 * 128
+few : (s : tie.Start) → (s .args .l + 5) * halfWords (s .args .z) ≤ 8440 * 128
 few s =
     let h = within s .high in
-    prod (s .args .l + 5) (halfWords (s .args .z)) 8197 128 (omega (arith, s .pre .small)) (omega (arith, h))
+    prod (s .args .l + 5) (halfWords (s .args .z)) 8440 128 (omega (arith, s .pre .small)) (omega (arith, h))
 
 shape-of-requires : tie.Need-shape-of-requires
 shape-of-requires c κs = search needs

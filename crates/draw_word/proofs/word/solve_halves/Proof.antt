@@ -48,10 +48,10 @@ within : (s : tie.Start) → Bounds (s .args .z)
 within s = bounds (s .args .z) (s .pre .sizes)
 
 -- the working space has few words
-few : (s : tie.Start) → (s .args .l + 5) * halfWords (s .args .z) ≤ 8197 * 128
+few : (s : tie.Start) → (s .args .l + 5) * halfWords (s .args .z) ≤ 8440 * 128
 few s =
     let h = within s .high in
-    prod (s .args .l + 5) (halfWords (s .args .z)) 8197 128 (omega (arith, s .pre .small)) (omega (arith, h))
+    prod (s .args .l + 5) (halfWords (s .args .z)) 8440 128 (omega (arith, s .pre .small)) (omega (arith, h))
 
 -- what each half's test of its rank told
 v-told : (c : tie.After-draw-v)
@@ -86,6 +86,9 @@ shape-of-requires c κs = search needs
 add-rows : tie.Need-add-rows
 add-rows c = omega (arith, start-from-shape-of c .pre .small)
 
+add-t : tie.Need-add-t
+add-t c = omega (arith, start-from-shape-of c .pre .small)
+
 add-v : tie.Need-add-v
 add-v c = omega (arith, start-from-shape-of c .pre .small)
 
@@ -113,9 +116,13 @@ draw-v-requires c κs =
       v-room = omega (arith, m .v-is-order .size, m .v-size, b .kv);
       x-past = omega (arith, m .v-few);
       x-in = omega arith;
+      t-past = omega (arith, m .v-few);
+      t-in = omega arith;
       e-past = omega (arith, m .v-few);
       e-in = omega arith;
       apart = λ w. omega arith;
+      t-apart = λ w. omega arith;
+      rows-apart = λ w. omega arith;
       x-ends = ends-own (m .v-is-order) (m .v-ends);
       e-zero = m .ev-zero;
     })
@@ -162,12 +169,17 @@ draw-u-requires c κs =
       c-room = omega (arith, m .u-is-order .size, k .cSize);
       x-past = m .u-few;
       x-in = omega arith;
+      t-past = omega (arith, m .u-few);
+      t-in = omega arith;
       e-past = omega (arith, m .u-few);
       e-in = omega arith;
       apart = λ w. omega arith;
+      t-apart = λ w. omega arith;
+      rows-apart = λ w. omega arith;
       ev-past = omega (arith, m .u-few);
       ev-in = omega arith;
       ev-apart = λ w. omega arith;
+      ev-t-apart = λ w. omega arith;
       x-ends = ends-own (m .u-is-order) (ends-to (kept-x (a .z) (a .l) (secret s) (chosen s) (m .v-is-order .size) hv (m .v-few)) (m .u-ends));
       e-zero = kept-u (a .z) (a .l) (secret s) (chosen s) (m .v-is-order .size) hv (m .v-few) ∙ m .eu-zero;
     })
@@ -218,6 +230,7 @@ solve-halves-spec =
     (tie.spec
     shape-of-requires
     add-rows
+    add-t
     add-v
     add-u
     add-draw-v

@@ -1,12 +1,13 @@
 -- Each turn clears one row more (`rows-turn`); none of them is the pivot's.
 -- Assumes nothing.
 use Prim.Native.Nat.{_-_, _≤_}
+use mathlib.Core.Path.{_∙_}
 use native.Mathlib.Omega.{arith}
 use denote.Ref.{now}
 use Rattle.trits.specs.Rows.{matrixAt}
 use Rattle.grid.specs.Steps.{Grid, takenOut}
 use Rattle.grid.proofs.Cells.{grid-of}
-use Rattle.elimination.proofs.Clears.{apart-from, part-beside, taken-none, rows-turn, rows-done}
+use Rattle.elimination.proofs.Clears.{apart-from, part-beside, taken-none, pivot-kept, rows-turn, rows-done}
 use Rattle.elimination.proofs.step.clear_rows.Statement.{statement}
 use Rattle.elimination.proofs.step.clear_rows.Tie as tie
 use Rattle.elimination.proofs.step.clear_rows.Reads as reads
@@ -14,11 +15,11 @@ use Rattle.elimination.proofs.step.clear_rows.Lts as lts
 use Rattle.elimination.proofs.step.clear_row.Reads as clear-row-reads
 
 abbrev Inv-loop : tie.InvT-loop
-Inv-loop ones₀ twos₀ rows w c at from to i₀ ones twos i =
+Inv-loop ones₀ twos₀ rows w f v c at from to i₀ ones twos i =
     ((from ≤ i) × (i ≤ to)) × Grid ones twos rows w (takenOut from i at c (matrixAt w ones₀ twos₀))
 
 abbrev μ-loop : tie.MeasureT-loop
-μ-loop ones₀ twos₀ rows w c at from to i₀ ones twos i = to - i
+μ-loop ones₀ twos₀ rows w f v c at from to i₀ ones twos i = to - i
 
 loop-holds : tie.Need-loop-holds Inv-loop μ-loop
 loop-holds c =
@@ -29,14 +30,19 @@ loop-holds c =
 clear-row-requires : tie.Need-clear-row-requires Inv-loop μ-loop
 clear-row-requires c κs =
     let s = c .before .before .before .before .before .before in
+    let a = s .args in
     let l = c .before .before .before .loop in
-    let g = l .inv .1 .rows in record {
+    let g = l .inv .1 .rows in
+    let kept = pivot-kept (a .at) (a .c) (matrixAt (a .w) (now (a .ones)) (now (a .twos))) (a .from) (l .inv .1)
+    (part-beside (s .pre .beside) (omega arith)) in record {
       grid = g;
       small = omega (arith, g .size, s .pre .grid .size);
+      width = s .pre .width;
       column = s .pre .column;
       pivot = s .pre .pivot;
       i-in = omega arith;
       apart = apart-from (s .pre .beside) (l .inv .0 .0) (omega arith);
+      outside = λ t o. kept t ∙ s .pre .outside t o;
     }
 
 add-i : tie.Need-add-i Inv-loop μ-loop

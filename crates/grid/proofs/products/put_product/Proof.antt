@@ -1,8 +1,10 @@
 -- Row t is made 0, row i is added to it, and it is multiplied (`made-grid`).
 -- Assumes nothing.
 use borrow.Author.Needs.{needs}
+use native.Mathlib.Omega.{arith}
 use denote.Ref.{now}
 use Rattle.trits.specs.Planes.{tritAt}
+use Rattle.grid.proofs.Cells.{whole-row}
 use Rattle.grid.proofs.RowProducts.{made-grid}
 use Rattle.grid.proofs.products.put_product.Statement.{statement}
 use Rattle.grid.proofs.products.put_product.Tie as tie
@@ -39,9 +41,11 @@ add-rows-requires c κs =
     let after-zero-row = zero-row-from-add-rows-arg2 c in
     let s = start-from-zero-row after-zero-row in record {
       grid = after-zero-row .zero-row .ensures .rows;
+      width = omega arith;
       i-in = s .pre .t-in;
       j-in = s .pre .i-in;
       apart = s .pre .apart;
+      outside = λ t o. whole-row (s .args .w) _ _ (s .args .i) t o;
     }
 
 mul-by-requires : tie.Need-mul-by-requires

@@ -1,9 +1,11 @@
 -- The product is made in row t, and row t is subtracted from row a (`product-joined-grid`).
 -- Assumes nothing.
 use borrow.Author.Needs.{needs}
+use native.Mathlib.Omega.{arith}
 use denote.Ref.{now}
 use Rattle.trits.specs.Planes.{tritAt}
 use Rattle.trits.specs.Trit.{subT}
+use Rattle.grid.proofs.Cells.{whole-row}
 use Rattle.grid.proofs.RowProducts.{product-joined-grid}
 use Rattle.grid.proofs.products.sub_product.Statement.{statement}
 use Rattle.grid.proofs.products.sub_product.Tie as tie
@@ -37,9 +39,11 @@ sub-rows-requires c κs =
     let after-put-product = put-product-from-sub-rows-arg2 c in
     let s = start-from-put-product after-put-product in record {
       grid = after-put-product .put-product .ensures .rows;
+      width = omega arith;
       i-in = s .pre .a-in;
       j-in = s .pre .t-in;
       apart = s .pre .a-apart;
+      outside = λ t o. whole-row (s .args .w) _ _ (s .args .t) t o;
     }
 
 same-length : tie.Need-same-length

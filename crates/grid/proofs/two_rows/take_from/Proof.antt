@@ -2,11 +2,12 @@
 -- Assumes nothing.
 use borrow.Author.Needs.{needs}
 use mathlib.Core.Path.{ap, _∙_}
+use native.Mathlib.Omega.{arith}
 use denote.Ref.{now}
 use Rattle.trits.specs.Trit.{addT}
 use Rattle.trits.specs.Rows.{matrixAt}
 use Rattle.grid.specs.Steps.{joinRow}
-use Rattle.grid.proofs.Cells.{grid-to}
+use Rattle.grid.proofs.Cells.{whole-row, grid-to}
 use Rattle.grid.proofs.Joins.{taken-from}
 use Rattle.grid.proofs.two_rows.take_from.Statement.{statement}
 use Rattle.grid.proofs.two_rows.take_from.Tie as tie
@@ -26,9 +27,11 @@ add-rows-requires c κs =
     let after-negate = negate-from-add-rows-arg2 c in
     let s = start-from-negate after-negate in record {
       grid = after-negate .negate .ensures .rows;
+      width = omega arith;
       i-in = s .pre .i-in;
       j-in = s .pre .j-in;
       apart = s .pre .apart;
+      outside = λ t o. whole-row (s .args .w) _ _ (s .args .j) t o;
     }
 
 same-length : tie.Need-same-length

@@ -7,7 +7,7 @@ use second::draw::{drawn_word, Choices};
 use second::held::MOST_KEY_NUMBER;
 use second::key::{build_key, places, Secret, Sizes};
 use second::packing::{bytes, SALT};
-use second::planes::{read, read_row, words};
+use second::planes::{planes, read, read_row, words};
 use Buffer::{Bytes, Order, Words};
 
 /// Values of a number that are far out of every range, some of them right in their low 32 bits.
@@ -244,6 +244,17 @@ impl SecretPlanes {
         }
     }
 
+    /// Columns of H_U and H_V that are 0 or earlier ones again, and b all 0 or any.
+    pub fn poor(rng: &mut Rng, shape: &Shape) -> SecretPlanes {
+        let half = shape.n / 2;
+        SecretPlanes {
+            hu: poor_planes(rng, half - shape.ku, half),
+            hv: poor_planes(rng, half - shape.kv, half),
+            b: if rng.one_in(2) { (vec![0; words(half)], vec![0; words(half)]) } else { rng.planes(1, half) },
+            c: rng.full_planes(1, half),
+        }
+    }
+
     pub fn secret(&self, shape: &Shape) -> Secret {
         let half = shape.n / 2;
         Secret {
@@ -257,6 +268,21 @@ impl SecretPlanes {
     fn buffers(&self) -> Vec<Buffer> {
         [&self.hu, &self.hv, &self.b, &self.c].iter().flat_map(|(ones, twos)| [Words(ones.clone()), Words(twos.clone())]).collect()
     }
+}
+
+/// Rows of m trits; of four columns one is an earlier one, taken 0, 1 or 2 times.
+fn poor_planes(rng: &mut Rng, rows: usize, m: usize) -> Pair {
+    let (ones, twos) = rng.mixed_planes(rows, m);
+    let mut trits = read(&ones, &twos, rows, m);
+    for q in 1..m {
+        if rng.one_in(4) {
+            let (from, times) = (rng.below(q), rng.below(3) as u8);
+            for row in &mut trits {
+                row[q] = times * row[from] % 3;
+            }
+        }
+    }
+    planes(&trits)
 }
 
 fn secret_roles(shape: &Shape) -> Vec<Role> {
@@ -305,9 +331,13 @@ pub fn build(rng: &mut Rng, shape: &Shape) -> Case {
 /// A build whose secret may lack rank.
 pub fn any_build(rng: &mut Rng, shape: &Shape) -> Case {
     let mut secret = SecretPlanes::random(rng, shape);
-    if rng.one_in(3) {
-        secret.hu = rng.planes(shape.n / 2 - shape.ku, shape.n / 2);
-        secret.hv = rng.planes(shape.n / 2 - shape.kv, shape.n / 2);
+    match rng.below(6) {
+        0 | 1 => {
+            secret.hu = rng.planes(shape.n / 2 - shape.ku, shape.n / 2);
+            secret.hv = rng.planes(shape.n / 2 - shape.kv, shape.n / 2);
+        }
+        2 => secret = SecretPlanes::poor(rng, shape),
+        _ => {}
     }
     let w = rng.between(1, shape.n);
     build_of(rng, shape, &secret, w)
@@ -369,9 +399,8 @@ pub fn word_of(case: &Case, shape: &Shape) -> Result<Vec<u8>, u64> {
     drawn_word(shape.gv, shape.gu, &secret, &places(b[8].order()), &row(9, shape.n - shape.ku - shape.kv), &choices)
 }
 
-/// A draw, with its weight as it comes where that may be; the order p is that of a built key or any other.
-pub fn any_draw(rng: &mut Rng, shape: &Shape) -> Case {
-    let secret = SecretPlanes::random(rng, shape);
+/// A draw of this secret, with its weight as it comes where that may be; the order p is that of a built key or any other.
+pub fn weighed_draw(rng: &mut Rng, shape: &Shape, secret: &SecretPlanes) -> Case {
     let start = rng.order(shape.n);
     let mut p = start.clone();
     if rng.one_in(4) {
@@ -380,7 +409,7 @@ pub fn any_draw(rng: &mut Rng, shape: &Shape) -> Case {
         }
     }
     let y = rng.planes(1, shape.n - shape.ku - shape.kv);
-    let mut case = draw_of(rng, shape, &secret, &p, &y, 1);
+    let mut case = draw_of(rng, shape, secret, &p, &y, 1);
     if rng.one_in(20) {
         case.numbers[WEIGHT] = rng.between(1, shape.n) as u64;
     } else if let Ok(word) = word_of(&case, shape) {
@@ -394,6 +423,11 @@ pub fn any_draw(rng: &mut Rng, shape: &Shape) -> Case {
         }
     }
     case
+}
+
+pub fn any_draw(rng: &mut Rng, shape: &Shape) -> Case {
+    let secret = SecretPlanes::random(rng, shape);
+    weighed_draw(rng, shape, &secret)
 }
 
 /// A draw that is released.

@@ -250,6 +250,27 @@ pub fn gaps(c: &mut Comparer) {
     }
 }
 
+/// Rows in number about whole blocks of twelve pivots, with columns that have no pivot, and with ranks that lack; N one more than the rows, 64 and about it, 128,
+/// or any.
+pub fn blocks(c: &mut Comparer) {
+    const ROWS: [usize; 9] = [1, 7, 11, 12, 13, 18, 24, 25, 30];
+    for (ru, rv) in ROWS.iter().flat_map(|ru| ROWS.iter().map(move |rv| (*ru, *rv))) {
+        let any = ru.max(rv) + c.rng.between(1, 40);
+        let half = c.rng.pick(&[ru.max(rv) + 1, 63, 64, 65, 128, any]);
+        let (ku, kv) = (half - ru, half - rv);
+        for (gv, gu) in [(kv, ku), (c.rng.gap(kv), c.rng.gap(ku)), (c.rng.below(12).min(kv), c.rng.below(12).min(ku))] {
+            let shape = Shape { n: 2 * half, ku, kv, gv, gu };
+            let poor = SecretPlanes::poor(&mut c.rng, &shape);
+            for case in [make::any_draw(&mut c.rng, &shape), make::build_of(&mut c.rng, &shape, &poor, 1), make::weighed_draw(&mut c.rng, &shape, &poor)] {
+                c.compare(&case, &[]);
+                for (fault, _) in faults(&case).into_iter().filter(|(_, refusal)| [9, 10, 12, 13].contains(refusal)) {
+                    c.damaged(&case, &[fault]);
+                }
+            }
+        }
+    }
+}
+
 /// The case is answered by this number.
 pub fn answers(c: &mut Comparer, case: &Case, rule: u64) {
     let found = c.compare(case, &[]).refusal();

@@ -30,13 +30,21 @@ fn expect(c: &mut Comparer, case: Case, answer: &[u64], exit: &[(usize, Buffer)]
     }
 }
 
+/// Words of a working plane at the worked sizes: 2 rows and 243 of 2 words, 1 row and 248 of 1.
+const BUILD_WORK: usize = 490;
+const DRAW_WORK: usize = 249;
+
+fn work(count: usize, value: u64) -> Buffer {
+    Words(vec![value; count])
+}
+
 fn secret() -> Vec<Buffer> {
     [pair("11"), pair("12"), pair("01"), pair("12")].concat()
 }
 
 fn build(start: [u16; 4]) -> Case {
     let mut buffers = secret();
-    buffers.extend([Order(start.to_vec()), Order(vec![9; 4]), Words(vec![7; 2]), Words(vec![8; 2]), Words(vec![5; 4]), Words(vec![6; 4])]);
+    buffers.extend([Order(start.to_vec()), Order(vec![9; 4]), Words(vec![7; 2]), Words(vec![8; 2]), work(BUILD_WORK, 5), work(BUILD_WORK, 6)]);
     Case::new(Call::Build, vec![4, 1, 1, 0, 0, 4], buffers)
 }
 
@@ -48,7 +56,7 @@ fn draw(w: u64, v_trit: &str, u_value: &str) -> Case {
     buffers.extend(pair(v_trit));
     buffers.push(Order(vec![0, 1]));
     buffers.extend(pair(u_value));
-    buffers.extend([one(1), one(2), one(3), one(4), Words(vec![5; 6]), Words(vec![6; 6])]);
+    buffers.extend([one(1), one(2), one(3), one(4), work(DRAW_WORK, 5), work(DRAW_WORK, 6)]);
     Case::new(Call::Draw, vec![4, 1, 1, 0, 0, w], buffers)
 }
 
@@ -132,21 +140,21 @@ pub fn cases(c: &mut Comparer) {
             built.buffers[i] = one(word);
             drawn.buffers[i] = one(word);
         }
-        expect(c, built, &[refusal], &[(10, Words(vec![7; 2])), (12, Words(vec![5; 4])), (13, Words(vec![6; 4]))]);
-        expect(c, drawn, &[refusal], &[(17, one(1)), (18, one(2)), (19, one(3)), (20, one(4)), (21, Words(vec![5; 6])), (22, Words(vec![6; 6]))]);
+        expect(c, built, &[refusal], &[(10, Words(vec![7; 2])), (12, work(BUILD_WORK, 5)), (13, work(BUILD_WORK, 6))]);
+        expect(c, drawn, &[refusal], &[(17, one(1)), (18, one(2)), (19, one(3)), (20, one(4)), (21, work(DRAW_WORK, 5)), (22, work(DRAW_WORK, 6))]);
     }
 
     let [k1, k2] = pair("02 22");
-    expect(c, build([0, 1, 2, 3]), &[0], &[(9, Order(vec![0, 1, 2, 3])), (10, k1), (11, k2), (12, Words(vec![0; 4])), (13, Words(vec![0; 4]))]);
+    expect(c, build([0, 1, 2, 3]), &[0], &[(9, Order(vec![0, 1, 2, 3])), (10, k1), (11, k2), (12, work(BUILD_WORK, 0)), (13, work(BUILD_WORK, 0))]);
     let [k1, k2] = pair("22 20");
-    expect(c, build([1, 2, 0, 3]), &[0], &[(9, Order(vec![1, 3, 0, 2])), (10, k1), (11, k2), (12, Words(vec![0; 4])), (13, Words(vec![0; 4]))]);
+    expect(c, build([1, 2, 0, 3]), &[0], &[(9, Order(vec![1, 3, 0, 2])), (10, k1), (11, k2), (12, work(BUILD_WORK, 0)), (13, work(BUILD_WORK, 0))]);
 
     for (w, v_trit, u_value, word, s) in [(4, "2", "1", "2111", "11"), (4, "2", "2", "2111", "11"), (4, "0", "2", "2221", "21"), (2, "0", "1", "0102", "02")] {
         let ([w1, w2], [s1, s2]) = (pair(word), pair(s));
-        let zero = Words(vec![0; 6]);
+        let zero = work(DRAW_WORK, 0);
         expect(c, draw(w, v_trit, u_value), &[0], &[(17, w1), (18, w2), (19, s1), (20, s2), (21, zero.clone()), (22, zero)]);
     }
-    let zero = Words(vec![0; 6]);
+    let zero = work(DRAW_WORK, 0);
     expect(c, draw(4, "1", "1"), &[14], &[(17, one(1)), (18, one(2)), (19, one(3)), (20, one(4)), (21, zero.clone()), (22, zero)]);
 
     // at w = 2, V trit 2 and U value 0: with a gap of U, and of V or not, 1200; with a gap of V alone 8
@@ -155,8 +163,8 @@ pub fn cases(c: &mut Comparer) {
         drawn.numbers[GAP_V] = gv;
         drawn.numbers[GAP_U] = gu;
         let ([w1, w2], [s1, s2]) = if refusal == 0 { (pair("1200"), pair("00")) } else { ([one(1), one(2)], [one(3), one(4)]) };
-        let work = |held: u64| Words(vec![if refusal == 0 { 0 } else { held }; 6]);
-        expect(c, drawn, &[refusal], &[(17, w1), (18, w2), (19, s1), (20, s2), (21, work(5)), (22, work(6))]);
+        let left = |held: u64| work(DRAW_WORK, if refusal == 0 { 0 } else { held });
+        expect(c, drawn, &[refusal], &[(17, w1), (18, w2), (19, s1), (20, s2), (21, left(5)), (22, left(6))]);
     }
 
     expect(c, check(7, 4, "12", "11"), &[0, 1, 3, 1], &[(4, one(0)), (5, one(0))]);

@@ -1,0 +1,2 @@
+-- What the first pass asks of the grid.
+pub mod Steps

@@ -1,5 +1,5 @@
 -- The column rule on columns in their order is that of the definition on places (`ruled`). Assumes nothing.
-use mathlib.Core.Path.{_≡_, refl, sym, ap, ap₂, _∙_, subst}
+use mathlib.Core.Path.{_≡_, refl, sym, ap, _∙_, subst}
 use mathlib.Core.Bool.{Bool, true, false, cond}
 use mathlib.Core.List.{List}
 use Prim.Native.Nat.{ℕ, zero, suc, _+_, _-_, _≤_, _<_}
@@ -19,7 +19,7 @@ use Rattle.matrix.proofs.FirstPart.{read-linear, has-alike, step-alike}
 use Rattle.grid.specs.Steps.{other}
 use Rattle.scheme.specs.Build.{swap, Arrangement, arranged}
 use Rattle.scheme_laws.proofs.Build.{State, begin, turned, taken, left, finished, swap-first, swap-second, swap-other}
-use Rattle.arranging.specs.Columns.{exchanged, standing, columnRule}
+use Rattle.arranging.specs.Columns.{exchanged, columnRule}
 use Rattle.arranging.proofs.Rule.{rule-kept, rule-turned, rule-stop}
 
 -- the columns of A are those of D at the places of the order p

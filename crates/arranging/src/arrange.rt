@@ -1,5 +1,4 @@
 // The first pass of a build: the column rule, twelve pivots at a time.
-ghost use mathlib.Core.Path.{_≡_};
 ghost use lib.ListN.{length};
 ghost use Rattle.trits.specs.Rows.{matrixAt};
 ghost use Rattle.grid.specs.Steps.{Rows};

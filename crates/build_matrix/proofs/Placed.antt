@@ -20,10 +20,6 @@ use Rattle.scheme.specs.Secret.{Secret, secretMatrix, join}
 use Rattle.build_matrix.specs.Steps.{colOf, placedAt, halvesIn, leftU, rightU, leftV}
 use Rattle.build_matrix.proofs.HalfRows.{halves-left, halves-right, halves-low, halves-high, negative-past}
 
--- a matrix of r rows of two halves is one of twice as many rows
-pub rows-halved : {o t : List ℕ} {r hw : ℕ} → Rows o t r (hw + hw) → Rows o t (r + r) hw
-rows-halved {r = r} {hw} g = record { row = g .row; size = g .size ∙ omega (arith, mul-add r hw hw, add-mul r r hw) }
-
 pub rows-joined : {o t : List ℕ} {r hw : ℕ} → Rows o t (r + r) hw → Rows o t r (hw + hw)
 rows-joined {r = r} {hw} g = record { row = g .row; size = g .size ∙ omega (arith, mul-add r hw hw, add-mul r r hw) }
 

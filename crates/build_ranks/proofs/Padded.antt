@@ -15,7 +15,6 @@ use Rattle.trits.specs.Planes.{zeroWords, bit, trit, tritAt}
 use Rattle.trits.specs.Rows.{matrixAt, putWords}
 use Rattle.trits.proofs.Lists.{length-zeros, zero-at}
 use Rattle.trits.proofs.Reading.{tritAt-word}
-use Rattle.matrix.specs.Linear.{Matrix}
 use Rattle.grid.specs.Steps.{Rows}
 
 module _ {n : ℕ} (xs : List ℕ) {ys : List ℕ} (e : ys ≡ putWords 0 (zeroWords n) xs) (h : length xs ≤ n) where

@@ -1,5 +1,5 @@
 -- The key that the arranged work matrix makes is the released one. Assumes nothing.
-use mathlib.Core.Path.{_≡_, refl, sym, ap, ap₂, _∙_, subst, subst₂}
+use mathlib.Core.Path.{_≡_, refl, sym, ap, ap₂, _∙_, subst₂}
 use mathlib.Core.Bool.{Bool, true, false, cond}
 use mathlib.Core.List.{List, _++_}
 use Prim.Native.Nat.{ℕ, zero, suc, _+_, _*_, _≤_, _<_}
@@ -25,7 +25,6 @@ use Rattle.scheme.specs.Sizes.{half, places, dim, ru, rv, codim}
 use Rattle.scheme.specs.Secret.{Secret, secretMatrix}
 use Rattle.scheme.specs.Build.{arranged, rowOfR, keyOrder, buildRefusal}
 use Rattle.scheme_laws.proofs.Pairs.{secret-reaches}
-use Rattle.scheme_laws.proofs.Build.{arranged-good}
 use Rattle.build_matrix.specs.Steps.{placedAt, halvesIn, leftU, rightU, leftV}
 use Rattle.build_matrix.proofs.Placed.{rows-joined, placed-secret}
 use Rattle.build_key.specs.Steps.{Keyed}
@@ -33,7 +32,6 @@ use Rattle.key_rows.specs.Steps.{readDown, keyOnes, keyTwos}
 use Rattle.calls.specs.Lent.{Planes, halfWords, secretOf}
 use Rattle.calls.specs.Steps.{Readable}
 use Rattle.calls.specs.BuildCall.{keyRowWords, buildWorkWords, keyOnesOf, keyTwosOf}
-use Rattle.calls.proofs.Bounds.{Bounds}
 use Rattle.build_release.specs.Steps.{Filled, madeOnes, madeTwos}
 
 -- working planes of 0, as half-rows

@@ -11,7 +11,7 @@ use Rattle.trits.specs.Trit.{Trit, t0, subT, mulT, isSet, dotV}
 use Rattle.trits.proofs.Arithmetic.{add-zero-r, mul-zero}
 use Rattle.matrix.specs.Linear.{Vector, Matrix}
 use Rattle.matrix.specs.Steps.{swapRows, scaleRow, pivoted, firstRow, pivotRow, hasPivot, stepOf}
-use Rattle.matrix.specs.Blocks.{lessOf, grown, UnitAt, basisRow, basis, from, pending, brought, taken, NextPivot, steps, Block, Cleared, Advanced}
+use Rattle.matrix.specs.Blocks.{lessOf, grown, UnitAt, basis, from, pending, brought, taken, NextPivot, steps, Block, Cleared, Advanced}
 use Rattle.matrix.proofs.Dots.{dot-right}
 use Rattle.matrix.proofs.Less.{less-none}
 use Rattle.matrix.proofs.Steps.{has-row, step-has, step-none}

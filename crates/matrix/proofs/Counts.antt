@@ -13,7 +13,7 @@ use lib.ListN.{length, getD, length-append, List·getD-append}
 use lib.Seq.{getD-at}
 use Rattle.matrix.specs.Linear.{Vector, elem, without, range, fill}
 use Rattle.matrix.specs.Orders.{Distinct, Order}
-use Rattle.matrix.proofs.Places.{Below, or-false-left, or-false-right, or-true-right, or-cases, false-or-false, elem-append, elem-here, fill-at}
+use Rattle.matrix.proofs.Places.{or-false-left, or-false-right, or-true-right, or-cases, false-or-false, elem-append, elem-here, fill-at}
 use Rattle.matrix.proofs.Greedy.{bool-cases}
 use Rattle.matrix.proofs.Orders.{drop-one, drop-one-length, drop-one-other, elem-index}
 use Rattle.matrix.proofs.Field.{refuted}
@@ -145,10 +145,6 @@ range-elem (suc n) q h = elem-append q (range n) (n ∷ []) ∙ go (range-elem n
     go ih true e = or-true-right (elem q (range n)) (elem q (n ∷ [])) (rw e)
     go ih false e = rw (ih (omega (arith, eqb-false q n e)))
 
-pub range-none : range 0 ≡ []
-unfolding range
-range-none = refl
-
 pub range-next : (i : ℕ) → range (i + 1) ≡ range i ++ (i ∷ [])
 unfolding range
 range-next i = ap range (add-one i)
@@ -161,16 +157,3 @@ pub fill-own : (ps : List ℕ) (e v w : Vector) (q : ℕ) → Distinct ps → ((
 fill-own ps e v w q d h m =
     let k = elem-index q ps m in
     ap (fill ps v w) (sym (k .2)) ∙ fill-at ps v w (k .0) d (k .1) ∙ h (k .0) (k .1) ∙ ap e (k .2)
-
--- n distinct places below n are an order
-pub distinct-order : (n : ℕ) (ps : List ℕ) → length ps ≡ n → Distinct ps → Below n ps → Order n ps
-distinct-order n ps e d b = record { size = e; every = λ q h. go q h (bool-cases (elem q ps)) }
-  where
-    go : (q : ℕ) → q < n → (elem q ps ≡ true) ⊎ (elem q ps ≡ false) → elem q ps ≡ true
-    go q h (inl m) = m
-    go q h (inr m) =
-        absurd (omega (arith, range-length n, length-within (q ∷ ps) (range n) (m, d) (λ x k. range-elem n x (low x (or-cases (eqb x q) (elem x ps) k)))))
-      where
-        low : (x : ℕ) → (eqb x q ≡ true) ⊎ (elem x ps ≡ true) → x < n
-        low x (inl k) = rw (eqb-true x q k) h
-        low x (inr k) = b x k

@@ -233,9 +233,3 @@ module _ (r n : ℕ) (H : Matrix) where
     where
       go : Kept r n H (pivots r n H ps) → ((v : Vector) → Spans r n H (pivots r n H ps) v) → length (pivots r n H ps) ≡ r
       go k s = omega (arith, kept-few (pivots r n H ps) k, spans-many (pivots r n H ps) (k .distinct) (k .below) s)
-
-  -- once r columns are kept no other is
-  pub keep-full : (ps kept : List ℕ) → Kept r n H kept → length kept ≡ r → keep r n H kept ps ≡ kept
-  unfolding keep
-  keep-full [] kept k e = refl
-  keep-full (p ∷ ps) kept k e = keep-in kept p ps (inSpan-iff r n H kept (column H p) .1 (kept-spans kept k e (column H p))) ∙ keep-full ps kept k e

@@ -1,13 +1,13 @@
 -- A block of pivots: the rows below are left for later, and stand for what the steps would have made of them (`lessOf`). Assumes nothing.
-use mathlib.Core.Path.{_≡_, refl, sym, ap, ap₂, _∙_, fun-ext, subst}
+use mathlib.Core.Path.{_≡_, refl, sym, ap, ap₂, _∙_, fun-ext}
 use mathlib.Core.Bool.{Bool, true, false, cond}
-use Prim.Native.Nat.{ℕ, zero, suc, _+_, _-_, _≤_, _<_}
+use Prim.Native.Nat.{ℕ, suc, _+_, _-_, _≤_, _<_}
 use native.Mathlib.Omega.{arith}
-use native.Mathlib.Decide.{ℕ-discrete, decLt}
+use native.Mathlib.Decide.{ℕ-discrete}
 use borrow.Author.Tests.{eq-eqb, ne-eqb, lt-ltb, le-ltb}
-use lib.Dec.{eqb, ltb}
-use Rattle.trits.specs.Trit.{Trit, t0, t1, addT, subT, mulT, isSet, dotV}
-use Rattle.trits.proofs.Arithmetic.{add-zero-r, mul-zero}
+use lib.Dec.{eqb}
+use Rattle.trits.specs.Trit.{subT, mulT, isSet}
+use Rattle.trits.proofs.Arithmetic.{mul-zero}
 use Rattle.matrix.specs.Linear.{Vector, Matrix}
 use Rattle.matrix.specs.Steps.{swapRows, scaleRow, pivoted}
 use Rattle.matrix.specs.Blocks.{lessOf, grown, UnitAt}
@@ -21,18 +21,6 @@ pub record Lazy (at : ℕ) (q : ℕ → ℕ) (k : ℕ) (b L D : Matrix) : Type 0
   pub done : (i : ℕ) → i < at + k → L i ≡ D i
   pub later : (i : ℕ) → at + k ≤ i → lessOf k q b (L i) ≡ D i
   pub unit : UnitAt k q b
-
-pub lazy-start : (at : ℕ) (q : ℕ → ℕ) (b A : Matrix) → Lazy at q 0 b A A
-unfolding dotV
-lazy-start at q b A = record { done = λ i h. refl; later = λ i h. fun-ext (λ t. add-zero-r (A i t)); unit = λ j l h g. absurd (omega arith) }
-
--- the rows below are cleared: L is D
-pub lazy-end : (at : ℕ) (q : ℕ → ℕ) (k : ℕ) (b L D : Matrix) → Lazy at q k b L D → (λ i. cond (ltb i (at + k)) (L i) (lessOf k q b (L i))) ≡ D
-lazy-end at q k b L D z = fun-ext (λ i. by i (decLt i (at + k)))
-  where
-    by : (i : ℕ) → Dec (i < at + k) → cond (ltb i (at + k)) (L i) (lessOf k q b (L i)) ≡ D i
-    by i (yes h) = rw (lt-ltb i (at + k) h) (z .done i h)
-    by i (no h) = rw (le-ltb i (at + k) (omega arith)) (z .later i (omega arith))
 
 -- ---- the trit that a search reads
 

@@ -1,11 +1,10 @@
 -- A row less a combination of other rows, which clears a stretch of columns at once: it is what the steps make of it one after another. Assumes nothing.
-use mathlib.Core.Path.{_≡_, refl, sym, ap, ap₂, _∙_, fun-ext}
-use mathlib.Core.Bool.{Bool, true, false, cond}
-use Prim.Native.Nat.{ℕ, suc, _+_, _<_}
+use mathlib.Core.Path.{_≡_, refl, sym, ap, ap₂, _∙_}
+use Prim.Native.Nat.{ℕ, suc, _<_}
 use native.Mathlib.Omega.{arith}
 use native.Mathlib.Decide.{ℕ-discrete}
 use borrow.Author.Tests.{eq-eqb, ne-eqb}
-use lib.Dec.{T, eqb}
+use lib.Dec.{T}
 use Rattle.trits.specs.Trit.{Trit, t0, t1, addT, subT, mulT, putV, dotV}
 use Rattle.trits.proofs.Products.{dot-zero}
 use Rattle.trits.proofs.Arithmetic.{at, every, eqT, add-zero-r, add-neg, mul-comm, mul-zero}

@@ -1,7 +1,6 @@
 -- Worked cases of the algebra, on matrices small enough to be followed by hand. Assumes nothing.
 use mathlib.Core.Path.{_≡_}
 use mathlib.Core.List.{[], _∷_}
-use Prim.Native.Nat.{ℕ}
 use Rattle.trits.specs.InDigits.{vector, digits, matrix, digitRows}
 use Rattle.matrix.specs.Linear.{Matrix, zeros, solve, orZeros, pivots, rank}
 use Rattle.matrix.specs.Steps.{eliminated, raised, backed}

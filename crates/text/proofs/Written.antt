@@ -9,7 +9,7 @@ use native.Mathlib.Decide.{decLt}
 use native.Mathlib.Omega.{arith}
 use borrow.Author.Tests.{lt-ltb, le-ltb}
 use lib.Dec.{ltb}
-use lib.ListN.{length, set, take, drop, length-append, length-take, length-drop}
+use lib.ListN.{length, set, take, drop, length-append}
 use lib.Seq.{set-split, take-at, drop-at, drop-drop, length-take-le}
 use Rattle.trits.specs.Rows.{putWords}
 use Rattle.text.specs.Numbers.{decimalTo, decimal}
@@ -22,10 +22,6 @@ unfolding putWords
 put-one l at b h = set-split l at b h ∙ ap (λ (j : ℕ). take at l ++ (b ∷ drop j l)) (sym (add-one at))
 
 module _ (l : List ℕ) (a : ℕ) (x : List ℕ) where
-  pub put-length : a + length x ≤ length l → length (putWords a l x) ≡ length l
-  unfolding putWords
-  put-length h = simp (length-append, length-take, length-drop) (omega arith)
-
   -- a stretch written after another is one stretch
   pub put-then : {m k : List ℕ} (b : ℕ) (y : List ℕ) → a + (length x + length y) ≤ length l → b ≡ a + length x → m ≡ putWords a l x → k ≡ putWords b m y
       → k ≡ putWords a l (x ++ y)

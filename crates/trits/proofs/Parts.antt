@@ -102,11 +102,3 @@ part-zip {xs} {ts} r a k hx op v = fun-ext (λ p. by p (decLt p (64 * a)) (decLt
         ap (zipAt (λ x y. y) u m a k) e ∙ zip-at (λ x y. y) u m a k q (omega arith)
         ∙ ap (λ (x : Trit). op x (v q)) (part-trit xs ts a k hx (omega (arith, r .same)) q (omega arith))
         ∙ sym (zip-at op u v a k q (omega arith)) ∙ ap (zipAt op u v a k) (sym e)
-
--- the whole after `f(&mut ones[a..e], &mut twos[a..e], ..)` where f does an operation on its row, with k = e - a
-pub part-done : {xs ts ys zs : List ℕ} {m k′ : ℕ} (op : Trit → Trit → Trit) (v : ℕ → Trit) (r : Row xs ts) (a k : ℕ) (h : a + k ≤ length xs) → m ≡ k → k ≡ k′
-    → Reads ys zs m (zipV op (tritAt (midOf a k xs) (midOf a k ts)) v)
-    → Reads (putMid a k xs ys) (putMid a k ts zs) (length xs) (zipAt op (tritAt xs ts) v a k′)
-part-done {xs} {ts} op v r a k h e f g =
-    let b = part-back r a k h (record { row = g .row; size = g .size ∙ e; trits = g .trits }) in
-    record { row = b .row; size = b .size; trits = b .trits ∙ part-zip r a k h op v ∙ ap (zipAt op (tritAt xs ts) v a) f }

@@ -154,7 +154,7 @@ add-exchange-3 c = search needs
 exchange-requires : tie.Need-exchange-requires Inv-loop μ-loop
 exchange-requires c κs =
     let f = columns-fit (else1-from-exchange-arg c) in
-    (omega (arith, f), f)
+    (omega (arith, f), omega (arith, f))
 
 loop-less-2 : tie.Need-loop-less-2 Inv-loop μ-loop
 loop-less-2 c =

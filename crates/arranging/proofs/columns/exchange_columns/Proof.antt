@@ -6,7 +6,7 @@ use native.Mathlib.Omega.{arith}
 use denote.Ref.{now}
 use Rattle.trits.specs.Rows.{matrixAt}
 use Rattle.matrix.specs.Linear.{Matrix}
-use Rattle.grid.specs.Steps.{Rows, Grid}
+use Rattle.grid.specs.Steps.{Grid}
 use Rattle.grid.proofs.Cells.{cell-none}
 use Rattle.arranging.proofs.Exchanges.{exchangedTo, exchanged-none, exchanged-turn, exchanged-all}
 use Rattle.arranging.proofs.columns.exchange_columns.Statement.{statement}

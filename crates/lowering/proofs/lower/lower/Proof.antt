@@ -1,13 +1,11 @@
 -- Each turn tries the columns of a block, or one that has no pivot (`lowering-next`), until no column or no row is left (`lowering-done`).
 -- Assumes nothing.
 use borrow.Author.Needs.{needs}
-use Prim.Native.Nat.{_+_, _-_, _≤_, _<_}
-use mathlib.Core.Path.{_≡_, sym, _∙_}
+use Prim.Native.Nat.{_-_, _≤_}
 use mathlib.Core.Logic.{_⊎_, inl, inr, ⊎-elim}
 use native.Mathlib.Omega.{arith}
 use denote.Ref.{now}
 use Rattle.trits.specs.Rows.{matrixAt}
-use Rattle.matrix.specs.Linear.{Matrix}
 use Rattle.matrix.proofs.Lowering.{Lowering, lowering-start, lowering-next, lowering-done, lowering-low, lowering-past}
 use Rattle.grid.specs.Steps.{Rows}
 use Rattle.lowering.proofs.lower.lower.Statement.{statement}

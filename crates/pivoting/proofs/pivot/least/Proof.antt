@@ -1,6 +1,5 @@
 -- Each branch returns what the test chose.
 -- Assumes nothing.
-use mathlib.Core.Path.{sym}
 use borrow.Author.Tests.{lt-ltb, le-ltb}
 use native.Mathlib.Omega.{arith}
 use Rattle.matrix.proofs.Steps.{pick-first, pick-second}

@@ -2,15 +2,14 @@
 -- Assumes nothing.
 use Prim.Native.Nat.{_+_, _-_, _≤_}
 use mathlib.Core.Path.{_≡_, refl, sym, ap, _∙_}
-use mathlib.Core.Bool.{true, false}
 use native.Mathlib.Omega.{arith}
 use borrow.Author.Needs.{needs}
 use denote.Ref.{now}
-use Rattle.trits.specs.Trit.{isSet, number}
+use Rattle.trits.specs.Trit.{number}
 use Rattle.trits.specs.Rows.{matrixAt}
 use Rattle.matrix.specs.Linear.{Vector, Matrix}
 use Rattle.matrix.specs.Steps.{firstRow, pivotRow}
-use Rattle.matrix.specs.Blocks.{lessOf, basis, from, pending}
+use Rattle.matrix.specs.Blocks.{basis, pending}
 use Rattle.matrix.proofs.Field.{number-set, number-unset}
 use Rattle.matrix.proofs.Steps.{first-here, first-next, first-end}
 use Rattle.matrix.proofs.Blocks.{pending-later}

@@ -13,7 +13,9 @@ pairs-requires-2 : tie.Need-pairs-requires-2
 pairs-requires-2 c κs = search needs
 
 mul-result : tie.Need-mul-result
-mul-result c = omega (arith, pairs-lt (c .before .before .args .y), c .pairs2 .ensures)
+mul-result c =
+    let a = c .before .before .args in
+    omega (arith, pairs-lt (a .x), pairs-lt (a .y), c .pairs2 .ensures)
 
 add-result : tie.Need-add-result
 add-result c =

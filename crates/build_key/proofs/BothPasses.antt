@@ -1,6 +1,7 @@
 -- Both passes on columns in their order: they stand for passes on places (`pass-left`), after which the key is read (`key-left`). Assumes nothing.
 use mathlib.Core.Path.{_≡_, sym, ap, ap₂, _∙_, subst}
 use mathlib.Core.Bool.{Bool, true, false, cond}
+use mathlib.Core.Logic.{inr}
 use mathlib.Core.List.{List}
 use Prim.Native.Nat.{ℕ, zero, suc, _+_, _≤_, _<_}
 use native.Mathlib.Omega.{arith}
@@ -27,6 +28,7 @@ use Rattle.build_matrix.specs.Steps.{colOf, placedAt}
 use Rattle.arranging.specs.Columns.{columnRule}
 use Rattle.arranging.specs.Columns as columns
 use Rattle.arranging.proofs.Ruled.{Placed, Ruled, ruled}
+use Rattle.raising.specs.Steps.{AtEnds}
 use Rattle.build_key.specs.Steps.{FirstPass, Keyed}
 
 -- ---- the columns gathered in the order stand for the places
@@ -101,13 +103,13 @@ module _ {r n : ℕ} {H M : Matrix} {q : List ℕ} (f : FirstPass r n H M q) whe
 -- the key is read
 pub key-left : (r : ℕ) (H : Matrix) (start : List ℕ) {M L B : Matrix} {q : List ℕ} → Order (length start) start
     → rank r (length start) H (range (length start)) ≡ r → q ≡ arranged r (length start) H start .order → FirstPass r (length start) H M q
-    → Front r (raised (range r) r M) L B → Keyed r (length start) H B q
+    → AtEnds r 0 (raised (range r) r M) L B → Keyed r (length start) H B q
 key-left r H start {M} {L} {B} {q} o full e f g = record {
   entry = λ i c h l.
       reduced-key r n H R q kept reduced (omega (arith, f .is-order .size, f .fits)) i c h
       (order-good n q (f .is-order) .1 (getD q (r + i) 0) (elem-at q (r + i) (omega (arith, f .is-order .size))))
       ∙ sym (raised-placed r n q (f .fits) (f .is-order .size) r M (f .places) (omega arith) (f .placed) c (r + i) h l)
-      ∙ ap (λ (v : Vector). v (r + i)) (sym (g .front c h));
+      ∙ sym (g .ends c (r + i) h (inr (omega arith)));
 }
   where
     n : ℕ

@@ -1,4 +1,4 @@
--- The laws: copies, lengths and ranks.
+-- The laws: copies, lengths and ranks, and the first words of rows.
 pub mod Copies
 pub mod Lengths
-pub mod Padded
+pub mod Fronts

@@ -5,32 +5,74 @@ ghost use Rattle.trits.specs.Refusal.{codeOf};
 ghost use Rattle.matrix.specs.Linear.{rank, range};
 ghost use Rattle.scheme.specs.Sizes.{ru, rv};
 ghost use Rattle.scheme.specs.Build.{buildRefusal};
-ghost use Rattle.build_ranks.specs.Steps.{matrices, ForRankIn, ForRankOf, ForTestRanks};
+ghost use Rattle.build_ranks.specs.Steps.{matrices, Fronts, ForCopyFront, ForRankIn, ForFrontRank, ForRankOf, ForTestRanks};
 use scheme::sizes::Sizes;
 use trits::refusal::Outcome;
 use trits::refusal::Refusal;
 
-// The rank of a matrix, which is copied to planes with room for tables after it, and eliminated there.
+// The first v words of each row of a plane are copied, row after row, to the front of another plane.
+pub fn copy_front(plane: &[u64], w: usize, rows: usize, v: usize, work: &mut [u64])
+    requires { ⌜ ForCopyFront (now plane) w rows v (now work) ⌝ }
+    ensures { λ _. ⌜ Fronts (now (plane .entry)) w v rows (now (work .entry)) (now (work .exit)) ⌝ }
+{
+    let mut i = 0;
+    while i < rows {
+        let a = i * w;
+        let e = a + v;
+        planes::words::put_row(work, i * v, &plane[a..e]);
+        i += 1;
+    }
+}
+
+// The rank of the first n columns of a matrix: the first v words of its rows, where they stand, are copied to planes with room for tables, and eliminated.
 pub fn rank_in(
     ones: &[u64],
     twos: &[u64],
     rows: usize,
     w: usize,
+    v: usize,
     n: usize,
     work_ones: &mut [u64],
     work_twos: &mut [u64],
 ) -> usize
-    requires { ⌜ ForRankIn (now ones) (now twos) rows w n (now «work_ones») (now «work_twos») ⌝ }
+    requires { ⌜ ForRankIn (now ones) (now twos) rows w v n (now «work_ones») (now «work_twos») ⌝ }
     ensures { λ r. ⌜ r ≡ rank rows n (matrixAt w (now (ones .entry)) (now (twos .entry))) (range n) ⌝ }
 {
     planes::words::zero_words(work_ones);
     planes::words::zero_words(work_twos);
-    planes::words::put_row(work_ones, 0, ones);
-    planes::words::put_row(work_twos, 0, twos);
-    lowering::lower::lower(work_ones, work_twos, rows + 243, w, rows, w, n)
+    copy_front(ones, w, rows, v, work_ones);
+    copy_front(twos, w, rows, v, work_twos);
+    lowering::lower::lower(work_ones, work_twos, rows + 243, v, rows, v, n)
 }
 
-// The rank of a matrix, in planes that have room for it and for tables.
+// That rank, in planes that have room for these words and for tables.
+pub fn front_rank(
+    ones: &[u64],
+    twos: &[u64],
+    rows: usize,
+    w: usize,
+    v: usize,
+    n: usize,
+    work_ones: &mut [u64],
+    work_twos: &mut [u64],
+) -> usize
+    requires { ⌜ ForFrontRank (now ones) (now twos) rows w v n (now «work_ones») (now «work_twos») ⌝ }
+    ensures { λ r. ⌜ r ≡ rank rows n (matrixAt w (now (ones .entry)) (now (twos .entry))) (range n) ⌝ }
+{
+    let e = (rows + 243) * v;
+    rank_in(
+        ones,
+        twos,
+        rows,
+        w,
+        v,
+        n,
+        &mut work_ones[0..e],
+        &mut work_twos[0..e],
+    )
+}
+
+// The rank of a matrix: its first columns, somewhat more than its rows, are tried first, and all of them where these lack full rank.
 pub fn rank_of(
     ones: &[u64],
     twos: &[u64],
@@ -43,16 +85,13 @@ pub fn rank_of(
     requires { ⌜ ForRankOf (now ones) (now twos) rows w n (now «work_ones») (now «work_twos») ⌝ }
     ensures { λ r. ⌜ r ≡ rank rows n (matrixAt w (now (ones .entry)) (now (twos .entry))) (range n) ⌝ }
 {
-    let e = (rows + 243) * w;
-    rank_in(
-        ones,
-        twos,
-        rows,
-        w,
-        n,
-        &mut work_ones[0..e],
-        &mut work_twos[0..e],
-    )
+    let v = pivoting::pivot::least(w, rows / 64 + 2);
+    let m = pivoting::pivot::least(n, 64 * v);
+    let r = front_rank(ones, twos, rows, w, v, m, work_ones, work_twos);
+    if r == rows {
+        return r; // the first columns are enough in most cases
+    }
+    front_rank(ones, twos, rows, w, w, n, work_ones, work_twos)
 }
 
 // 9 where H_U lacks rank, then 10 where H_V does.

@@ -1,5 +1,5 @@
 -- Two rows of a matrix in planes change places, word by word. Assumes nothing.
-use mathlib.Core.Path.{_≡_, refl, sym, ap, ap₂, _∙_}
+use mathlib.Core.Path.{_≡_, refl, sym, ap, ap₂, _∙_, fun-ext}
 use mathlib.Core.Logic.{_⊎_, inl, inr, _≢_}
 use mathlib.Core.List.{List}
 use Prim.Native.Nat.{ℕ, zero, suc, _+_, _*_, _/_, _%_, _≤_, _<_}
@@ -135,3 +135,11 @@ module _ {o₀ t₀ o t : List ℕ} {r w a b : ℕ} (g : Rows o₀ t₀ r w) (so
       ∙ ap₂ (λ (x y : ℕ). trit (bit (q % 64) x) (bit (q % 64) y)) (so .words i (q / 64) (omega arith)) (st .words i (q / 64) (omega arith))
       ∙ sym (cell-word w o₀ t₀ (other a b i) q h))
       (λ i q h. sym (cell-past w o₀ t₀ (other a b i) q h))
+
+-- a row changes places with itself
+pub swapped-none : {o t : List ℕ} {rows w a b : ℕ} → Rows o t rows w → a ≡ b → Grid o t rows w (swapRows a b (matrixAt w o t))
+swapped-none {o} {t} {w = w} {a} {b} g e = record { rows = g; cells = fun-ext (λ i. ap (matrixAt w o t) (by i (ℕ-discrete i a))) }
+  where
+    by : (i : ℕ) → Dec (i ≡ a) → i ≡ other a b i
+    by i (yes h) = rw (eq-eqb i a h) (h ∙ e)
+    by i (no f) = rw (ne-eqb i a f, ne-eqb i b (λ h. f (h ∙ sym e)))

@@ -159,6 +159,14 @@ pub record ForAddWords (ones twos : List ℕ) (rows w f v i j : ℕ) : Type 0 wh
   pub apart : i ≢ j
   pub outside : (t : ℕ) → (t < 64 * f) ⊎ (64 * v ≤ t) → matrixAt w ones twos j t ≡ t0
 
+-- a grid, words of its rows, and two rows: in these words the first becomes the second
+pub record ForCopyWords (ones twos : List ℕ) (rows w f v d i : ℕ) : Type 0 where
+  pub grid : Rows ones twos rows w
+  pub width : v ≤ w
+  pub d-in : d < rows
+  pub i-in : i < rows
+  pub apart : d ≢ i
+
 -- a grid, words of its rows, and three rows: in these words the first becomes the sum of the others
 pub record ForSumRow (ones twos : List ℕ) (rows w f v d a b : ℕ) : Type 0 where
   pub grid : Rows ones twos rows w

@@ -1,7 +1,7 @@
 // Rows that become copies, sums and differences of other rows.
 ghost use Rattle.trits.specs.Trit.{addT, zipV};
 ghost use Rattle.trits.specs.Rows.{matrixAt};
-ghost use Rattle.grid.specs.Steps.{Grid, putRow, within, lessThree, ForAddRows, ForSumRow, ForSubThree};
+ghost use Rattle.grid.specs.Steps.{Grid, putRow, within, lessThree, ForAddRows, ForCopyWords, ForSumRow, ForSubThree};
 
 // Row d becomes a copy of row i.
 pub fn copy_row(ones: &mut [u64], twos: &mut [u64], rows: usize, w: usize, d: usize, i: usize)
@@ -13,6 +13,34 @@ pub fn copy_row(ones: &mut [u64], twos: &mut [u64], rows: usize, w: usize, d: us
     let from = i * w;
     let mut k = 0;
     while k < w {
+        let p = at + k;
+        let q = from + k;
+        ones[p] = ones[q];
+        twos[p] = twos[q];
+        k += 1;
+    }
+}
+
+// The words f to v - 1 of row d become those of row i.
+pub fn copy_words(
+    ones: &mut [u64],
+    twos: &mut [u64],
+    rows: usize,
+    w: usize,
+    f: usize,
+    v: usize,
+    d: usize,
+    i: usize,
+)
+    requires { ⌜ ForCopyWords (now ones) (now twos) rows w f v d i ⌝ }
+    ensures { λ _. ⌜ Grid (now (ones .exit)) (now (twos .exit)) rows w
+        (putRow d (within f v (matrixAt w (now (ones .entry)) (now (twos .entry)) i) (matrixAt w (now (ones .entry)) (now (twos .entry)) d))
+        (matrixAt w (now (ones .entry)) (now (twos .entry)))) ⌝ }
+{
+    let at = d * w;
+    let from = i * w;
+    let mut k = f;
+    while k < v {
         let p = at + k;
         let q = from + k;
         ones[p] = ones[q];

@@ -31,6 +31,9 @@ pub fn swap_rows(ones: &mut [u64], twos: &mut [u64], rows: usize, w: usize, a: u
     requires { ⌜ ForSwapRows (now ones) (now twos) rows w a b ⌝ }
     ensures { λ _. ⌜ Grid (now (ones .exit)) (now (twos .exit)) rows w (swapRows a b (matrixAt w (now (ones .entry)) (now (twos .entry)))) ⌝ }
 {
+    if a == b {
+        return;
+    }
     swap_plane(ones, rows, w, a, b);
     swap_plane(twos, rows, w, a, b);
 }

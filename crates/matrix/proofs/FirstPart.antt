@@ -7,14 +7,15 @@ use Prim.Native.Nat.{ℕ, zero, suc, _+_, _-_, _≤_, _<_}
 use native.Mathlib.Omega.{arith}
 use lib.Dec.{eqb, ltb}
 use lib.ListN.{length, getD, take, length-map}
-use lib.Seq.{take-suc}
+use lib.Seq.{take-suc, take-all}
 use Rattle.trits.specs.Trit.{Trit, subT, mulT, isSet, dotV}
-use Rattle.matrix.specs.Linear.{Vector, Matrix, times, elem, rank, pivots, range}
+use Rattle.matrix.specs.Linear.{Vector, zeros, Matrix, times, elem, rank, pivots, range}
 use Rattle.matrix.specs.Steps.{swapRows, scaleRow, pivoted, firstRow, pivotRow, hasPivot, stepOf, Stage, tried, eliminate, eliminated, begun}
 use Rattle.matrix.proofs.Dots.{dot-comm, dot-mul, dot-less}
 use Rattle.matrix.proofs.Places.{Below, elem-here, or-true-right}
 use Rattle.matrix.proofs.Orders.{order-good}
-use Rattle.matrix.proofs.Counts.{range-order}
+use Rattle.matrix.proofs.Counts.{range-length, range-at, range-elem, range-order}
+use Rattle.matrix.proofs.Rank.{rank-most, rank-mono}
 use Rattle.matrix.proofs.Steps.{has-row, step-has, step-none}
 use Rattle.matrix.proofs.Kept.{tried-cells, tried-kept, eliminate-pivots, eliminate-rank}
 
@@ -192,3 +193,25 @@ module _ (r n m : ℕ) (order : List ℕ) (z : Vector) (M H : Matrix) (h : m ≤
       let e = eliminate-pivots r m M (range m) (range-below m) in
       ap (λ (l : List ℕ). getD l c 0) (sym (eliminate-pivots r n H (take m order) b) ∙ along .kept ∙ ap (map (λ j. getD order j 0)) e)
       ∙ mapped-at (λ j. getD order j 0) (pivots r m M (range m)) c l
+
+-- ---- the first m columns
+
+-- their rank depends on no others
+pub rank-alike : (r m : ℕ) (M H : Matrix) → ((i t : ℕ) → i < r → t < m → M i t ≡ H i t) → rank r m M (range m) ≡ rank r m H (range m)
+rank-alike r m M H f =
+    image-rank r m m (range m) zeros M H (omega (arith, range-length m)) (λ q h. range-below m q (rw whole at h)) (record {
+      columns = λ i t l k. f i t l k ∙ ap (H i) (sym (range-at m t k));
+      known = λ l. absurd (omega arith);
+    })
+    ∙ ap (rank r m H) whole
+  where
+    whole : take m (range m) ≡ range m
+    whole = take-all m (range m) (omega (arith, range-length m))
+
+-- where they have full rank, all columns have it
+pub full-more : (r m n : ℕ) (H : Matrix) → m ≤ n → rank r m H (range m) ≡ r → rank r n H (range n) ≡ r
+full-more r m n H h e =
+    let below : Below n (range m) = λ q k. omega (arith, range-below m q k) in
+    let same : rank r m H (range m) ≡ rank r n H (range m) = sym (eliminate-rank r m H (range m) (range-below m)) ∙ eliminate-rank r n H (range m) below in
+    let more = rank-mono r n H (range m) (range n) below (range-below n) (λ q k. range-elem n q (below q k)) in
+    omega (arith, same, more, rank-most r n H (range n) (range-below n))

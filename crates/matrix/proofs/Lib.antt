@@ -10,6 +10,7 @@
 -- the values at the pivots, from the last row on, `back-solves` (Values);
 -- columns in the order of places, and one more for what is known: as many are kept, `image-rank`, for the same places, `image-pivots` (FirstPart), and the
 -- values at the pivots are the same, `backed-alike`, `fill-holds` (KnownPart);
+-- the rank of the first columns depends on no others, `rank-alike`, and where it is full that of all is, `full-more` (FirstPart);
 -- a row less a block's rows is what the steps make of it, `less-more` (Less), `lazy-pivot` (Lazy); an entry is the sum of two before it, `entry-sum`, and
 -- that of a row's own trits its combination, `entry-code` (Entries); blocks one after another are columns tried, `lowering-next` (Lowering)
 pub mod Cases

@@ -1,6 +1,6 @@
 -- The last pass, block by block: what is still to be cleared gives the first rows of the result. Assumes nothing.
 use mathlib.Core.Path.{_≡_, refl, sym, ap, ap₂, _∙_, subst, fun-ext}
-use mathlib.Core.Logic.{_⊎_, inl, inr}
+use mathlib.Core.Logic.{_⊎_, inl, inr, _≢_}
 use mathlib.Core.Bool.{cond}
 use mathlib.Core.List.{List}
 use Prim.Native.Nat.{ℕ, zero, suc, _+_, _-_, _*_, _/_, _≤_, _<_}
@@ -11,15 +11,17 @@ use lib.Dec.{ltb}
 use lib.ListN.{getD}
 use Rattle.trits.specs.Trit.{Trit, t0, t1, subT, mulT}
 use Rattle.trits.specs.Rows.{matrixAt}
+use Rattle.trits.proofs.Products.{dot-zero}
+use Rattle.trits.proofs.Arithmetic.{add-zero-r, mul-zero}
 use Rattle.matrix.specs.Linear.{Vector, Matrix, range}
 use Rattle.matrix.specs.Steps.{takeAbove, raised}
-use Rattle.matrix.specs.Blocks.{lessOf, UnitAt, basisRow, basis, from, Cleared, Front}
+use Rattle.matrix.specs.Blocks.{lessOf, basisRow, basis, from, Cleared}
 use Rattle.matrix.proofs.Dots.{dot-right}
 use Rattle.matrix.proofs.Counts.{range-at}
 use Rattle.grid.specs.Steps.{Grid, takenOut}
 use Rattle.grid.proofs.Cells.{cell-past, grid-to}
-use Rattle.raising.specs.Steps.{risen, risenFrom, Copied, Triangular}
-use Rattle.raising.proofs.Risen.{Stretch, stretch-of, stretch-left}
+use Rattle.raising.specs.Steps.{risen, risenFrom, Copied, AtEnds, Triangular}
+use Rattle.raising.proofs.Risen.{rowsFrom, Stretch, stretch-of, stretch-left}
 
 -- ---- the rows from b on, among themselves
 
@@ -90,18 +92,31 @@ raised-stretch ps (suc m) s A f =
     ap (λ (n : ℕ). raised ps n A) z ∙ raised-stretch ps m (suc s) A (λ c h. f c (omega arith))
     ∙ ap (λ (q : ℕ). raised ps s (takeAbove s q (risen m (suc s) A))) (f s (omega arith))
 
--- the first r rows come from the first r rows
-raised-front : (ps : List ℕ) (r c : ℕ) (A B : Matrix) → c ≤ r → ((i : ℕ) → i < r → A i ≡ B i) → (i : ℕ) → i < r → raised ps c A i ≡ raised ps c B i
+-- at columns of which those of the pivots are some, the first r rows come from the first r rows
+raised-agree : (P : ℕ → Type 0) (ps : List ℕ) (r c : ℕ) (A B : Matrix) → c ≤ r → ((j : ℕ) → j < c → P (getD ps j 0))
+    → ((i t : ℕ) → i < r → P t → A i t ≡ B i t) → (i t : ℕ) → i < r → P t → raised ps c A i t ≡ raised ps c B i t
 unfolding raised
-raised-front ps r zero A B h f i l = f i l
-raised-front ps r (suc c) A B h f i l =
-    raised-front ps r c (takeAbove c (getD ps c 0) A) (takeAbove c (getD ps c 0) B) (omega arith)
-    (λ k m. ap₂ {C = Vector} (λ (v u : Vector) (t : ℕ). cond (ltb k c) (subT (v t) (mulT (v (getD ps c 0)) (u t))) (v t)) (f k m) (f c (omega arith))) i l
+raised-agree P ps r zero A B h p f i t l m = f i t l m
+raised-agree P ps r (suc c) A B h p f i t l m =
+    raised-agree P ps r c (takeAbove c (getD ps c 0) A) (takeAbove c (getD ps c 0) B) (omega arith) (λ j k. p j (omega arith)) taken i t l m
+  where
+    q : ℕ
+    q = getD ps c 0
+
+    taken : (i t : ℕ) → i < r → P t → takeAbove c q A i t ≡ takeAbove c q B i t
+    taken i t l m =
+        ap₂ (cond (ltb i c))
+        (ap₂ subT (f i t l m) (ap₂ mulT (f i q l (p c (omega arith))) (f c t (omega arith) m)))
+        (f i t l m)
 
 -- ---- one block
 
-module _ {M N : Matrix} (r b e : ℕ) (A : Matrix) (m : M ≡ risenFrom b (e - b) b A) (c : Copied r (e - b) b M N) (d : Triangular e A) (h : b ≤ e)
-    (n : e ≤ r) where
+-- a block that is not the first has twelve rows
+pub is-twelve : {b e : ℕ} → (b ≡ 0) ⊎ (e ≡ b + 12) → b ≢ 0 → e ≡ b + 12
+is-twelve (inl z) f = absurd (f z)
+is-twelve (inr z) f = z
+
+module _ {M : Matrix} (r b e : ℕ) (A : Matrix) (m : M ≡ risenFrom b (e - b) b A) (d : Triangular e A) (h : b ≤ e) (n : e ≤ r) where
   abbrev R : Matrix
   R = risen (e - b) b A
 
@@ -114,51 +129,67 @@ module _ {M N : Matrix} (r b e : ℕ) (A : Matrix) (m : M ≡ risenFrom b (e - b
   among-low : (i : ℕ) → i < b → M i ≡ A i
   among-low i l = fun-ext (λ t. ap (λ (B : Matrix). B i t) m ∙ rw (lt-ltb i b l))
 
-  -- the block's rows are those of the pass
-  block-row : (j : ℕ) → j < e - b → N (basisRow r j) ≡ R (b + j)
-  block-row j l = c .block j l ∙ among-high (b + j) (omega arith)
-
-  pub block-unit : UnitAt (e - b) (from b) (basis r N)
-  block-unit j l f g = ap (λ (v : Vector). v (b + l)) (block-row j f) ∙ stretch .unit j l f g
-
-  -- the block's rows are 0 before the word of the block's first column, and past the words of a row
-  pub block-outside : (w : ℕ) → ((i t : ℕ) → 64 * w ≤ t → N i t ≡ t0) → (j t : ℕ) → j < e - b → (t < 64 * (b / 64)) ⊎ (64 * w ≤ t) → N (basisRow r j) t ≡ t0
-  block-outside w past j t f (inl g) = ap (λ (v : Vector). v t) (block-row j f) ∙ stretch .left j t f (omega arith)
-  block-outside w past j t f (inr g) = past (basisRow r j) t g
-
-  pub block-front : {C : Matrix} → Cleared r (e - b) b 0 b N C → Front r R A C
-  block-front {C} g = record {
-    front = λ i l. by i l (decLt i b);
-    kept = λ i l. g .kept i (inr (omega arith)) (inr l) ∙ c .kept i (inr l) ∙ among-high i (omega arith) ∙ stretch .rest i (omega arith);
+  -- no row is above the block
+  pub first-ends : b ≡ 0 → AtEnds r b R A M
+  first-ends z = record {
+    ends = λ i t l k. ap (λ (v : Vector). v t) (among-high i (omega arith));
+    kept = λ i l. among-high i (omega arith) ∙ stretch .rest i (omega arith);
   }
-    where
-      by : (i : ℕ) → i < r → Dec (i < b) → C i ≡ R i
-      by i l (yes f) =
-          g .cleared i (omega arith) f ∙ ap (lessOf (e - b) (from b) (basis r N)) (c .kept i (inl l) ∙ among-low i f)
-          ∙ fun-ext (λ t. ap (subT (A i t))
-          (dot-right (e - b) (λ j. A i (b + j)) (λ j. N (basisRow r j) t) (λ j. R (b + j) t) (λ j k. ap (λ (v : Vector). v t) (block-row j k))))
-          ∙ sym (stretch .less i f)
-      by i l (no f) = g .kept i (inr (omega arith)) (inl l) ∙ c .kept i (inl l) ∙ among-high i (omega arith)
+
+  module _ {N : Matrix} (z : e ≡ b + 12) (c : Copied (r / 64) r 12 b M N) where
+    -- from the word of column r on, the block's rows are those of the pass
+    block-row : (j t : ℕ) → j < 12 → 64 * (r / 64) ≤ t → N (basisRow r j) t ≡ R (b + j) t
+    block-row j t l k = c .block j t l k ∙ ap (λ (v : Vector). v t) (among-high (b + j) (omega arith))
+
+    -- they are 0 before it, and past the words of a row
+    pub block-outside : (w : ℕ) → ((i t : ℕ) → 64 * w ≤ t → N i t ≡ t0) → (j t : ℕ) → j < 12 → (t < 64 * (r / 64)) ⊎ (64 * w ≤ t)
+        → N (basisRow r j) t ≡ t0
+    block-outside w past j t f (inl g) = c .before j t f g
+    block-outside w past j t f (inr g) = past (basisRow r j) t g
+
+    pub block-ends : {C : Matrix} → Cleared r 12 b 0 b N C → AtEnds r b R A C
+    block-ends {C} g = record {
+      ends = λ i t l k. by i t l k (decLt i b) (decLt t (64 * (r / 64)));
+      kept = λ i l. g .kept i (inr (omega arith)) (inr l) ∙ c .kept i (inr l) ∙ among-high i (omega arith) ∙ stretch .rest i (omega arith);
+    }
+      where
+        above : (i t : ℕ) → i < r → i < b → C i t ≡ lessOf 12 (from b) (basis r N) (A i) t
+        above i t l f = ap (λ (v : Vector). v t) (g .cleared i (omega arith) f ∙ ap (lessOf 12 (from b) (basis r N)) (c .kept i (inl l) ∙ among-low i f))
+
+        by : (i t : ℕ) → i < r → (t < b) ⊎ (r ≤ t) → Dec (i < b) → Dec (t < 64 * (r / 64)) → C i t ≡ R i t
+        by i t l k (yes f) (no u) =
+            let s : 12 ≡ e - b = omega arith in
+            above i t l f
+            ∙ ap (subT (A i t)) (dot-right 12 (λ j. A i (b + j)) (λ j. N (basisRow r j) t) (λ j. R (b + j) t) (λ j x. block-row j t x (omega arith)))
+            ∙ ap (λ (x : ℕ). lessOf x (from b) (rowsFrom b R) (A i) t) s ∙ ap (λ (v : Vector). v t) (sym (stretch .less i f))
+        by i t l (inl k) (yes f) (yes u) =
+            above i t l f
+            ∙ ap (subT (A i t))
+            (dot-zero 12 (λ j. A i (b + j)) (λ j. N (basisRow r j) t) (λ j x. ap (mulT (A i (b + j))) (c .before j t x u) ∙ mul-zero (A i (b + j))))
+            ∙ add-zero-r (A i t) ∙ sym (stretch-left stretch i t f k)
+        by i t l (inr k) (yes f) (yes u) = absurd (omega arith)
+        by i t l k (no f) u = ap (λ (v : Vector). v t) (g .kept i (inr (omega arith)) (inl l) ∙ c .kept i (inl l) ∙ among-high i (omega arith))
 
 -- ---- the pass
 
 -- where it stands: the first e columns of B are still to be cleared
 pub record Rising (r e : ℕ) (A B : Matrix) : Type 0 where
   pub few : e ≤ r
-  pub todo : (i : ℕ) → i < r → raised (range r) r A i ≡ raised (range r) e B i
+  pub todo : (i t : ℕ) → i < r → r ≤ t → raised (range r) r A i t ≡ raised (range r) e B i t
   pub triangular : Triangular e B
   pub kept : (i : ℕ) → r + 243 ≤ i → B i ≡ A i
 
 pub rising-none : (r : ℕ) (A : Matrix) → ((c : ℕ) → c < r → A c c ≡ t1) → ((c i : ℕ) → c < i → i < r → A i c ≡ t0) → Rising r r A A
-rising-none r A one none = record { few = omega arith; todo = λ i h. refl; triangular = record { one = one; none = none }; kept = λ i h. refl }
+rising-none r A one none = record { few = omega arith; todo = λ i t h l. refl; triangular = record { one = one; none = none }; kept = λ i h. refl }
 
-pub rising-turn : {r e : ℕ} {A B C : Matrix} (b : ℕ) → Rising r e A B → b ≤ e → Front r (risen (e - b) b B) B C → Rising r b A C
+pub rising-turn : {r e : ℕ} {A B C : Matrix} (b : ℕ) → Rising r e A B → b ≤ e → AtEnds r b (risen (e - b) b B) B C → Rising r b A C
 rising-turn {r} {e} {A} {B} {C} b g h f = record {
   few = omega (arith, g .few);
-  todo = λ i l.
-      g .todo i l ∙ ap (λ (n : ℕ). raised (range r) n B i) whole
-      ∙ ap (λ (D : Matrix). D i) (raised-stretch (range r) (e - b) b B (λ c m. range-at r c (omega (arith, g .few))))
-      ∙ raised-front (range r) r b (risen (e - b) b B) C (omega (arith, g .few)) (λ k m. sym (f .front k m)) i l;
+  todo = λ i t l m.
+      g .todo i t l m ∙ ap (λ (n : ℕ). raised (range r) n B i t) whole
+      ∙ ap (λ (D : Matrix). D i t) (raised-stretch (range r) (e - b) b B (λ c k. range-at r c (omega (arith, g .few))))
+      ∙ raised-agree (λ t. (t < b) ⊎ (r ≤ t)) (range r) r b (risen (e - b) b B) C (omega (arith, g .few))
+      (λ j k. inl (omega (arith, range-at r j (omega (arith, g .few))))) (λ k q x y. sym (f .ends k q x y)) i t l (inr m);
   triangular = record {
     one = λ c l. same c c l l ∙ g .triangular .one c (omega arith);
     none = λ c i l m. same i c m (omega arith) ∙ g .triangular .none c i l (omega arith);
@@ -171,9 +202,14 @@ rising-turn {r} {e} {A} {B} {C} b g h f = record {
 
     same : (i t : ℕ) → i < b → t < b → C i t ≡ B i t
     same i t l m =
-        ap (λ (v : Vector). v t) (f .front i (omega (arith, g .few)))
+        f .ends i t (omega (arith, g .few)) (inl m)
         ∙ stretch-left (stretch-of (e - b) b B (subst (λ (n : ℕ). Triangular n B) whole (g .triangular))) i t l m
 
-pub rising-done : {r e : ℕ} {A B : Matrix} → Rising r e A B → e ≡ 0 → Front r (raised (range r) r A) A B
+-- no column is left to be cleared
+pub rising-done : {r : ℕ} {A B : Matrix} → Rising r 0 A B → AtEnds r 0 (raised (range r) r A) A B
 unfolding raised
-rising-done {r} {e} {A} {B} g z = record { front = λ i h. sym (g .todo i h ∙ ap (λ (n : ℕ). raised (range r) n B i) z); kept = g .kept }
+rising-done {r} {A} {B} g = record { ends = λ i t h. by i t h; kept = g .kept }
+  where
+    by : (i t : ℕ) → i < r → (t < 0) ⊎ (r ≤ t) → B i t ≡ raised (range r) r A i t
+    by i t h (inl l) = absurd (omega arith)
+    by i t h (inr l) = sym (g .todo i t h l)

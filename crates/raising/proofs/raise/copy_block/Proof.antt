@@ -1,10 +1,12 @@
--- Each turn copies one row more (`copied-turn`): the block's rows stand apart from each other and from the rows that are copied.
+-- Each turn makes one row of the block 0 and copies words to it (`copied-turn`): the block's rows stand apart from each other and from the rows that are
+-- copied.
 -- Assumes nothing.
 use Prim.Native.Nat.{_-_, _≤_}
 use native.Mathlib.Omega.{arith}
 use denote.Ref.{now}
 use Rattle.trits.specs.Rows.{matrixAt}
 use Rattle.grid.specs.Steps.{Rows}
+use Rattle.grid.proofs.Cells.{cell-past}
 use Rattle.blocks.proofs.Bring.{rows-most, basis-past, basis-in}
 use Rattle.raising.specs.Steps.{Copied}
 use Rattle.raising.proofs.Copies.{copied-none, copied-turn, copied-done}
@@ -12,17 +14,20 @@ use Rattle.raising.proofs.raise.copy_block.Statement.{statement}
 use Rattle.raising.proofs.raise.copy_block.Tie as tie
 
 abbrev Inv-loop : tie.InvT-loop
-Inv-loop ones₀ twos₀ rows w r k c j₀ ones twos j = (j ≤ k) × (Rows ones twos rows w × Copied r j c (matrixAt w ones₀ twos₀) (matrixAt w ones twos))
+Inv-loop ones₀ twos₀ rows w f r c j₀ ones twos j = (j ≤ 12) × (Rows ones twos rows w × Copied f r j c (matrixAt w ones₀ twos₀) (matrixAt w ones twos))
 
 abbrev μ-loop : tie.MeasureT-loop
-μ-loop ones₀ twos₀ rows w r k c j₀ ones twos j = k - j
+μ-loop ones₀ twos₀ rows w f r c j₀ ones twos j = 12 - j
 
 -- The places that the answers look back to, each from a later one.
-abbrev in-loop-from-copy-row-arg2 : tie.After-copy-row-arg2 Inv-loop μ-loop → tie.In-loop Inv-loop μ-loop
-in-loop-from-copy-row-arg2 c = c .before .before .before
-
 abbrev start-from-in-loop : tie.In-loop Inv-loop μ-loop → tie.Start Inv-loop μ-loop
 start-from-in-loop c = c .before .before .before .before
+
+abbrev basis-row-from-zero-row-arg2 : tie.After-zero-row-arg2 Inv-loop μ-loop → tie.After-basis-row Inv-loop μ-loop
+basis-row-from-zero-row-arg2 c = c .before .before
+
+abbrev zero-row-from-copy-words-arg2 : tie.After-copy-words-arg2 Inv-loop μ-loop → tie.After-zero-row Inv-loop μ-loop
+zero-row-from-copy-words-arg2 c = c .before .before .before .before .before .before
 
 abbrev start-from-after-loop : tie.After-loop Inv-loop μ-loop → tie.Start Inv-loop μ-loop
 start-from-after-loop c = c .before .before .before .before
@@ -31,25 +36,36 @@ loop-holds : tie.Need-loop-holds Inv-loop μ-loop
 loop-holds c =
     let s = c .before .before in
     let a = s .args in
-    (omega arith, (s .pre .grid, copied-none (a .r) (a .c) (matrixAt (a .w) (now (a .ones)) (now (a .twos)))))
+    (omega arith, (s .pre .grid, copied-none (a .f) (a .r) (a .c) (matrixAt (a .w) (now (a .ones)) (now (a .twos)))))
 
 basis-row-requires : tie.Need-basis-row-requires Inv-loop μ-loop
 basis-row-requires c κs =
     let s = start-from-in-loop c in
-    (omega (arith, rows-most (s .pre .grid) (omega (arith, s .pre .columns)), s .pre .small, s .pre .room), omega (arith, s .pre .few))
+    (omega (arith, rows-most (s .pre .grid) (s .pre .some), s .pre .small, s .pre .room), omega arith)
 
-add-copy-row : tie.Need-add-copy-row Inv-loop μ-loop
-add-copy-row c = omega (arith, start-from-in-loop (in-loop-from-copy-row-arg2 c) .pre .stretch)
+zero-row-requires : tie.Need-zero-row-requires Inv-loop μ-loop
+zero-row-requires c κs =
+    let after-basis-row = basis-row-from-zero-row-arg2 c in
+    let s = start-from-in-loop (after-basis-row .before) in
+    let l = after-basis-row .before .before .loop in
+    (l .inv .1 .0, omega (arith, after-basis-row .basis-row .ensures, basis-in (s .args .r) (l .j) (omega arith), s .pre .room))
 
-copy-row-requires : tie.Need-copy-row-requires Inv-loop μ-loop
-copy-row-requires c κs =
-    let in-loop = in-loop-from-copy-row-arg2 c in
-    let s = start-from-in-loop in-loop in
-    let l = in-loop .before .loop in
-    let e = c .before .before .basis-row .ensures in record {
-      grid = l .inv .1 .0;
-      i-in = omega (arith, e, basis-in (s .args .r) (l .j) (omega (arith, s .pre .few)), s .pre .room);
-      j-in = omega (arith, s .pre .stretch, s .pre .room);
+add-copy-words : tie.Need-add-copy-words Inv-loop μ-loop
+add-copy-words c =
+    let after-basis-row = basis-row-from-zero-row-arg2 (zero-row-from-copy-words-arg2 c .before) in
+    omega (arith, start-from-in-loop (after-basis-row .before) .pre .stretch)
+
+copy-words-requires : tie.Need-copy-words-requires Inv-loop μ-loop
+copy-words-requires c κs =
+    let after-zero-row = zero-row-from-copy-words-arg2 c in
+    let after-basis-row = basis-row-from-zero-row-arg2 (after-zero-row .before) in
+    let s = start-from-in-loop (after-basis-row .before) in
+    let l = after-basis-row .before .before .loop in
+    let e = after-basis-row .basis-row .ensures in record {
+      grid = after-zero-row .zero-row .ensures .rows;
+      width = omega arith;
+      d-in = omega (arith, e, basis-in (s .args .r) (l .j) (omega arith), s .pre .room);
+      i-in = omega (arith, s .pre .stretch, s .pre .room);
       apart = λ z. omega (arith, z, e, basis-past (s .args .r) (l .j), s .pre .stretch);
     }
 
@@ -61,13 +77,19 @@ loop-less c = omega arith
 
 loop-again : tie.Need-loop-again Inv-loop μ-loop
 loop-again c =
-    let after-copy-row = c .before .before .before .before in
-    let after-basis-row = after-copy-row .before .before .before in
+    let after-copy-words = c .before .before .before .before in
+    let after-zero-row = zero-row-from-copy-words-arg2 (after-copy-words .before) in
+    let after-basis-row = basis-row-from-zero-row-arg2 (after-zero-row .before) in
     let s = start-from-in-loop (after-basis-row .before) in
+    let a = s .args in
     let l = after-basis-row .before .before .loop in
-    let d = after-copy-row .copy-row .ensures in (
+    let d = after-copy-words .copy-words .ensures in (
       omega arith,
-      (d .rows, copied-turn (l .inv .1 .1) (omega (arith, s .pre .few)) (omega (arith, s .pre .stretch)) (after-basis-row .basis-row .ensures) d),
+      (
+        d .rows,
+        copied-turn (cell-past (a .w) (now (a .ones)) (now (a .twos))) (l .inv .1 .1) (omega arith) (omega (arith, s .pre .stretch))
+            (after-basis-row .basis-row .ensures) (after-zero-row .zero-row .ensures .cells) d,
+      ),
     )
 
 same-length : tie.Need-same-length Inv-loop μ-loop
@@ -93,8 +115,9 @@ copy-block-spec =
     μ-loop
     loop-holds
     basis-row-requires
-    add-copy-row
-    copy-row-requires
+    zero-row-requires
+    add-copy-words
+    copy-words-requires
     add-j
     loop-less
     loop-again

@@ -28,7 +28,7 @@ fn calls(seed: u64, count: u64, words: &[String]) -> bool {
     let libraries: Vec<String> = words.iter().filter(|w| !w.starts_with("--")).cloned().collect();
     let archives = archive::Archives::load(&libraries, seed ^ 0xA5A5);
     let mut c = compare::Comparer::new(archives, rng::Rng::new(seed), flag("--trace"));
-    let parts: [(&str, &dyn Fn(&mut compare::Comparer)); 18] = [
+    let parts: [(&str, &dyn Fn(&mut compare::Comparer)); 19] = [
         ("worked cases", &worked::cases),
         ("packing calls", &plan::packing),
         ("last bytes", &plan::last_bytes),
@@ -44,6 +44,7 @@ fn calls(seed: u64, count: u64, words: &[String]) -> bool {
         ("builds and draws", &plan::editor),
         ("gaps", &plan::gaps),
         ("blocks of pivots", &plan::blocks),
+        ("late ranks", &plan::late_ranks),
         ("many rows", &|c| plan::many_rows(c, flag("--long"))),
         ("round trips", &|c| plan::round_trips(c, flag("--long"))),
         ("by chance", &|c| plan::chance(c, count)),

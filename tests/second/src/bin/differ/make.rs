@@ -255,6 +255,17 @@ impl SecretPlanes {
         }
     }
 
+    /// H_U and H_V are 0 in their first columns, so many in each.
+    pub fn late(rng: &mut Rng, shape: &Shape, first: usize) -> SecretPlanes {
+        let half = shape.n / 2;
+        SecretPlanes {
+            hu: late_planes(rng, half - shape.ku, half, first),
+            hv: late_planes(rng, half - shape.kv, half, first),
+            b: rng.planes(1, half),
+            c: rng.full_planes(1, half),
+        }
+    }
+
     pub fn secret(&self, shape: &Shape) -> Secret {
         let half = shape.n / 2;
         Secret {
@@ -281,6 +292,15 @@ fn poor_planes(rng: &mut Rng, rows: usize, m: usize) -> Pair {
                 row[q] = times * row[from] % 3;
             }
         }
+    }
+    planes(&trits)
+}
+
+fn late_planes(rng: &mut Rng, rows: usize, m: usize, first: usize) -> Pair {
+    let (ones, twos) = rng.mixed_planes(rows, m);
+    let mut trits = read(&ones, &twos, rows, m);
+    for row in &mut trits {
+        row[..first].fill(0);
     }
     planes(&trits)
 }

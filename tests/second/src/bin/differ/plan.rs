@@ -271,6 +271,23 @@ pub fn blocks(c: &mut Comparer) {
     }
 }
 
+/// Ranks that only columns past the first words of the rows have: so many first columns are 0, or one fewer or more, that the others have
+/// full rank, or lack a part of it.
+pub fn late_ranks(c: &mut Comparer) {
+    for (ru, rv) in [(1, 1), (5, 12), (12, 13), (30, 2), (64, 25), (70, 70)] {
+        for half in [193, 256, 300, 320] {
+            let (ku, kv) = (half - ru, half - rv);
+            let most = half - ru.max(rv);
+            for first in [64, 127, 128, 129, 192, most - 4, most, most + 1, half - 1].into_iter().filter(|first| *first < half) {
+                let shape = Shape { n: 2 * half, ku, kv, gv: c.rng.gap(kv), gu: c.rng.gap(ku) };
+                let late = SecretPlanes::late(&mut c.rng, &shape, first);
+                let case = make::build_of(&mut c.rng, &shape, &late, 1);
+                c.compare(&case, &[]);
+            }
+        }
+    }
+}
+
 /// The case is answered by this number.
 pub fn answers(c: &mut Comparer, case: &Case, rule: u64) {
     let found = c.compare(case, &[]).refusal();

@@ -60,7 +60,6 @@ pub record ForCopyBlock (ones twos : List ℕ) (rows w r c : ℕ) : Type 0 where
 pub record ForRaiseBlock (ones twos : List ℕ) (rows w r b e : ℕ) : Type 0 where
   pub grid : Rows ones twos rows w
   pub small : length ones ≤ 4294967296
-  pub narrow : w ≤ 65536
   pub room : r + 243 ≤ rows
   pub columns : e ≤ 64 * w
   pub ordered : b ≤ e
@@ -72,7 +71,6 @@ pub record ForRaiseBlock (ones twos : List ℕ) (rows w r b e : ℕ) : Type 0 wh
 pub record ForRaise (ones twos : List ℕ) (rows w r : ℕ) : Type 0 where
   pub grid : Rows ones twos rows w
   pub small : length ones ≤ 4294967296
-  pub narrow : w ≤ 65536
   pub room : r + 243 ≤ rows
   pub columns : r ≤ 64 * w
   pub one : (c : ℕ) → c < r → matrixAt w ones twos c c ≡ t1

@@ -52,7 +52,6 @@ pub record ForTakeRows (ones twos : List ℕ) (rows w f v r c a b : ℕ) : Type 
 pub record ForClearByTables (ones twos : List ℕ) (rows w f v r c a b : ℕ) : Type 0 where
   pub grid : Rows ones twos rows w
   pub small : length ones ≤ 4294967296
-  pub narrow : w ≤ 65536
   pub room : r + 243 ≤ rows
   pub ordered : a ≤ b
   pub end : b ≤ r

@@ -17,7 +17,6 @@ clear-by-tables-requires c κs =
     let p = start-from-then1 then1 .pre in record {
       grid = p .grid;
       small = p .small;
-      narrow = p .narrow;
       room = p .room;
       ordered = p .ordered;
       end = p .end;

@@ -32,7 +32,6 @@ raise-requires c κs =
     let f = e .0 in record {
       grid = g;
       small = omega (arith, g .size, s .pre .grid .size, s .pre .small);
-      narrow = s .pre .narrow;
       room = s .pre .room;
       columns = omega (arith, f .fits, s .pre .places-fit, s .pre .half-fits, s .pre .words);
       one = diagonal-one f;

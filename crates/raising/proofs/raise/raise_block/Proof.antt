@@ -80,7 +80,6 @@ clear-by-tables-requires c κs =
     let d = after-copy-block .copy-block .ensures in record {
       grid = d .0;
       small = omega (arith, d .0 .size, p .grid .size, p .small);
-      narrow = p .narrow;
       room = p .room;
       ordered = omega arith;
       end = omega (arith, p .ordered, p .end);

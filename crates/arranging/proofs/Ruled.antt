@@ -23,8 +23,8 @@ use Rattle.arranging.specs.Columns.{exchanged, columnRule}
 use Rattle.arranging.proofs.Rule.{rule-kept, rule-turned, rule-stop}
 
 -- the columns of A are those of D at the places of the order p
-abbrev pub Placed : ℕ → ℕ → Matrix → Matrix → List ℕ → Type 0
-Placed r n A D p = (i t : ℕ) → i < r → t < n → A i t ≡ D i (getD p t 0)
+abbrev pub InOrder : ℕ → ℕ → Matrix → Matrix → List ℕ → Type 0
+InOrder r n A D p = (i t : ℕ) → i < r → t < n → A i t ≡ D i (getD p t 0)
 
 -- an exchanged order, place by place
 swap-at : (p : List ℕ) (j l : ℕ) → j < length p → l < length p → (t : ℕ) → getD (swap j l p) t 0 ≡ getD p (other j l t) 0
@@ -46,13 +46,13 @@ pub record Ruled (r n : ℕ) (H : Matrix) (start : List ℕ) (kept : ℕ) (order
   pub fits : r ≤ n
   pub places : Matrix
   pub lowered : Lowered r n H places (take r order)
-  pub placed : Placed r n B places order
+  pub placed : InOrder r n B places order
 
 module _ (r n : ℕ) (H : Matrix) (start : List ℕ) (reach : Reaches r n H) where
   abbrev End : ℕ → ℕ → Matrix → List ℕ → Type 0
   End f j A p = let s = columnRule r f j A p in Ruled r n H start (s .kept) (s .order) (s .cells)
 
-  ended : (f : ℕ) (A D : Matrix) (p : List ℕ) → State r n H start f r p D → Placed r n A D p → Ruled r n H start r p A
+  ended : (f : ℕ) (A D : Matrix) (p : List ℕ) → State r n H start f r p D → InOrder r n A D p → Ruled r n H start r p A
   ended f A D p t z = record {
     full = refl;
     ordered = sym (ap (λ (a : Arrangement). a .order) (finished r n H start f p D t));
@@ -64,12 +64,12 @@ module _ (r n : ℕ) (H : Matrix) (start : List ℕ) (reach : Reaches r n H) whe
   }
 
   -- every row has its pivot
-  stopped : (f j : ℕ) (A D : Matrix) (p : List ℕ) → State r n H start f j p D → Placed r n A D p → j ≡ r → End f j A p
+  stopped : (f j : ℕ) (A D : Matrix) (p : List ℕ) → State r n H start f j p D → InOrder r n A D p → j ≡ r → End f j A p
   stopped f j A D p t z e =
       subst (λ (k : ℕ). End f k A p) (sym e)
       (rw (rule-stop r f A p) (ended f A D p (subst (λ (k : ℕ). State r n H start f k p D) e t) z))
 
-  rules : (f j : ℕ) (A D : Matrix) (p : List ℕ) → j ≤ r → State r n H start f j p D → Placed r n A D p → End f j A p
+  rules : (f j : ℕ) (A D : Matrix) (p : List ℕ) → j ≤ r → State r n H start f j p D → InOrder r n A D p → End f j A p
   rules zero j A D p h t z = by (ℕ-discrete j r)
     where
       by : Dec (j ≡ r) → End 0 j A p
@@ -80,9 +80,9 @@ module _ (r n : ℕ) (H : Matrix) (start : List ℕ) (reach : Reaches r n H) whe
       (rules f j (exchanged j (j + f) A) D (swap j (j + f) p) h)
     where
       go : Dec (j ≡ r) → (b : Bool) → hasPivot r j (getD p j 0) D ≡ b
-          → (suc j ≤ r → State r n H start f (suc j) p (stepOf r j (getD p j 0) D) → Placed r n (stepOf r j j A) (stepOf r j (getD p j 0) D) p
+          → (suc j ≤ r → State r n H start f (suc j) p (stepOf r j (getD p j 0) D) → InOrder r n (stepOf r j j A) (stepOf r j (getD p j 0) D) p
           → End f (suc j) (stepOf r j j A) p)
-          → (State r n H start f j (swap j (j + f) p) D → Placed r n (exchanged j (j + f) A) D (swap j (j + f) p)
+          → (State r n H start f j (swap j (j + f) p) D → InOrder r n (exchanged j (j + f) A) D (swap j (j + f) p)
           → End f j (exchanged j (j + f) A) (swap j (j + f) p)) → End (suc f) j A p
       go (yes e) b k kept turn = stopped (suc f) j A D p t z e
       go (no e) true k kept turn =
@@ -101,7 +101,7 @@ module _ (r n : ℕ) (H : Matrix) (start : List ℕ) (reach : Reaches r n H) whe
           rw (rule-turned r f j A p l (has-alike r j (getD p j 0) A D (λ i y. z i j y m) j ∙ k))
           (turn (turned r n H start f j p D t e (has-none r j (getD p j 0) D k)) (placed-turned l m))
         where
-          placed-turned : j < r → j < n → Placed r n (exchanged j (j + f) A) D (swap j (j + f) p)
+          placed-turned : j < r → j < n → InOrder r n (exchanged j (j + f) A) D (swap j (j + f) p)
           placed-turned l m i u y v =
               z i (other j (j + f) u) y (other-below u v)
               ∙ ap (D i) (sym (swap-at p j (j + f) (omega (arith, t .order-ok .size)) (omega (arith, t .order-ok .size, t .room)) u))
@@ -116,7 +116,7 @@ module _ (r n : ℕ) (H : Matrix) (start : List ℕ) (reach : Reaches r n H) whe
 
 -- from the start
 pub ruled : (r : ℕ) (H A : Matrix) (start : List ℕ) → Order (length start) start → rank r (length start) H (range (length start)) ≡ r
-    → Placed r (length start) A H start
+    → InOrder r (length start) A H start
     → let s = columnRule r (length start) 0 A start in Ruled r (length start) H start (s .kept) (s .order) (s .cells)
 ruled r H A start o full z =
     rules r (length start) H start (full-reaches r (length start) H .0 full) (length start) 0 A H start (omega arith) (begin r (length start) H start o) z

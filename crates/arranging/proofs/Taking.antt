@@ -20,8 +20,8 @@ use Rattle.matrix.proofs.Blocks.{pending-none, pending-done, pending-later, nex
 use Rattle.grid.specs.Steps.{other}
 use Rattle.scheme.specs.Build.{swap}
 use Rattle.scheme_laws.proofs.Build.{swap-length}
-use Rattle.arranging.specs.Columns.{exchanged, standing, columnRule, Alike, most, PivotsTaken, Arranged}
-use Rattle.arranging.proofs.Rule.{alike-trans, alike-same, rule-kept, rule-turned, rule-stop, rule-some, rule-front}
+use Rattle.arranging.specs.Columns.{exchanged, standing, columnRule, SameEnd, most, PivotsTaken, Arranged}
+use Rattle.arranging.proofs.Rule.{end-trans, end-same, rule-kept, rule-turned, rule-stop, rule-some, rule-front}
 
 -- ---- columns exchanged after the block's own
 
@@ -43,7 +43,7 @@ module _ (at k b : ℕ) (h : at + k ≤ b) where
 
 pub taking-none : (r at left : ℕ) (p : List ℕ) (A : Matrix) → at + left ≤ length p → PivotsTaken r at 0 left left p p A A
 taking-none r at left p A h = record {
-  todo = alike-same (ap₂ (λ (n : ℕ) (B : Matrix). columnRule r left n B p) (omega arith) (pending-none at at (basis r A) A));
+  todo = end-same (ap₂ (λ (n : ℕ) (B : Matrix). columnRule r left n B p) (omega arith) (pending-none at at (basis r A) A));
   size = refl;
   room = omega arith;
   unit = λ j l x y. absurd (omega arith);
@@ -65,11 +65,11 @@ module _ {r at k left n : ℕ} {p q : List ℕ} {A M : Matrix} (g : PivotsTaken 
 
     pub taking-pivot : {t : Bool} {B : Matrix} → NextPivot t r at k at M B → t ≡ true → PivotsTaken r at (k + 1) left (n - 1) p q A B
     taking-pivot {t} {B} x e = subst (λ (m : ℕ). PivotsTaken r at m left (n - 1) p q A B) (sym (add-one k)) (record {
-      todo = alike-trans (subst (λ (m : ℕ). Alike r (columnRule r (n - 1) m (pending at (suc k) at (basis r B) B) q) (columnRule r (n - 1) (suc (at + k))
+      todo = end-trans (subst (λ (m : ℕ). SameEnd r (columnRule r (n - 1) m (pending at (suc k) at (basis r B) B) q) (columnRule r (n - 1) (suc (at + k))
           (stepOf r (at + k) (at + k) now) q)) (omega arith)
           (rule-front r (n - 1) (suc (at + k)) (pending at (suc k) at (basis r B) B) (stepOf r (at + k) (at + k) now) q (omega arith)
           (next-later y (g .unit))))
-          (alike-trans (alike-same (sym (rule-kept r (n - 1) (at + k) now q h (sym (y .answer))) ∙ sym one)) (g .todo));
+          (end-trans (end-same (sym (rule-kept r (n - 1) (at + k) now q h (sym (y .answer))) ∙ sym one)) (g .todo));
       size = g .size;
       room = omega (arith, g .room);
       unit = next-unit y (g .unit);
@@ -83,7 +83,7 @@ module _ {r at k left n : ℕ} {p q : List ℕ} {A M : Matrix} (g : PivotsTaken 
     pub taking-turn : {t : Bool} {M′ B : Matrix} {q′ : List ℕ} → NextPivot t r at k at M M′ → t ≡ false → B ≡ exchanged (at + k) (at + k + (n - 1)) M′
         → q′ ≡ swap (at + k) (at + k + (n - 1)) q → PivotsTaken r at k left (n - 1) p q′ A B
     taking-turn {t} {M′} {B} {q′} x e f s = record {
-      todo = alike-trans (alike-same (ap₂ (λ (B : Matrix) (l : List ℕ). columnRule r (n - 1) (at + k) (pending at k at (basis r B) B) l) same s
+      todo = end-trans (end-same (ap₂ (λ (B : Matrix) (l : List ℕ). columnRule r (n - 1) (at + k) (pending at k at (basis r B) B) l) same s
           ∙ ap (λ (B : Matrix). columnRule r (n - 1) (at + k) B (swap (at + k) (at + k + (n - 1)) q)) (pending-exchanged at k b (omega arith) r M)
           ∙ sym (rule-turned r (n - 1) (at + k) now q h none) ∙ sym one)) (g .todo);
       size = ap (λ (l : List ℕ). length l) s ∙ swap-length q (at + k) b (omega (arith, g .room, g .size)) (omega (arith, g .room, g .size)) ∙ g .size;
@@ -131,19 +131,19 @@ block-taken {r} {at} {k} {left} {n} {p} {q} {A} {B} e g = subst (λ (j : ℕ). P
 
 -- where it stands: the first `at` columns are kept, and left are untried
 pub record Going (r : ℕ) (A : Matrix) (p : List ℕ) (left at : ℕ) (M : Matrix) (q : List ℕ) : Type 0 where
-  pub todo : Alike r (columnRule r left at M q) (columnRule r (length p) 0 A p)
+  pub todo : SameEnd r (columnRule r left at M q) (columnRule r (length p) 0 A p)
   pub size : length q ≡ length p
   pub room : at + left ≤ length p
   pub few : at ≤ r
   pub low : (i t : ℕ) → at ≤ i → i < r → t < at → M i t ≡ t0
 
 pub going-none : (r : ℕ) (A : Matrix) (p : List ℕ) → Going r A p (length p) 0 A p
-going-none r A p = record { todo = alike-same refl; size = refl; room = omega arith; few = omega arith; low = λ i t x y z. absurd (omega arith) }
+going-none r A p = record { todo = end-same refl; size = refl; room = omega arith; few = omega arith; low = λ i t x y z. absurd (omega arith) }
 
 pub going-block : {r : ℕ} {A : Matrix} {p : List ℕ} {left n at k : ℕ} {L M B : Matrix} {q q′ : List ℕ} → Going r A p left at L q
     → PivotsTaken r at k left n q q′ L M → at + k ≤ r → Cleared r k at (at + k) r M B → Going r A p n (at + k) B q′
 going-block {r} {A} {p} {left} {n} {at} {k} {L} {M} {B} {q} {q′} g x h d = record {
-  todo = alike-trans (rule-front r n (at + k) B (pending at k at (basis r M) M) q′ h row) (alike-trans (x .todo) (g .todo));
+  todo = end-trans (rule-front r n (at + k) B (pending at k at (basis r M) M) q′ h row) (end-trans (x .todo) (g .todo));
   size = x .size ∙ g .size;
   room = omega (arith, x .room, g .size);
   few = h;
@@ -174,6 +174,6 @@ pub going-done : {r : ℕ} {A : Matrix} {p : List ℕ} {left at : ℕ} {M : Matr
     → Arranged r (columnRule r (length p) 0 A p) M q
 going-done {r} {A} {p} {left} {at} {M} {q} g h =
     let e : at ≡ r = omega (arith, g .few) in
-    let z : Alike r (standing r M q) (columnRule r (length p) 0 A p) =
-    alike-trans (alike-same (sym (ap (λ (j : ℕ). columnRule r left j M q) e ∙ rule-stop r left M q))) (g .todo) in
+    let z : SameEnd r (standing r M q) (columnRule r (length p) 0 A p) =
+    end-trans (end-same (sym (ap (λ (j : ℕ). columnRule r left j M q) e ∙ rule-stop r left M q))) (g .todo) in
     record { order = z .order; cells = z .cells }

@@ -39,7 +39,7 @@ columnRule r (suc f) j A p =
     (cond (hasPivot r j j A) (columnRule r f (suc j) (stepOf r j j A) p) (columnRule r f j (exchanged j (j + f) A) (swap j (j + f) p)))
 
 -- the same order and count, and the same first r rows
-pub record Alike (r : ℕ) (s s′ : Standing) : Type 0 where
+pub record SameEnd (r : ℕ) (s s′ : Standing) : Type 0 where
   pub kept : s .kept ≡ s′ .kept
   pub order : s .order ≡ s′ .order
   pub cells : (i : ℕ) → i < r → s .cells i ≡ s′ .cells i
@@ -51,7 +51,7 @@ most r at = cond (ltb 12 (r - at)) 12 (r - at)
 -- k pivots of a block that begins at row and column `at` are taken, and n columns are left: what is to come leads to the same end; the block's rows are
 -- the identity at its columns, and where the rows from `at` on were 0 before column `at`, they and the block's rows are
 pub record PivotsTaken (r at k left n : ℕ) (p q : List ℕ) (A B : Matrix) : Type 0 where
-  pub todo : Alike r (columnRule r n (at + k) (pending at k at (basis r B) B) q) (columnRule r left at A p)
+  pub todo : SameEnd r (columnRule r n (at + k) (pending at k at (basis r B) B) q) (columnRule r left at A p)
   pub size : length q ≡ length p
   pub room : at + k + n ≤ length p
   pub unit : UnitAt k (from at) (basis r B)

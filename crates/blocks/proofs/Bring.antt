@@ -1,87 +1,22 @@
--- Where a block's rows stand; a row less the block's rows, one after another. Assumes nothing.
-use mathlib.Core.Path.{_≡_, refl, sym, ap, ap₂, _∙_, fun-ext}
+-- A row less a block's rows, one after another. Assumes nothing.
+use mathlib.Core.Path.{_≡_, sym, ap, ap₂, _∙_, fun-ext}
 use mathlib.Core.List.{List}
 use mathlib.Core.Logic.{_≢_}
-use Prim.Native.Nat.{ℕ, zero, suc, _+_, _*_, _/_, _%_, _≤_, _<_}
-use native.Mathlib.Nat.{mul-le-mul-left}
+use Prim.Native.Nat.{ℕ, suc, _+_, _<_}
 use native.Mathlib.Decide.{ℕ-discrete}
 use native.Mathlib.Omega.{arith}
 use borrow.Author.Tests.{eq-eqb, ne-eqb}
-use lib.ListN.{length}
 use Rattle.trits.specs.Trit.{Trit, t0, t1, addT, subT, mulT, dotV}
 use Rattle.trits.specs.Rows.{matrixAt}
 use Rattle.trits.proofs.Products.{dot-zero}
 use Rattle.trits.proofs.Arithmetic.{add-zero-r, mul-zero}
 use Rattle.matrix.specs.Linear.{Vector, Matrix, zeros}
-use Rattle.matrix.specs.Blocks.{lessOf, UnitAt, pow3, basisRow, basis, from, brought}
+use Rattle.matrix.specs.Blocks.{lessOf, UnitAt, basisRow, basis, from, brought}
 use Rattle.matrix.proofs.Field.{law4}
 use Rattle.matrix.proofs.Dots.{put-other}
-use Rattle.matrix.proofs.Entries.{pow3-some}
-use Rattle.grid.specs.Steps.{Rows, Grid, clearRow}
+use Rattle.matrix.proofs.BasisRows.{basis-past}
+use Rattle.grid.specs.Steps.{Grid, clearRow}
 use Rattle.grid.proofs.Cells.{grid-to}
-
--- as many rows as words, at most
-pub rows-most : {o t : List ℕ} {rows w : ℕ} → Rows o t rows w → 0 < w → rows ≤ length o
-rows-most {rows = rows} {w} g h = omega (arith, g .size, mul-le-mul-left {m = 1} {n = w} rows h)
-
--- ---- where row j stands
-
-pub basis-at : (r j d p : ℕ) → j % 4 ≡ d → pow3 d ≡ p → (r + 81 * (j / 4)) + p ≡ basisRow r j
-unfolding basisRow
-basis-at r j d p e f = omega (arith, ap pow3 e, f)
-
-pub pow3-0 : pow3 0 ≡ 1
-unfolding pow3
-pow3-0 = refl
-
-pub pow3-1 : pow3 1 ≡ 3
-unfolding pow3
-pow3-1 = refl
-
-pub pow3-2 : pow3 2 ≡ 9
-unfolding pow3
-pow3-2 = refl
-
-pub pow3-3 : pow3 3 ≡ 27
-unfolding pow3
-pow3-3 = refl
-
--- after the r rows
-pub basis-past : (r j : ℕ) → r ≤ basisRow r j
-unfolding basisRow
-basis-past r j = omega arith
-
--- and in the tables
-pow3-most : (d : ℕ) → d < 4 → pow3 d ≤ 27
-pow3-most zero h = omega (arith, pow3-0)
-pow3-most (suc zero) h = omega (arith, pow3-1)
-pow3-most (suc (suc zero)) h = omega (arith, pow3-2)
-pow3-most (suc (suc (suc zero))) h = omega (arith, pow3-3)
-pow3-most (suc (suc (suc (suc d)))) h = absurd (omega arith)
-
-pub basis-in : (r j : ℕ) → j < 12 → basisRow r j < r + 243
-unfolding basisRow
-basis-in r j h = omega (arith, pow3-most (j % 4) (omega arith))
-
--- one after another
-pow3-less : (d e : ℕ) → d < e → pow3 d < pow3 e
-unfolding pow3
-pow3-less d zero h = absurd (omega arith)
-pow3-less d (suc e) h = by (pow3-less d e) (ℕ-discrete d e)
-  where
-    by : (d < e → pow3 d < pow3 e) → Dec (d ≡ e) → pow3 d < 3 * pow3 e
-    by g (yes z) = omega (arith, ap pow3 z, pow3-some e)
-    by g (no f) = omega (arith, g (omega (arith, f)))
-
-pub basis-less : (r l j : ℕ) → l < j → basisRow r l < basisRow r j
-unfolding basisRow
-basis-less r l j h = by (ℕ-discrete (l / 4) (j / 4))
-  where
-    by : Dec (l / 4 ≡ j / 4) → r + (81 * (l / 4) + pow3 (l % 4)) < r + (81 * (j / 4) + pow3 (j % 4))
-    by (yes e) = omega (arith, e, pow3-less (l % 4) (j % 4) (omega (arith, e)))
-    by (no f) =
-        let n : l / 4 < j / 4 = omega (arith, f) in
-        omega (arith, n, pow3-most (l % 4) (omega arith), pow3-some (j % 4))
 
 -- ---- one row
 

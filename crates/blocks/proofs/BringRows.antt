@@ -10,7 +10,7 @@ use Rattle.trits.specs.Rows.{matrixAt}
 use Rattle.matrix.specs.Linear.{Vector, Matrix}
 use Rattle.matrix.specs.Blocks.{lessOf, UnitAt, basisRow, basis, from, brought, Cleared}
 use Rattle.grid.specs.Steps.{Rows, Grid}
-use Rattle.blocks.proofs.Bring.{basis-past}
+use Rattle.matrix.proofs.BasisRows.{basis-past}
 
 -- where it stands: the rows a .. i - 1 are cleared, and no other row is changed
 pub record Clearing (rows w r k c a i : ℕ) (A : Matrix) (ones twos : List ℕ) : Type 0 where

@@ -13,7 +13,7 @@ use Rattle.trits.specs.Planes.{bit, trit, zeroWords}
 use Rattle.trits.specs.Rows.{matrixAt}
 use Rattle.trits.proofs.Matrix.{row-le}
 use Rattle.trits.proofs.Parts.{length-mid, part-row}
-use Rattle.matrix.specs.Blocks.{Front, gathered}
+use Rattle.matrix.specs.Blocks.{Front, columnsBy}
 use Rattle.grid.specs.Steps.{Rows}
 use Rattle.grid.proofs.Cells.{cell-word}
 use Rattle.gathering.proofs.Both.{both-gathered}
@@ -37,7 +37,7 @@ module _ {order : List ℕ} {half hw w r rows : ℕ} {o₀ t₀ o₁ t : List �
   front-rows = record { row = part-row (g .row) 0 (r * w) (omega (arith, within)); size = length-mid 0 (r * w) o₀ (omega (arith, within)) }
 
   made : Rows o t rows w
-      × Front r (gathered (λ j. getD (columnsOf half hw order) j 0) (length order) (matrixAt w (take (r * w) o₀) (take (r * w) t₀))) (matrixAt w o₀ t₀)
+      × Front r (columnsBy (λ j. getD (columnsOf half hw order) j 0) (length order) (matrixAt w (take (r * w) o₀) (take (r * w) t₀))) (matrixAt w o₀ t₀)
       (matrixAt w o t)
   made =
       both-gathered (take (r * w) o₀) (take (r * w) t₀) (columnsOf half hw order) w r (length order) g front-rows room (columns-below halves)
@@ -53,15 +53,15 @@ module _ {order : List ℕ} {half hw w r rows : ℕ} {o₀ t₀ o₁ t : List �
       ∙ sym (cell-word w o₀ t₀ i q l)
 
   same-cell : (i j : ℕ) → i < r → Dec (j < length order)
-      → gathered (λ j. getD (columnsOf half hw order) j 0) (length order) (matrixAt w (take (r * w) o₀) (take (r * w) t₀)) i j
-      ≡ gathered (λ j. colOf half hw (getD order j 0)) (length order) (matrixAt w o₀ t₀) i j
+      → columnsBy (λ j. getD (columnsOf half hw order) j 0) (length order) (matrixAt w (take (r * w) o₀) (take (r * w) t₀)) i j
+      ≡ columnsBy (λ j. colOf half hw (getD order j 0)) (length order) (matrixAt w o₀ t₀) i j
   same-cell i j h (yes l) =
       rw (lt-ltb j (length order) l)
       (front-cell i (getD (columnsOf half hw order) j 0) h (columns-below halves j l) ∙ ap (matrixAt w o₀ t₀ i) (columns-at half hw order j l))
   same-cell i j h (no l) = rw (le-ltb j (length order) (omega arith)) refl
 
   pub both-own : Rows o t rows w
-      × Front r (gathered (λ j. colOf half hw (getD order j 0)) (length order) (matrixAt w o₀ t₀)) (matrixAt w o₀ t₀) (matrixAt w o t)
+      × Front r (columnsBy (λ j. colOf half hw (getD order j 0)) (length order) (matrixAt w o₀ t₀)) (matrixAt w o₀ t₀) (matrixAt w o t)
   both-own = (
     made .0,
     record { front = λ i h. made .1 .front i h ∙ fun-ext (λ j. same-cell i j h (decLt j (length order))); kept = made .1 .kept },

@@ -61,7 +61,7 @@ pub record ForPickOwn (work order : List ℕ) (half hw : ℕ) : Type 0 where
   pub places : (j : ℕ) → j < length order → getD order j 0 < half + half
 
 -- columns with room for a block after them, and places of them
-pub record ForPickBlock (work order : List ℕ) (half hw w c : ℕ) : Type 0 where
+pub record ForPickOwnBlock (work order : List ℕ) (half hw w c : ℕ) : Type 0 where
   pub room : 64 * w + 64 ≤ length work
   pub small : length work ≤ 4294967296
   pub column : c < w
@@ -79,7 +79,7 @@ pub record ForOwnRows (plane : List ℕ) (w r i e half hw : ℕ) (order : List �
   pub rows : EndOf i r e
 
 -- the same, and a word of them
-pub record ForOwnWord (plane : List ℕ) (w r i e half hw : ℕ) (order : List ℕ) (c : ℕ) : Type 0 where
+pub record ForGatherOwnWord (plane : List ℕ) (w r i e half hw : ℕ) (order : List ℕ) (c : ℕ) : Type 0 where
   pub plane-of : ForOwnPlane plane w r half hw order
   pub rows : EndOf i r e
   pub column : c < w

@@ -2,12 +2,12 @@
 ghost use mathlib.Core.Path.{_≡_};
 ghost use lib.ListN.{length, getD};
 ghost use Rattle.trits.specs.Rows.{matrixAt};
-ghost use Rattle.matrix.specs.Blocks.{Front, gathered};
+ghost use Rattle.matrix.specs.Blocks.{Front, columnsBy};
 ghost use Rattle.grid.specs.Steps.{Rows};
 ghost use Rattle.gathering.specs.Steps.{picked, Picked, TurnedPick};
 ghost use Rattle.build_matrix.specs.Steps.{colOf};
 ghost use Rattle.build_columns.specs.Steps.{columnsOf, OwnColumns, OwnWord, OwnRows};
-ghost use Rattle.build_columns.specs.Steps.{ForTurnOwn, ForPickOwn, ForPickBlock, ForOwnPlane, ForOwnRows, ForOwnWord, ForGatherOwn};
+ghost use Rattle.build_columns.specs.Steps.{ForTurnOwn, ForPickOwn, ForPickOwnBlock, ForOwnPlane, ForOwnRows, ForGatherOwnWord, ForGatherOwn};
 use super::column;
 
 // The columns of the 64 rows from row i on go to the words after r rows.
@@ -38,7 +38,7 @@ pub fn pick_own(work: &[u64], order: &[u16], half: usize, hw: usize, p: usize) -
 
 // The words of the columns at the 64 positions from 64 * c on, after the columns.
 pub fn pick_own_block(work: &mut [u64], order: &[u16], half: usize, hw: usize, w: usize, c: usize)
-    requires { ⌜ ForPickBlock (now work) (now order) half hw w c ⌝ }
+    requires { ⌜ ForPickOwnBlock (now work) (now order) half hw w c ⌝ }
     ensures { λ _. ⌜ Picked (columnsOf half hw (now (order .entry))) (length (now (order .entry))) w c (now (work .entry)) (now (work .exit)) ⌝ }
 {
     let mut x = 0;
@@ -51,7 +51,7 @@ pub fn pick_own_block(work: &mut [u64], order: &[u16], half: usize, hw: usize, w
 
 // Those words turned back: word c of each of the 64 rows.
 pub fn turn_own_pick(work: &mut [u64], order: &[u16], half: usize, hw: usize, w: usize, c: usize)
-    requires { ⌜ ForPickBlock (now work) (now order) half hw w c ⌝ }
+    requires { ⌜ ForPickOwnBlock (now work) (now order) half hw w c ⌝ }
     ensures { λ _. ⌜ TurnedPick (columnsOf half hw (now (order .entry))) (length (now (order .entry))) w c (now (work .entry)) (now (work .exit)) ⌝ }
 {
     pick_own_block(work, order, half, hw, w, c);
@@ -72,7 +72,7 @@ pub fn gather_own_word(
     order: &[u16],
     c: usize,
 )
-    requires { ⌜ ForOwnWord (now plane) w r i e half hw (now order) c ⌝ }
+    requires { ⌜ ForGatherOwnWord (now plane) w r i e half hw (now order) c ⌝ }
     ensures { λ _. ⌜ OwnWord w r i e (columnsOf half hw (now (order .entry))) (length (now (order .entry))) c (now (plane .entry)) (now (plane .exit)) ⌝ }
 {
     let a = r * w;
@@ -136,7 +136,7 @@ pub fn gather_own(
 )
     requires { ⌜ ForGatherOwn (now ones) (now twos) rows w r half hw (now order) ⌝ }
     ensures { λ _. ⌜ Rows (now (ones .exit)) (now (twos .exit)) rows w ⌝ }
-    ensures { λ _. ⌜ Front r (gathered (λ j. colOf half hw (getD (now (order .entry)) j 0)) (length (now (order .entry)))
+    ensures { λ _. ⌜ Front r (columnsBy (λ j. colOf half hw (getD (now (order .entry)) j 0)) (length (now (order .entry)))
         (matrixAt w (now (ones .entry)) (now (twos .entry)))) (matrixAt w (now (ones .entry)) (now (twos .entry)))
         (matrixAt w (now (ones .exit)) (now (twos .exit))) ⌝ }
 {
@@ -144,5 +144,5 @@ pub fn gather_own(
     gather_own_plane(twos, w, r, half, hw, order);
     let a = r * w;
     let z = a + 243 * w;
-    planes::words::zero_words(&mut ones[a..z]);
+    planes::words::zero_words(&mut ones[a..z]); // so that no place there is both 1 and 2
 }

@@ -9,13 +9,13 @@ use borrow.Author.Tests.{lt-ltb}
 use lib.Dec.{ltb}
 use lib.ListN.{length, getD, take}
 use lib.Seq.{getD-take, length-take-le}
-use Rattle.trits.specs.Trit.{t0, t1, subT, mulT}
+use Rattle.trits.specs.Trit.{subT, mulT}
 use Rattle.trits.specs.Rows.{matrixAt}
 use Rattle.matrix.specs.Linear.{Vector, Matrix, rank, range}
 use Rattle.matrix.specs.Orders.{Order}
 use Rattle.matrix.specs.Passes.{Lowered, Reduced}
 use Rattle.matrix.specs.Steps.{takeAbove, raised}
-use Rattle.matrix.specs.Blocks.{Front, gathered}
+use Rattle.matrix.specs.Blocks.{Front, columnsBy}
 use Rattle.matrix.proofs.Places.{elem-at}
 use Rattle.matrix.proofs.Greedy.{Kept}
 use Rattle.matrix.proofs.Orders.{order-good}
@@ -27,22 +27,22 @@ use Rattle.scheme_laws.proofs.Build.{arranged-good, reduced-key}
 use Rattle.build_matrix.specs.Steps.{colOf, placedAt}
 use Rattle.arranging.specs.Columns.{columnRule}
 use Rattle.arranging.specs.Columns as columns
-use Rattle.arranging.proofs.Ruled.{Placed, Ruled, ruled}
-use Rattle.raising.specs.Steps.{AtEnds}
+use Rattle.arranging.proofs.Ruled.{InOrder, Ruled, ruled}
+use Rattle.raising.specs.Steps.{AtEnds, Triangular}
 use Rattle.build_key.specs.Steps.{FirstPass, Keyed}
 
 -- ---- the columns gathered in the order stand for the places
 
 pub gathered-placed : (r half hw w : ℕ) (o t order : List ℕ) {A B : Matrix}
-    → Front r (gathered (λ j. colOf half hw (getD order j 0)) (length order) (matrixAt w o t)) A B → Placed r (length order) B (placedAt half hw w o t) order
+    → Front r (columnsBy (λ j. colOf half hw (getD order j 0)) (length order) (matrixAt w o t)) A B → InOrder r (length order) B (placedAt half hw w o t) order
 unfolding placedAt
 gathered-placed r half hw w o t order f i j h l = ap (λ (v : Vector). v j) (f .front i h) ∙ rw (lt-ltb j (length order) l)
 
 -- ---- the last pass on columns and on places
 
 module _ (r n : ℕ) (order : List ℕ) (fits : r ≤ n) (size : length order ≡ n) where
-  above-placed : (c : ℕ) (X Y : Matrix) → c < r → Placed r n X Y order
-      → Placed r n (takeAbove c (getD (range r) c 0) X) (takeAbove c (getD (take r order) c 0) Y) order
+  above-placed : (c : ℕ) (X Y : Matrix) → c < r → InOrder r n X Y order
+      → InOrder r n (takeAbove c (getD (range r) c 0) X) (takeAbove c (getD (take r order) c 0) Y) order
   above-placed c X Y h z i t l m =
       ap (λ (q : ℕ). takeAbove c q X i t) (range-at r c h) ∙ by (ltb i c) ∙ ap (λ (q : ℕ). takeAbove c q Y i (getD order t 0)) (sym (getD-take r order c 0 h))
     where
@@ -51,7 +51,7 @@ module _ (r n : ℕ) (order : List ℕ) (fits : r ≤ n) (size : length order �
       by true = ap₂ subT (z i t l m) (ap₂ mulT (z i c l (omega arith)) (z c t h m))
       by false = z i t l m
 
-  raised-placed : (c : ℕ) (X Y : Matrix) → c ≤ r → Placed r n X Y order → Placed r n (raised (range r) c X) (raised (take r order) c Y) order
+  raised-placed : (c : ℕ) (X Y : Matrix) → c ≤ r → InOrder r n X Y order → InOrder r n (raised (range r) c X) (raised (take r order) c Y) order
   unfolding raised
   raised-placed zero X Y h z = z
   raised-placed (suc c) X Y h z =
@@ -60,7 +60,7 @@ module _ (r n : ℕ) (order : List ℕ) (fits : r ≤ n) (size : length order �
 -- ---- the first pass
 
 module _ (r : ℕ) (H : Matrix) (start : List ℕ) (o : Order (length start) start) (full : rank r (length start) H (range (length start)) ≡ r)
-    {A : Matrix} (z : Placed r (length start) A H start) where
+    {A : Matrix} (z : InOrder r (length start) A H start) where
   rule : let s = columnRule r (length start) 0 A start in Ruled r (length start) H start (s .kept) (s .order) (s .cells)
   rule = ruled r H A start o full z
 
@@ -92,13 +92,13 @@ module _ {r n : ℕ} {H M : Matrix} {q : List ℕ} (f : FirstPass r n H M q) whe
   kept-size = length-take-le r q (omega (arith, f .is-order .size, f .fits))
 
   -- 1 on the diagonal, and 0 below it
-  pub diagonal-one : (c : ℕ) → c < r → M c c ≡ t1
-  diagonal-one c h =
-      f .placed c c h (omega (arith, f .fits)) ∙ ap (D c) (sym (getD-take r q c 0 h)) ∙ f .lowered .one c (omega (arith, kept-size))
-
-  pub diagonal-none : (c i : ℕ) → c < i → i < r → M i c ≡ t0
-  diagonal-none c i h l =
-      f .placed i c l (omega (arith, f .fits)) ∙ ap (D i) (sym (getD-take r q c 0 (omega arith))) ∙ f .lowered .none c i (omega (arith, kept-size)) h l
+  pub first-triangular : Triangular r M
+  first-triangular = record {
+    one = λ c h.
+        f .placed c c h (omega (arith, f .fits)) ∙ ap (D c) (sym (getD-take r q c 0 h)) ∙ f .lowered .one c (omega (arith, kept-size));
+    none = λ c i h l.
+        f .placed i c l (omega (arith, f .fits)) ∙ ap (D i) (sym (getD-take r q c 0 (omega arith))) ∙ f .lowered .none c i (omega (arith, kept-size)) h l;
+  }
 
 -- the key is read
 pub key-left : (r : ℕ) (H : Matrix) (start : List ℕ) {M L B : Matrix} {q : List ℕ} → Order (length start) start

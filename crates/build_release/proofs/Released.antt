@@ -32,7 +32,7 @@ use Rattle.key_rows.specs.Steps.{readDown, keyOnes, keyTwos}
 use Rattle.calls.specs.Lent.{Planes, halfWords, secretOf}
 use Rattle.calls.specs.Steps.{Readable}
 use Rattle.calls.specs.BuildCall.{keyRowWords, buildWorkWords, keyOnesOf, keyTwosOf}
-use Rattle.build_release.specs.Steps.{Filled, madeOnes, madeTwos}
+use Rattle.build_release.specs.Steps.{Filled, rowsOfR}
 
 -- working planes of 0, as half-rows
 module _ (z : Sizes) {o t : List ℕ} (n k : ℕ) (e : o ≡ zeroWords n) (f : t ≡ zeroWords k) (a : n ≡ buildWorkWords z) (b : k ≡ buildWorkWords z) where
@@ -79,12 +79,12 @@ module _ {r n : ℕ} {H M : Matrix} {q : List ℕ} (key : Keyed r n H M q) (k kw
   unfolding readDown
   down i l = sym (upto-same r (rowOfR r n H q i) (column M (r + i)) (λ c g. key .entry i c g (omega arith)))
 
-  pub made-ones : keyOnes k kw r M ≡ madeOnes r n k kw H q
-  unfolding keyOnes madeOnes
+  pub made-ones : keyOnes k kw (readDown r M) ≡ keyOnes k kw (rowsOfR r n H q)
+  unfolding keyOnes
   made-ones = rows-same _ _ k (λ i l. ap (λ (v : Vector). onesOf v kw) (down i l))
 
-  pub made-twos : keyTwos k kw r M ≡ madeTwos r n k kw H q
-  unfolding keyTwos madeTwos
+  pub made-twos : keyTwos k kw (readDown r M) ≡ keyTwos k kw (rowsOfR r n H q)
+  unfolding keyTwos
   made-twos = rows-same _ _ k (λ i l. ap (λ (v : Vector). twosOf v kw) (down i l))
 
 -- both ranks are full, and so that of the secret matrix
@@ -126,12 +126,12 @@ module _ (z : Sizes) (s : Secret) (start : List ℕ) {o t p : List ℕ} (f : Fil
         ap₂ (λ (m : ℕ) (H : Matrix). upTo (codim z) (rowOfR (codim z) m H q i)) ready-size (f .cells)
         ∙ ap (λ (l : List ℕ). upTo (codim z) (rowOfR (codim z) (places z) (secretMatrix z s) l i)) final-order
 
-    pub final-ones : madeOnes (codim z) (length p) (dim z) (keyRowWords z) (placedAt (half z) (halfWords z) (halfWords z + halfWords z) o t) q
+    pub final-ones : keyOnes (dim z) (keyRowWords z) (rowsOfR (codim z) (length p) (placedAt (half z) (halfWords z) (halfWords z + halfWords z) o t) q)
         ≡ keyOnesOf z s start
-    unfolding madeOnes keyOnesOf
+    unfolding keyOnes keyOnesOf
     final-ones = rows-same _ _ (dim z) (λ i l. ap (λ (v : Vector). onesOf v (keyRowWords z)) (final i))
 
-    pub final-twos : madeTwos (codim z) (length p) (dim z) (keyRowWords z) (placedAt (half z) (halfWords z) (halfWords z + halfWords z) o t) q
+    pub final-twos : keyTwos (dim z) (keyRowWords z) (rowsOfR (codim z) (length p) (placedAt (half z) (halfWords z) (halfWords z + halfWords z) o t) q)
         ≡ keyTwosOf z s start
-    unfolding madeTwos keyTwosOf
+    unfolding keyTwos keyTwosOf
     final-twos = rows-same _ _ (dim z) (λ i l. ap (λ (v : Vector). twosOf v (keyRowWords z)) (final i))

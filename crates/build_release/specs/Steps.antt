@@ -5,8 +5,6 @@ use mathlib.Core.List.{List}
 use Prim.Native.Nat.{ℕ, _+_, _*_, _≤_}
 use lib.ListN.{length}
 use Rattle.trits.specs.Trit.{upTo}
-use Rattle.trits.specs.Planes.{onesOf, twosOf}
-use Rattle.trits.specs.Rows.{rowsOf}
 use Rattle.matrix.specs.Linear.{Matrix, rank, range}
 use Rattle.matrix.specs.Orders.{Order}
 use Rattle.grid.specs.Steps.{Rows}
@@ -24,12 +22,9 @@ pub record Filled (z : Sizes) (s : Secret) (ones twos : List ℕ) : Type 0 where
   pub rows : Rows ones twos (codim z + 243) (halfWords z + halfWords z)
   pub cells : placedAt (half z) (halfWords z) (halfWords z + halfWords z) ones twos ≡ secretMatrix z s
 
--- the words of k rows of R for the final order p, kw each
-unfoldable pub madeOnes : ℕ → ℕ → ℕ → ℕ → Matrix → List ℕ → List ℕ
-madeOnes r n k kw H p = rowsOf (λ i. onesOf (upTo r (rowOfR r n H p i)) kw) k
-
-unfoldable pub madeTwos : ℕ → ℕ → ℕ → ℕ → Matrix → List ℕ → List ℕ
-madeTwos r n k kw H p = rowsOf (λ i. twosOf (upTo r (rowOfR r n H p i)) kw) k
+-- the rows of R for the final order p, r trits each
+abbrev pub rowsOfR : ℕ → ℕ → Matrix → List ℕ → Matrix
+rowsOfR r n H p i = upTo r (rowOfR r n H p i)
 
 -- a work matrix of full rank in two halves, with room for tables after it, an order of its places, and room for the key
 pub record ForMakeKey (ones twos : List ℕ) (r w half hw : ℕ) (order : List ℕ) (k kw : ℕ) (ko kt : List ℕ) : Type 0 where

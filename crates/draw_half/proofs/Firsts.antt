@@ -13,7 +13,7 @@ use Rattle.trits.specs.Trit.{t0, putV, dotV}
 use Rattle.matrix.specs.Linear.{Vector, Matrix, times, rank, pivots, range}
 use Rattle.matrix.specs.Orders.{Order}
 use Rattle.matrix.specs.Steps.{eliminated, firstSet}
-use Rattle.matrix.specs.Blocks.{Front, gathered}
+use Rattle.matrix.specs.Blocks.{Front, columnsBy}
 use Rattle.matrix.proofs.Dots.{put-same, put-other, dot-past}
 use Rattle.matrix.proofs.Places.{elem-at}
 use Rattle.matrix.proofs.Greedy.{pivots-kept}
@@ -34,7 +34,7 @@ words-most w m h = record { within = omega arith; columns = h; one-more = inr re
 -- ---- the matrices, one after another
 
 module _ (r m N : ℕ) (order : List ℕ) (o : Order (length order) order) (front : m ≤ length order) (fits : length order ≤ N) (H A : Matrix) (e : ℕ)
-    (past : r + 243 ≤ e) (ends : Ends (length order) (A e)) {A₂ A₃ : Matrix} (g : Front r (gathered (λ j. getD order j 0) m H) A A₂)
+    (past : r + 243 ≤ e) (ends : Ends (length order) (A e)) {A₂ A₃ : Matrix} (g : Front r (columnsBy (λ j. getD order j 0) m H) A A₂)
     (k : A₃ ≡ withProducts (cond (ltb m (length order)) r 0) m N H (A₂ e) A₂) where
   abbrev n : ℕ
   n = length order

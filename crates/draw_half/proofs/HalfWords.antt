@@ -23,7 +23,7 @@ use Rattle.matrix.proofs.Field.{refuted}
 use Rattle.matrix.proofs.Kept.{eliminated-lowered}
 use Rattle.matrix.proofs.Values.{back-solves}
 use Rattle.matrix.proofs.FirstPart.{Image, map-range, range-below}
-use Rattle.matrix.proofs.KnownPart.{order-apart, last-not-first, Holds, backed-alike, fill-holds}
+use Rattle.matrix.proofs.KnownPart.{order-apart, last-not-first, Carries, backed-alike, fill-holds}
 use Rattle.matrix.proofs.Fills.{fill-either, fill-append, fill-map, without-append, without-apart}
 use Rattle.grid.specs.Steps.{putRow}
 use Rattle.grid.proofs.RowParts.{put-here, put-else}
@@ -258,7 +258,7 @@ module _ (r : ℕ) (H A : Matrix) (order : List ℕ) (o : Order (length order) o
         ∙ fill-map at (passed r B 0 (range m)) v (A e) j
         (λ p k f. order-apart order o p j (omega (arith, passed-below r B m 0 p k)) (omega arith) f) (last (at j) (first-not-last j h))
 
-    holds : Holds order o m N front fits z start (zipV subT (A x) S)
+    holds : Carries order o m N front fits z start (zipV subT (A x) S)
     holds = record {
       first = λ j h. unmarked j (λ y. omega arith)
           ∙ ap (λ (b : Bool). cond b (subT (A x (at j)) (fill (passed r B 0 (range m)) v zeros j)) t0) (lt-ltb j m h)

@@ -19,7 +19,7 @@ use Rattle.trits.proofs.Matrix.{row-le}
 use Rattle.trits.proofs.Patches.{Patched}
 use Rattle.trits.proofs.Parts.{put-patched}
 use Rattle.trits.proofs.WordOps.{no-bits}
-use Rattle.matrix.specs.Blocks.{Front, gathered}
+use Rattle.matrix.specs.Blocks.{Front, columnsBy}
 use Rattle.grid.specs.Steps.{Rows}
 use Rattle.grid.proofs.Cells.{cell-word, cell-past}
 use Rattle.grid.proofs.Swaps.{split}
@@ -51,7 +51,7 @@ module _ (ho ht order : List ℕ) (w r m : ℕ) {o₀ t₀ o₁ t : List ℕ} {r
   -- ---- the rows are those of the gathered matrix
 
   abbrev D : ℕ → ℕ → Trit
-  D = gathered (λ j. getD order j 0) m (matrixAt w ho ht)
+  D = columnsBy (λ j. getD order j 0) m (matrixAt w ho ht)
 
   cell-in : (i q : ℕ) → q < m → D i q ≡ matrixAt w ho ht i (getD order q 0)
   cell-in i q l = ap (λ (x : Bool). cond x (matrixAt w ho ht i (getD order q 0)) t0) (lt-ltb q m l)
@@ -77,7 +77,7 @@ module _ (ho ht order : List ℕ) (w r m : ℕ) {o₀ t₀ o₁ t : List ℕ} {r
       ∙ sym (cell-word w o₀ t₀ i q e)
   kept-cell i q l (no e) = cell-past w o t i q (omega arith) ∙ sym (cell-past w o₀ t₀ i q (omega arith))
 
-  both-front : Front r (gathered (λ j. getD order j 0) m (matrixAt w ho ht)) (matrixAt w o₀ t₀) (matrixAt w o t)
+  both-front : Front r (columnsBy (λ j. getD order j 0) m (matrixAt w ho ht)) (matrixAt w o₀ t₀) (matrixAt w o t)
   both-front = record {
     front = λ i l. fun-ext (λ q. front-cell i q l (decLt q (64 * w)) (decLt q m));
     kept = λ i l. fun-ext (λ q. kept-cell i q l (decLt q (64 * w)));
@@ -139,5 +139,5 @@ module _ (ho ht order : List ℕ) (w r m : ℕ) {o₀ t₀ o₁ t : List ℕ} {r
       size = ones-kept ∙ g .size;
     }
 
-    pub both-gathered : Rows o t rows w × Front r (gathered (λ j. getD order j 0) m (matrixAt w ho ht)) (matrixAt w o₀ t₀) (matrixAt w o t)
+    pub both-gathered : Rows o t rows w × Front r (columnsBy (λ j. getD order j 0) m (matrixAt w ho ht)) (matrixAt w o₀ t₀) (matrixAt w o t)
     both-gathered = (both-rows, both-front)

@@ -76,7 +76,7 @@ pub record EndOf (i r e : ℕ) : Type 0 where
 -- ---- what is asked
 
 -- a block, and rows of which a word goes into it
-pub record ForBlock (block : List ℕ) (i w c : ℕ) : Type 0 where
+pub record ForLoadBlock (block : List ℕ) (i w c : ℕ) : Type 0 where
   pub size : length block ≡ 64
   pub reach : (i + 64) * w ≤ 4294967296
   pub column : c < w

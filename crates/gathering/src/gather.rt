@@ -3,10 +3,10 @@ ghost use mathlib.Core.Path.{_≡_};
 ghost use Prim.Native.Nat.{_<_};
 ghost use lib.ListN.{getD};
 ghost use Rattle.trits.specs.Rows.{matrixAt};
-ghost use Rattle.matrix.specs.Blocks.{Front, gathered};
+ghost use Rattle.matrix.specs.Blocks.{Front, columnsBy};
 ghost use Rattle.grid.specs.Steps.{Rows};
 ghost use Rattle.gathering.specs.Steps.{picked, Loaded, TurnedBlock, Columns, Picked, TurnedPick, Stored, GatheredWord, GatheredRows, EndOf};
-ghost use Rattle.gathering.specs.Steps.{ForBlock, ForColumns, ForPick, ForPickBlock, ForStore, ForWord, ForRows, ForPlane, ForGather};
+ghost use Rattle.gathering.specs.Steps.{ForLoadBlock, ForColumns, ForPick, ForPickBlock, ForStore, ForWord, ForRows, ForPlane, ForGather};
 
 // Word p of a plane, 0 past its end.
 pub fn word_at(h: &[u64], p: usize) -> u64
@@ -20,7 +20,7 @@ pub fn word_at(h: &[u64], p: usize) -> u64
 
 // The words c of the 64 rows from row i on of a lent plane, 0 past its rows.
 pub fn load_block(block: &mut [u64], h: &[u64], i: usize, w: usize, c: usize)
-    requires { ⌜ ForBlock (now block) i w c ⌝ }
+    requires { ⌜ ForLoadBlock (now block) i w c ⌝ }
     ensures { λ _. ⌜ Loaded (now (h .entry)) i w c (now (block .exit)) ⌝ }
 {
     let mut x = 0;
@@ -33,7 +33,7 @@ pub fn load_block(block: &mut [u64], h: &[u64], i: usize, w: usize, c: usize)
 
 // Those words turned: a word for each of the columns.
 pub fn turn_block(block: &mut [u64], h: &[u64], i: usize, w: usize, c: usize)
-    requires { ⌜ ForBlock (now block) i w c ⌝ }
+    requires { ⌜ ForLoadBlock (now block) i w c ⌝ }
     ensures { λ _. ⌜ TurnedBlock (now (h .entry)) i w c (now (block .exit)) ⌝ }
 {
     load_block(block, h, i, w, c);
@@ -185,12 +185,12 @@ pub fn gather(
 )
     requires { ⌜ ForGather (now ones) (now twos) rows w r (now ho) (now ht) (now order) m ⌝ }
     ensures { λ _. ⌜ Rows (now (ones .exit)) (now (twos .exit)) rows w ⌝ }
-    ensures { λ _. ⌜ Front r (gathered (λ j. getD (now (order .entry)) j 0) m (matrixAt w (now (ho .entry)) (now (ht .entry))))
+    ensures { λ _. ⌜ Front r (columnsBy (λ j. getD (now (order .entry)) j 0) m (matrixAt w (now (ho .entry)) (now (ht .entry))))
         (matrixAt w (now (ones .entry)) (now (twos .entry))) (matrixAt w (now (ones .exit)) (now (twos .exit))) ⌝ }
 {
     gather_plane(ones, w, r, ho, order, m);
     gather_plane(twos, w, r, ht, order, m);
     let a = r * w;
     let z = a + 243 * w;
-    planes::words::zero_words(&mut ones[a..z]);
+    planes::words::zero_words(&mut ones[a..z]); // so that no place there is both 1 and 2
 }

@@ -4,11 +4,11 @@ use mathlib.Core.Bool.{Bool, true, false, cond}
 use mathlib.Core.Logic.{_⊎_, inl, inr}
 use mathlib.Core.List.{List}
 use Prim.Native.Nat.{ℕ, _+_, _*_, _/_, _%_, _≤_, _<_}
-use native.Mathlib.Nat.{mul-le-mul-right}
+use native.Mathlib.Nat.{mul-le-mul-left, mul-le-mul-right}
 use native.Mathlib.Decide.{decLt}
 use native.Mathlib.Omega.{arith}
 use borrow.Author.Tests.{lt-ltb, le-ltb}
-use lib.ListN.{getD}
+use lib.ListN.{length, getD}
 use Rattle.trits.specs.Trit.{Trit, t0, t1, t2, isSet, number}
 use Rattle.trits.specs.Planes.{bit, trit, tritAt}
 use Rattle.trits.specs.Rows.{matrixAt}
@@ -33,6 +33,10 @@ module _ (w : ℕ) (ones twos : List ℕ) (i q : ℕ) where
   pub whole-row : (q < 64 * 0) ⊎ (64 * w ≤ q) → matrixAt w ones twos i q ≡ t0
   whole-row (inl h) = absurd (omega arith)
   whole-row (inr h) = cell-past h
+
+-- as many rows as words, at most
+pub rows-most : {o t : List ℕ} {rows w : ℕ} → Rows o t rows w → 0 < w → rows ≤ length o
+rows-most {rows = rows} {w} g h = omega (arith, g .size, mul-le-mul-left {m = 1} {n = w} rows h)
 
 -- rows past the last are 0
 pub cell-none : {ones twos : List ℕ} {r w : ℕ} → Rows ones twos r w → (i q : ℕ) → r ≤ i → matrixAt w ones twos i q ≡ t0

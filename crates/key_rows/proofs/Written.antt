@@ -82,11 +82,11 @@ written-all {kw} {i} {f} {l₀} {l} k a e h =
     sym (take-all (k * kw) l (omega (arith, a .kept))) ∙ rows-taken f kw l k (omega (arith, a .kept)) (λ j g o. a .words j g (omega arith) (omega arith))
 
 module _ (r : ℕ) (A : Matrix) (k : ℕ) {kw i : ℕ} {l₀ l : List ℕ} where
-  pub key-ones : Written kw 0 i (λ j. onesWord (readDown r A j)) l₀ l → i ≡ k → length l₀ ≡ k * kw → l ≡ keyOnes k kw r A
+  pub key-ones : Written kw 0 i (λ j. onesWord (readDown r A j)) l₀ l → i ≡ k → length l₀ ≡ k * kw → l ≡ keyOnes k kw (readDown r A)
   unfolding keyOnes onesOf
   key-ones a e h = written-all k a e h
 
-  pub key-twos : Written kw 0 i (λ j. twosWord (readDown r A j)) l₀ l → i ≡ k → length l₀ ≡ k * kw → l ≡ keyTwos k kw r A
+  pub key-twos : Written kw 0 i (λ j. twosWord (readDown r A j)) l₀ l → i ≡ k → length l₀ ≡ k * kw → l ≡ keyTwos k kw (readDown r A)
   unfolding keyTwos twosOf
   key-twos a e h = written-all k a e h
 

@@ -15,12 +15,12 @@ use Rattle.grid.specs.Steps.{Rows}
 unfoldable pub readDown : ℕ → Matrix → ℕ → Vector
 readDown r A i = upTo r (column A (r + i))
 
--- the words of k such rows, kw each
-unfoldable pub keyOnes : ℕ → ℕ → ℕ → Matrix → List ℕ
-keyOnes k kw r A = rowsOf (λ i. onesOf (readDown r A i) kw) k
+-- the words of the first k of a key's rows, kw each
+unfoldable pub keyOnes : ℕ → ℕ → Matrix → List ℕ
+keyOnes k kw R = rowsOf (λ i. onesOf (R i) kw) k
 
-unfoldable pub keyTwos : ℕ → ℕ → ℕ → Matrix → List ℕ
-keyTwos k kw r A = rowsOf (λ i. twosOf (readDown r A i) kw) k
+unfoldable pub keyTwos : ℕ → ℕ → Matrix → List ℕ
+keyTwos k kw R = rowsOf (λ i. twosOf (R i) kw) k
 
 -- after r rows stand kw blocks of 64 words: block g has the columns of the words c of the 64 rows from row 64 * g on; the rows are as they were
 pub record TurnedGroup (w r c kw : ℕ) (l₀ l : List ℕ) : Type 0 where

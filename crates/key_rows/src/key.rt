@@ -3,7 +3,7 @@ ghost use mathlib.Core.Path.{_≡_};
 ghost use Prim.Native.Nat.{_+_, _-_, _*_};
 ghost use lib.ListN.{length, getD};
 ghost use Rattle.trits.specs.Rows.{matrixAt};
-ghost use Rattle.key_rows.specs.Steps.{keyOnes, keyTwos, eachBlock, TurnedGroup, GroupEnd, Written};
+ghost use Rattle.key_rows.specs.Steps.{readDown, keyOnes, keyTwos, eachBlock, TurnedGroup, GroupEnd, Written};
 ghost use Rattle.key_rows.specs.Steps.{ForTurnGroup, ForGroupEnd, ForWriteRow, ForWriteGroup, ForWriteKey};
 
 // The columns of the words c of the first 64 * kw rows go to the words after r rows, a block for each 64 rows.
@@ -83,8 +83,8 @@ pub fn write_key(
     kt: &mut [u64],
 )
     requires { ⌜ ForWriteKey (now ones) (now twos) rows w r k kw (now ko) (now kt) ⌝ }
-    ensures { λ _. ⌜ now (ko .exit) ≡ keyOnes k kw r (matrixAt w (now (ones .entry)) (now (twos .entry))) ⌝ }
-    ensures { λ _. ⌜ now (kt .exit) ≡ keyTwos k kw r (matrixAt w (now (ones .entry)) (now (twos .entry))) ⌝ }
+    ensures { λ _. ⌜ now (ko .exit) ≡ keyOnes k kw (readDown r (matrixAt w (now (ones .entry)) (now (twos .entry)))) ⌝ }
+    ensures { λ _. ⌜ now (kt .exit) ≡ keyTwos k kw (readDown r (matrixAt w (now (ones .entry)) (now (twos .entry)))) ⌝ }
 {
     let mut i = 0; // the row that comes next
     while i < k {

@@ -11,7 +11,7 @@ use Rattle.trits.specs.Trit.{Trit, t0, subT, mulT, isSet, dotV}
 use Rattle.trits.proofs.Arithmetic.{add-zero-r, mul-zero}
 use Rattle.matrix.specs.Linear.{Vector, Matrix}
 use Rattle.matrix.specs.Steps.{swapRows, scaleRow, pivoted, firstRow, pivotRow, hasPivot, stepOf}
-use Rattle.matrix.specs.Blocks.{lessOf, grown, UnitAt, basis, from, pending, brought, taken, NextPivot, steps, Block, Cleared, Advanced}
+use Rattle.matrix.specs.Blocks.{lessOf, grown, UnitAt, basis, from, pending, brought, pivotTaken, NextPivot, steps, Block, Cleared, Advanced}
 use Rattle.matrix.proofs.Dots.{dot-right}
 use Rattle.matrix.proofs.Less.{less-none}
 use Rattle.matrix.proofs.Steps.{has-row, step-has, step-none}
@@ -38,8 +38,9 @@ module _ (at k c : ℕ) (b A : Matrix) where
   stands u = record { done = λ i h. sym (pending-done i h); later = λ i h. sym (pending-later i h); unit = u }
 
 -- the pivot's row is 0 where it was, if the block's rows are
-pub taken-none : (at k c : ℕ) (b : Matrix) (s : ℕ) (A : Matrix) (t : ℕ) → A s t ≡ t0 → ((j : ℕ) → j < k → b j t ≡ t0) → taken at k c b s A (at + k) t ≡ t0
-taken-none at k c b s A t z y = rw (eq-eqb (at + k) (at + k) refl, eq-eqb s s refl) (ap (mulT x) (less-none k (from c) b (A s) t z y) ∙ mul-zero x)
+pub pivot-taken-none : (at k c : ℕ) (b : Matrix) (s : ℕ) (A : Matrix) (t : ℕ) → A s t ≡ t0 → ((j : ℕ) → j < k → b j t ≡ t0)
+    → pivotTaken at k c b s A (at + k) t ≡ t0
+pivot-taken-none at k c b s A t z y = rw (eq-eqb (at + k) (at + k) refl, eq-eqb s s refl) (ap (mulT x) (less-none k (from c) b (A s) t z y) ∙ mul-zero x)
   where
     x : Trit
     x = lessOf k (from c) b (A s) (c + k)
@@ -61,7 +62,7 @@ module _ {r at k c : ℕ} {A B : Matrix} (n : NextPivot true r at k c A B) where
   found : (at + k ≤ s) × (s < r) × (isSet (D s (c + k)) ≡ true)
   found = has-row r (at + k) (c + k) D has
 
-  own : (i : ℕ) → i < r → B i ≡ taken at k c b s A i
+  own : (i : ℕ) → i < r → B i ≡ pivotTaken at k c b s A i
   own = n .front refl
 
   trit-now : D s (c + k) ≡ lessOf k (from c) b (A s) (c + k)

@@ -20,7 +20,7 @@ use Rattle.matrix.specs.Passes.{SameSpan, Lowered, Reduced}
 use Rattle.matrix.specs.Steps.{swapRows, scaleRow, takeAbove, pivoted, raised}
 use Rattle.matrix.proofs.Field.{mul-one, set-not}
 use Rattle.matrix.proofs.Dots.{put-same, put-other, dot-left, dot-unit}
-use Rattle.matrix.proofs.Places.{picked, times-places, times-fill, fill-at, fill-off}
+use Rattle.matrix.proofs.Places.{columnsAt, times-places, times-fill, fill-at, fill-off}
 use Rattle.matrix.proofs.Search.{Spans, inSpan-iff}
 use Rattle.matrix.proofs.Greedy.{Kept, bool-cases, times-unit, kept-few}
 use Rattle.matrix.proofs.Solutions.{solve-is}
@@ -34,18 +34,18 @@ module _ (r n : ℕ) (H A : Matrix) (ps : List ℕ) (k : Kept r n H ps) (d : Red
   alike = span-alike r n H A (d .span)
 
   -- a vector over the kept places, times A: its own trits, then zeros
-  reduced-low : (a : Vector) (i : ℕ) → i < r → i < length ps → times (length ps) (picked A ps) a i ≡ a i
+  reduced-low : (a : Vector) (i : ℕ) → i < r → i < length ps → times (length ps) (columnsAt A ps) a i ≡ a i
   reduced-low a i h l =
-      dot-left (length ps) (picked A ps i) (λ c. putV zeros c t1 i) a (λ c b. d .unit c i b h) ∙ dot-unit (length ps) i a l
+      dot-left (length ps) (columnsAt A ps i) (λ c. putV zeros c t1 i) a (λ c b. d .unit c i b h) ∙ dot-unit (length ps) i a l
 
-  reduced-high : (a : Vector) (i : ℕ) → i < r → length ps ≤ i → times (length ps) (picked A ps) a i ≡ t0
+  reduced-high : (a : Vector) (i : ℕ) → i < r → length ps ≤ i → times (length ps) (columnsAt A ps) a i ≡ t0
   reduced-high a i h l =
-      dot-zero (length ps) (picked A ps i) a (λ c b. ap (λ x. mulT x (a c)) (d .unit c i b h ∙ put-other zeros c t1 i (λ z. omega arith)))
+      dot-zero (length ps) (columnsAt A ps i) a (λ c b. ap (λ x. mulT x (a c)) (d .unit c i b h ∙ put-other zeros c t1 i (λ z. omega arith)))
 
   column-fill : (q : ℕ) → q < n → ((i : ℕ) → length ps ≤ i → i < r → A i q ≡ t0) → Same r n A (fill ps (column A q) zeros) (putV zeros q t1)
   column-fill q h z i l = times-fill n A ps (k .distinct) (k .below) (column A q) i ∙ go (ltb i (length ps)) refl ∙ sym (times-unit n A q i h)
     where
-      go : (t : Bool) → ltb i (length ps) ≡ t → times (length ps) (picked A ps) (column A q) i ≡ A i q
+      go : (t : Bool) → ltb i (length ps) ≡ t → times (length ps) (columnsAt A ps) (column A q) i ≡ A i q
       go true e = reduced-low (column A q) i l (ltb-true i (length ps) e)
       go false e = let b = ltb-false i (length ps) e in reduced-high (column A q) i l b ∙ sym (z i b l)
 

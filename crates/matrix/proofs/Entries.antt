@@ -7,7 +7,7 @@ use Rattle.trits.specs.Trit.{Trit, t0, t1, addT, subT, mulT, number, tritOf, pu
 use Rattle.trits.proofs.Products.{dot-zero}
 use Rattle.trits.proofs.Arithmetic.{number-lt, trit-number}
 use Rattle.matrix.specs.Linear.{Vector, Matrix, zeros}
-use Rattle.matrix.specs.Blocks.{lessOf, digit, pow3, code, entryOf}
+use Rattle.matrix.specs.Blocks.{lessOf, digit, pow3, base3, entryOf}
 use Rattle.matrix.proofs.Field.{law4}
 use Rattle.matrix.proofs.Dots.{dot-left, dot-right, dot-comm, dot-add, dot-unit, dot-split, put-same, put-other}
 
@@ -16,27 +16,27 @@ unfolding pow3
 pow3-some zero = omega arith
 pow3-some (suc j) = omega (arith, pow3-some j)
 
-pub digit-code : (k : ℕ) (x : Vector) (j : ℕ) → j < k → digit (code x k) j ≡ x j
-unfolding digit code
-digit-code zero x j h = absurd (omega arith)
-digit-code (suc k) x zero h =
+pub digit-base3 : (k : ℕ) (x : Vector) (j : ℕ) → j < k → digit (base3 x k) j ≡ x j
+unfolding digit base3
+digit-base3 zero x j h = absurd (omega arith)
+digit-base3 (suc k) x zero h =
     let n = number-lt (x 0) in
-    let e : (number (x 0) + 3 * code (λ j. x (suc j)) k) % 3 ≡ number (x 0) = omega arith in
+    let e : (number (x 0) + 3 * base3 (λ j. x (suc j)) k) % 3 ≡ number (x 0) = omega arith in
     ap tritOf e ∙ trit-number (x 0)
-digit-code (suc k) x (suc j) h =
+digit-base3 (suc k) x (suc j) h =
     let n = number-lt (x 0) in
-    let e : (number (x 0) + 3 * code (λ j. x (suc j)) k) / 3 ≡ code (λ j. x (suc j)) k = omega arith in
-    ap (λ (n : ℕ). digit n j) e ∙ digit-code k (λ j. x (suc j)) j (omega arith)
+    let e : (number (x 0) + 3 * base3 (λ j. x (suc j)) k) / 3 ≡ base3 (λ j. x (suc j)) k = omega arith in
+    ap (λ (n : ℕ). digit n j) e ∙ digit-base3 k (λ j. x (suc j)) j (omega arith)
 
 -- what the entry of a row's own trits has
-pub entry-code : (k : ℕ) (b : Matrix) (x : Vector) (t : ℕ) → entryOf k b (code x k) t ≡ dotV x (λ j. b j t) k
-entry-code k b x t = dot-left k (digit (code x k)) x (λ j. b j t) (digit-code k x)
+pub entry-base3 : (k : ℕ) (b : Matrix) (x : Vector) (t : ℕ) → entryOf k b (base3 x k) t ≡ dotV x (λ j. b j t) k
+entry-base3 k b x t = dot-left k (digit (base3 x k)) x (λ j. b j t) (digit-base3 k x)
 
 -- the number of k trits is below 3 ^ k
-pub code-lt : (k : ℕ) (x : Vector) → code x k < pow3 k
-unfolding code pow3
-code-lt zero x = omega arith
-code-lt (suc k) x = omega (arith, number-lt (x 0), code-lt k (λ j. x (suc j)))
+pub base3-lt : (k : ℕ) (x : Vector) → base3 x k < pow3 k
+unfolding base3 pow3
+base3-lt zero x = omega arith
+base3-lt (suc k) x = omega (arith, number-lt (x 0), base3-lt k (λ j. x (suc j)))
 
 digit-none : (i : ℕ) → digit 0 i ≡ t0
 unfolding digit
@@ -119,12 +119,12 @@ entry-same k b d e t z = dot-right k (digit e) (λ j. b j t) (λ j. d j t) z
 
 -- twelve trits are three entries of four
 pub less-entries : (q : ℕ → ℕ) (b : Matrix) (v : Vector) (t : ℕ)
-    → subT (subT (subT (v t) (entryOf 4 b (code (λ j. v (q j)) 4) t)) (entryOf 4 (λ j. b (4 + j)) (code (λ j. v (q (4 + j))) 4) t))
-    (entryOf 4 (λ j. b (8 + j)) (code (λ j. v (q (8 + j))) 4) t)
+    → subT (subT (subT (v t) (entryOf 4 b (base3 (λ j. v (q j)) 4) t)) (entryOf 4 (λ j. b (4 + j)) (base3 (λ j. v (q (4 + j))) 4) t))
+    (entryOf 4 (λ j. b (8 + j)) (base3 (λ j. v (q (8 + j))) 4) t)
     ≡ lessOf 12 q b v t
 less-entries q b v t =
-    ap₂ subT (ap₂ subT (ap (subT (v t)) (entry-code 4 b u t)) (entry-code 4 (λ j. b (4 + j)) (λ j. u (4 + j)) t))
-    (entry-code 4 (λ j. b (8 + j)) (λ j. u (8 + j)) t)
+    ap₂ subT (ap₂ subT (ap (subT (v t)) (entry-base3 4 b u t)) (entry-base3 4 (λ j. b (4 + j)) (λ j. u (4 + j)) t))
+    (entry-base3 4 (λ j. b (8 + j)) (λ j. u (8 + j)) t)
     ∙ law4 (λ a x y z. subT (subT (subT a x) y) z) (λ a x y z. subT a (addT (addT x y) z)) tt (v t) (dotV u s 4) (dotV (λ j. u (4 + j)) (λ j. s (4 + j)) 4)
     (dotV (λ j. u (8 + j)) (λ j. s (8 + j)) 4)
     ∙ ap (subT (v t)) (sym (dot-split 8 4 u s ∙ ap (λ (x : Trit). addT x (dotV (λ j. u (8 + j)) (λ j. s (8 + j)) 4)) (dot-split 4 4 u s)))

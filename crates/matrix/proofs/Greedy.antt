@@ -18,7 +18,7 @@ use Rattle.matrix.proofs.Field.{mul-one, square, solved, zero-or, refut
 use Rattle.matrix.proofs.Dots.{put-same, put-other, dot-put, dot-add, dot-mul}
 use Rattle.matrix.proofs.Dimension.{Injective, injective-few, injective-reaches, reaches-many}
 use Rattle.matrix.proofs.Places.{Below, Supported, or-false-left, or-false-right, or-true-right, or-cases, false-or-false, elem-append, elem-here}
-use Rattle.matrix.proofs.Places.{picked, times-places, times-fill, fill-at, fill-off}
+use Rattle.matrix.proofs.Places.{columnsAt, times-places, times-fill, fill-at, fill-off}
 use Rattle.matrix.proofs.Search.{Spans, inSpan-iff}
 
 pub bool-cases : (b : Bool) → (b ≡ true) ⊎ (b ≡ false)
@@ -198,18 +198,18 @@ module _ (r n : ℕ) (H : Matrix) where
   pivots-elem ps q m = keep-elem ps [] q m
 
   -- independent columns are the rows' number or fewer; if as many, they reach everything
-  pub kept-injective : (ps : List ℕ) → Kept r n H ps → Injective r (length ps) (picked H ps)
+  pub kept-injective : (ps : List ℕ) → Kept r n H ps → Injective r (length ps) (columnsAt H ps)
   kept-injective ps k w v j h =
       sym (fill-at ps w zeros j (k .distinct) h)
       ∙ k .independent (fill ps w zeros) (λ q e. fill-off ps w zeros q e) (λ i l. times-fill n H ps (k .distinct) (k .below) w i ∙ v i l) (getD ps j 0)
 
   pub kept-few : (ps : List ℕ) → Kept r n H ps → length ps ≤ r
-  kept-few ps k = injective-few r (length ps) (picked H ps) (kept-injective ps k)
+  kept-few ps k = injective-few r (length ps) (columnsAt H ps) (kept-injective ps k)
 
   pub kept-spans : (ps : List ℕ) → Kept r n H ps → length ps ≡ r → (v : Vector) → Spans r n H ps v
   kept-spans ps k e v =
-      let a : Injective r r (picked H ps) = rw e at (kept-injective ps k) in
-      let s = injective-reaches r (picked H ps) a v in (
+      let a : Injective r r (columnsAt H ps) = rw e at (kept-injective ps k) in
+      let s = injective-reaches r (columnsAt H ps) a v in (
         fill ps (s .0) zeros,
         (λ q m. fill-off ps (s .0) zeros q m),
         λ i h. times-fill n H ps (k .distinct) (k .below) (s .0) i ∙ rw e (s .1 i h),
@@ -217,7 +217,7 @@ module _ (r n : ℕ) (H : Matrix) where
 
   pub spans-many : (ps : List ℕ) → Distinct ps → Below n ps → ((v : Vector) → Spans r n H ps v) → r ≤ length ps
   spans-many ps d b s =
-      reaches-many r (length ps) (picked H ps) (λ v. ((λ j. s v .0 (getD ps j 0)), λ i h. sym (times-places n H ps d b (s v .0) i (s v .1)) ∙ s v .2 i h))
+      reaches-many r (length ps) (columnsAt H ps) (λ v. ((λ j. s v .0 (getD ps j 0)), λ i h. sym (times-places n H ps d b (s v .0) i (s v .1)) ∙ s v .2 i h))
 
   -- more places reach more
   pub spans-mono : (ps qs : List ℕ) (v : Vector) → ((q : ℕ) → elem q ps ≡ true → elem q qs ≡ true) → Spans r n H ps v → Spans r n H qs v

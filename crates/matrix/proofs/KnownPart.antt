@@ -65,7 +65,7 @@ module _ (order : List ℕ) (o : Order (length order) order) where
     abbrev pub at : ℕ → ℕ
     at j = getD order j 0
 
-    pub record Holds (t u : Vector) : Type 0 where
+    pub record Carries (t u : Vector) : Type 0 where
       pub first : (j : ℕ) → j < m → t j ≡ u (getD order j 0)
       pub last : (j : ℕ) → m ≤ j → j < length order → u (getD order j 0) ≡ z (getD order j 0)
       pub one : m < length order → t m ≡ t1
@@ -73,7 +73,7 @@ module _ (order : List ℕ) (o : Order (length order) order) where
       pub past : (q : ℕ) → length order ≤ q → u q ≡ t0
 
     -- a value of the first part is put
-    holds-put : (t u : Vector) (p : ℕ) (x : Trit) → p < m → Holds t u → Holds (putV t p x) (putV u (at p) x)
+    holds-put : (t u : Vector) (p : ℕ) (x : Trit) → p < m → Carries t u → Carries (putV t p x) (putV u (at p) x)
     holds-put t u p x l k = record {
       first = λ j h. by j h (ℕ-discrete j p);
       last = λ j h g. put-other u (at p) x (at j) (order-apart j p g (omega arith) (λ e. omega arith)) ∙ k .last j h g;
@@ -102,7 +102,7 @@ module _ (order : List ℕ) (o : Order (length order) order) where
           (dot-zero m (λ j. F c (at j)) (λ j. z (at j)) (λ j h. ap (mulT (F c (at j))) (none j h) ∙ mul-zero (F c (at j))))
 
       -- row c has the same product
-      module _ (t u : Vector) (k : Holds t u) (c : ℕ) (h : c < r) where
+      module _ (t u : Vector) (k : Carries t u) (c : ℕ) (h : c < r) where
         placed : times n F u c ≡ addT (dotV (λ j. F c (at j)) (λ j. u (at j)) m) (times n F z c)
         placed =
             parted c u
@@ -129,13 +129,13 @@ module _ (order : List ℕ) (o : Order (length order) order) where
                 (sym (added c ∙ ap (dotV (λ i. F c (at (m + i))) (λ i. z (at (m + i)))) e))
 
       -- the pivots of the first c rows are solved for, at the positions p and at their places p′
-      pub backed-alike : (p p′ : ℕ → ℕ) → ((c : ℕ) → c < r → (p c < m) × (p′ c ≡ getD order (p c) 0)) → (c : ℕ) → c ≤ r → (t u : Vector) → Holds t u
-          → Holds (backed N B p c t) (backed (length order) F p′ c u)
+      pub backed-alike : (p p′ : ℕ → ℕ) → ((c : ℕ) → c < r → (p c < m) × (p′ c ≡ getD order (p c) 0)) → (c : ℕ) → c ≤ r → (t u : Vector) → Carries t u
+          → Carries (backed N B p c t) (backed (length order) F p′ c u)
       unfolding backed
       backed-alike p p′ e zero h t u k = k
       backed-alike p p′ e (suc c) h t u k =
           backed-alike p p′ e c (omega arith) (putV t (p c) (subT (t (p c)) (times N B t c))) (putV u (p′ c) (subT (u (p′ c)) (times n F u c)))
-          (subst (λ (v : Vector). Holds (putV t (p c) (subT (t (p c)) (times N B t c))) v) same
+          (subst (λ (v : Vector). Carries (putV t (p c) (subT (t (p c)) (times N B t c))) v) same
           (holds-put t u (p c) (subT (t (p c)) (times N B t c)) (e c (omega arith) .0) k))
         where
           same : putV u (at (p c)) (subT (t (p c)) (times N B t c)) ≡ putV u (p′ c) (subT (u (p′ c)) (times n F u c))
@@ -144,7 +144,7 @@ module _ (order : List ℕ) (o : Order (length order) order) where
               ∙ ap (λ (q : ℕ). putV u q (subT (u q) (times n F u c))) (sym (e c (omega arith) .1))
 
     -- the values of the first part, put at their places, and those of the last
-    pub fill-holds : (t u : Vector) → ((q : ℕ) → length order ≤ q → z q ≡ t0) → Holds t u → fill (take m order) t z ≡ u
+    pub fill-holds : (t u : Vector) → ((q : ℕ) → length order ≤ q → z q ≡ t0) → Carries t u → fill (take m order) t z ≡ u
     fill-holds t u none k = fun-ext (λ q. by q (decLt q n))
       where
         at-place : (j : ℕ) → j < n → Dec (j < m) → fill (take m order) t z (at j) ≡ u (at j)

@@ -12,7 +12,8 @@
 -- values at the pivots are the same, `backed-alike`, `fill-holds` (KnownPart);
 -- the rank of the first columns depends on no others, `rank-alike`, and where it is full that of all is, `full-more` (FirstPart);
 -- a row less a block's rows is what the steps make of it, `less-more` (Less), `lazy-pivot` (Lazy); an entry is the sum of two before it, `entry-sum`, and
--- that of a row's own trits its combination, `entry-code` (Entries); blocks one after another are columns tried, `lowering-next` (Lowering)
+-- that of a row's own trits its combination, `entry-base3` (Entries); where a block's rows stand, `basis-table`, one after another, `basis-less` (BasisRows);
+-- blocks one after another are columns tried, `lowering-next` (Lowering)
 pub mod Cases
 pub mod Field
 pub mod Dots
@@ -34,6 +35,7 @@ pub mod Values
 pub mod Less
 pub mod Lazy
 pub mod Entries
+pub mod BasisRows
 pub mod Blocks
 pub mod Lowering
 pub mod FirstPart

@@ -106,14 +106,14 @@ fill-same (p ∷ ps) u v w h =
     ap₂ (λ (f : Vector) (x : Trit). putV f p x) (fill-same ps (λ j. u (suc j)) (λ j. v (suc j)) w (λ j l. h (suc j) (omega arith))) (h 0 (omega arith))
 
 -- the columns at the places listed
-abbrev pub picked : Matrix → List ℕ → Matrix
-picked H ps i j = H i (getD ps j 0)
+abbrev pub columnsAt : Matrix → List ℕ → Matrix
+columnsAt H ps i j = H i (getD ps j 0)
 
 module _ (n : ℕ) (H : Matrix) (ps : List ℕ) (d : Distinct ps) (b : Below n ps) where
-  pub times-places : (w : Vector) (i : ℕ) → Supported ps w → times n H w i ≡ times (length ps) (picked H ps) (λ j. w (getD ps j 0)) i
+  pub times-places : (w : Vector) (i : ℕ) → Supported ps w → times n H w i ≡ times (length ps) (columnsAt H ps) (λ j. w (getD ps j 0)) i
   times-places w i z = dot-places n ps (H i) w d b (λ q h e. z q e)
 
-  pub times-fill : (a : Vector) (i : ℕ) → times n H (fill ps a zeros) i ≡ times (length ps) (picked H ps) a i
+  pub times-fill : (a : Vector) (i : ℕ) → times n H (fill ps a zeros) i ≡ times (length ps) (columnsAt H ps) a i
   times-fill a i =
       times-places (fill ps a zeros) i (λ q e. fill-off ps a zeros q e)
-      ∙ dot-right (length ps) (picked H ps i) (λ j. fill ps a zeros (getD ps j 0)) a (λ j h. fill-at ps a zeros j d h)
+      ∙ dot-right (length ps) (columnsAt H ps i) (λ j. fill ps a zeros (getD ps j 0)) a (λ j h. fill-at ps a zeros j d h)

@@ -18,7 +18,7 @@ use Rattle.matrix.specs.Linear.{Vector, Matrix, zeros, column, times, el
 use Rattle.matrix.proofs.Field.{set-not}
 use Rattle.matrix.proofs.Dots.{dot-left, dot-right, dot-swap}
 use Rattle.matrix.proofs.Dimension.{Reaches, dependent}
-use Rattle.matrix.proofs.Places.{Below, picked, times-places, elem-at}
+use Rattle.matrix.proofs.Places.{Below, columnsAt, times-places, elem-at}
 use Rattle.matrix.proofs.Search.{Spans, solve-sound, solve-complete}
 use Rattle.matrix.proofs.Greedy.{Kept, pivots-kept, pivots-elem, unit-spans, keep-reach, kept-injective, kept-few, rank-iff}
 use Rattle.matrix.proofs.Orders.{order-good}
@@ -42,12 +42,12 @@ module _ (r n : ℕ) (H : Matrix) where
       X : Matrix
       X j i = orZeros (solve r n H (column H (getD ps i 0)) qs zeros) (getD qs j 0)
 
-      reached : (x i : ℕ) → x < r → i < length ps → dotV (picked H qs x) (λ j. X j i) (length qs) ≡ picked H ps x i
+      reached : (x i : ℕ) → x < r → i < length ps → dotV (columnsAt H qs x) (λ j. X j i) (length qs) ≡ columnsAt H ps x i
       reached x i h b =
           let t = s (getD ps i 0) (elem-at ps i b) in
           let u = solve-complete r n H (column H (getD ps i 0)) qs zeros (t .0) (t .1) (t .2) in
           let w = solve-sound r n H (column H (getD ps i 0)) qs zeros (u .0) (u .1) in
-          ap (λ (o : Option Vector). dotV (picked H qs x) (λ j. orZeros o (getD qs j 0)) (length qs)) (u .1)
+          ap (λ (o : Option Vector). dotV (columnsAt H qs x) (λ j. orZeros o (getD qs j 0)) (length qs)) (u .1)
           ∙ sym (times-places n H qs (l .distinct) (l .below) (u .0) x (w .0)) ∙ w .1 x h
 
       go : (t : Bool) → leb (length ps) (length qs) ≡ t → length ps ≤ length qs
@@ -55,10 +55,10 @@ module _ (r n : ℕ) (H : Matrix) where
       go false e =
           let d = dependent (length ps) (length qs) X (leb-false (length ps) (length qs) e) in
           absurd (set-not (d .nonzero) (kept-injective r n H ps k (d .w) (λ x h.
-          dot-left (length ps) (picked H ps x) (λ i. dotV (picked H qs x) (λ j. X j i) (length qs)) (d .w) (λ i b. sym (reached x i h b))
-          ∙ sym (dot-swap (length qs) (length ps) (picked H qs x) (d .w) X)
-          ∙ dot-zero (length qs) (picked H qs x) (times (length ps) X (d .w))
-          (λ j b. ap (mulT (picked H qs x j)) (d .vanishes j b) ∙ mul-zero (picked H qs x j)))
+          dot-left (length ps) (columnsAt H ps x) (λ i. dotV (columnsAt H qs x) (λ j. X j i) (length qs)) (d .w) (λ i b. sym (reached x i h b))
+          ∙ sym (dot-swap (length qs) (length ps) (columnsAt H qs x) (d .w) X)
+          ∙ dot-zero (length qs) (columnsAt H qs x) (times (length ps) X (d .w))
+          (λ j b. ap (mulT (columnsAt H qs x j)) (d .vanishes j b) ∙ mul-zero (columnsAt H qs x j)))
           (d .place) (d .below)))
 
   -- more places, no smaller rank

@@ -34,9 +34,9 @@ pow3 zero = 1
 pow3 (suc j) = 3 * pow3 j
 
 -- the number of k trits, the first counting 1, then 3, 9 and so on
-unfoldable pub code : Vector → ℕ → ℕ
-code x zero = 0
-code x (suc k) = number (x 0) + 3 * code (λ j. x (suc j)) k
+unfoldable pub base3 : Vector → ℕ → ℕ
+base3 x zero = 0
+base3 x (suc k) = number (x 0) + 3 * base3 (λ j. x (suc j)) k
 
 -- entry e of the table of the rows b 0 .. b (k - 1)
 abbrev pub entryOf : ℕ → Matrix → ℕ → Vector
@@ -64,15 +64,15 @@ abbrev pub brought : ℕ → ℕ → Matrix → ℕ → Matrix → Matrix
 brought k c b s A i t = cond (eqb i s) (lessOf k (from c) b (A s) t) (A i t)
 
 -- the pivot's row s of the next column is brought up to date, comes to its place, and is made to have 1 there
-abbrev pub taken : ℕ → ℕ → ℕ → Matrix → ℕ → Matrix → Matrix
-taken at k c b s A = scaleRow (at + k) (lessOf k (from c) b (A s) (c + k)) (swapRows (at + k) s (brought k c b s A))
+abbrev pub pivotTaken : ℕ → ℕ → ℕ → Matrix → ℕ → Matrix → Matrix
+pivotTaken at k c b s A = scaleRow (at + k) (lessOf k (from c) b (A s) (c + k)) (swapRows (at + k) s (brought k c b s A))
 
 -- one pivot more, in the first r rows and in the rows of the block; the rows above the pivot's own are as they were (02, C-17, "Clear upwards at the end"),
 -- and past the tables no row is changed
 pub record NextPivot (found : Bool) (r at k c : ℕ) (A B : Matrix) : Type 0 where
   pub answer : found ≡ hasPivot r (at + k) (c + k) (pending at k c (basis r A) A)
   pub none : found ≡ false → B ≡ A
-  pub front : found ≡ true → (i : ℕ) → i < r → B i ≡ taken at k c (basis r A) (pivotRow r (pending at k c (basis r A) A) (c + k) (at + k)) A i
+  pub front : found ≡ true → (i : ℕ) → i < r → B i ≡ pivotTaken at k c (basis r A) (pivotRow r (pending at k c (basis r A) A) (c + k) (at + k)) A i
   pub above : (i : ℕ) → i < at + k → i < r → B i ≡ A i
   pub block : found ≡ true → (j : ℕ) → j < suc k → B (basisRow r j) ≡ grown k (from c) (basis r A) (B (at + k)) j
   pub kept : (i : ℕ) → r + 243 ≤ i → B i ≡ A i
@@ -117,5 +117,5 @@ pub record Front (r : ℕ) (D A B : Matrix) : Type 0 where
 -- ---- columns in another order
 
 -- column j is the column f j, for j below m; 0 past them
-abbrev pub gathered : (ℕ → ℕ) → ℕ → Matrix → Matrix
-gathered f m A i j = cond (ltb j m) (A i (f j)) t0
+abbrev pub columnsBy : (ℕ → ℕ) → ℕ → Matrix → Matrix
+columnsBy f m A i j = cond (ltb j m) (A i (f j)) t0

@@ -11,24 +11,25 @@ use lib.Dec.{ltb}
 use Rattle.trits.specs.Trit.{Trit, t0, subT, mulT, isSet}
 use Rattle.matrix.specs.Linear.{Vector, Matrix}
 use Rattle.matrix.specs.Steps.{swapRows, scaleRow, pivotRow, hasPivot}
-use Rattle.matrix.specs.Blocks.{lessOf, grown, basisRow, basis, from, pending, brought, taken, NextPivot, steps, Block}
+use Rattle.matrix.specs.Blocks.{lessOf, grown, basisRow, basis, from, pending, brought, pivotTaken, NextPivot, steps, Block}
 use Rattle.matrix.proofs.Steps.{first-found, no-pivot, a-pivot}
-use Rattle.matrix.proofs.Blocks.{pending-later, taken-none, block-has, block-more}
+use Rattle.matrix.proofs.Blocks.{pending-later, pivot-taken-none, block-has, block-more}
 use Rattle.grid.specs.Steps.{putRow, clearRow}
 use Rattle.grid.proofs.RowParts.{put-here, put-else}
-use Rattle.blocks.proofs.Bring.{basis-past, basis-in, basis-less}
-use Rattle.pivoting.specs.Steps.{Joined, Ended}
+use Rattle.matrix.proofs.BasisRows.{basis-past, basis-in, basis-less}
+use Rattle.pivoting.specs.Steps.{JoinedRows, Ended}
 
 -- ---- the block's rows are cleared at the new column
 
-pub join-none : (r k c : ℕ) (A : Matrix) → Joined r k c 0 A A
+pub join-none : (r k c : ℕ) (A : Matrix) → JoinedRows r k c 0 A A
 join-none r k c A = record { cleared = λ l h. absurd (omega arith); kept = λ i f. refl }
 
 -- the row that joins is as it was
-pub join-kept : {r k c j : ℕ} {A L : Matrix} → Joined r k c j A L → j ≤ k → L (basisRow r k) ≡ A (basisRow r k)
+pub join-kept : {r k c j : ℕ} {A L : Matrix} → JoinedRows r k c j A L → j ≤ k → L (basisRow r k) ≡ A (basisRow r k)
 join-kept {r} {k} g h = g .kept (basisRow r k) (λ l m z. omega (arith, basis-less r l k (omega arith), z))
 
-pub join-turn : {r k c j : ℕ} {A L B : Matrix} → Joined r k c j A L → j < k → B ≡ clearRow (basisRow r j) (basisRow r k) (c + k) L → Joined r k c (j + 1) A B
+pub join-turn : {r k c j : ℕ} {A L B : Matrix} → JoinedRows r k c j A L → j < k → B ≡ clearRow (basisRow r j) (basisRow r k) (c + k) L
+    → JoinedRows r k c (j + 1) A B
 join-turn {r} {k} {c} {j} {A} {L} {B} g h e = record {
   cleared = λ l m. row l m (ℕ-discrete l j);
   kept = λ i f. other i (f j (omega arith)) ∙ g .kept i (λ l m. f l (omega arith));
@@ -52,7 +53,7 @@ join-turn {r} {k} {c} {j} {A} {L} {B} g h e = record {
 -- ---- the pivot's row comes to its place
 
 module _ (at k c s : ℕ) (b A : Matrix) where
-  pub taken-else : (i : ℕ) → i ≢ at + k → i ≢ s → taken at k c b s A i ≡ A i
+  pub taken-else : (i : ℕ) → i ≢ at + k → i ≢ s → pivotTaken at k c b s A i ≡ A i
   taken-else i f g =
       fun-ext (λ t. rw (ne-eqb i (at + k) f, ne-eqb i s g) (ap (λ (x : Bool). cond x (lessOf k (from c) b (A s) t) (A i t)) (ne-eqb i s g)))
 
@@ -64,7 +65,7 @@ module _ (at k c s : ℕ) (b A : Matrix) where
   moved-set e z = ap (λ (M : Matrix). isSet (M (at + k) (c + k))) e ∙ ap isSet moved-cell ∙ z
 
   pub taken-by : {M₁ M₂ M₃ : Matrix} → M₁ ≡ brought k c b s A → M₂ ≡ swapRows (at + k) s M₁ → M₃ ≡ scaleRow (at + k) (M₂ (at + k) (c + k)) M₂
-      → M₃ ≡ taken at k c b s A
+      → M₃ ≡ pivotTaken at k c b s A
   taken-by {M₁} {M₂} {M₃} e f g =
       g ∙ ap (λ (M : Matrix). scaleRow (at + k) (M (at + k) (c + k)) M) (f ∙ ap (λ (M : Matrix). swapRows (at + k) s M) e)
       ∙ ap (λ (x : Trit). scaleRow (at + k) x (swapRows (at + k) s (brought k c b s A))) moved-cell
@@ -100,19 +101,19 @@ module _ (r at k c : ℕ) (A : Matrix) where
           )
 
       -- the row that joins the block is 0 where the chosen row and the block's rows are
-      pub joins-none : {M₁ M₂ : Matrix} {d : ℕ} → M₁ ≡ taken at k c (basis r A) i A → d ≡ basisRow r k → M₂ ≡ putRow d (M₁ (at + k)) M₁ → (t : ℕ)
+      pub joins-none : {M₁ M₂ : Matrix} {d : ℕ} → M₁ ≡ pivotTaken at k c (basis r A) i A → d ≡ basisRow r k → M₂ ≡ putRow d (M₁ (at + k)) M₁ → (t : ℕ)
           → A i t ≡ t0 → ((n : ℕ) → n < k → basis r A n t ≡ t0) → M₂ (basisRow r k) t ≡ t0
       joins-none {M₁} {M₂} {d} a e′ p t z y =
           ap (λ (M : Matrix). M (basisRow r k) t) p ∙ ap (λ (u : Vector). u t) (put-here d (M₁ (at + k)) M₁ (basisRow r k) (sym e′))
-          ∙ ap (λ (M : Matrix). M (at + k) t) a ∙ taken-none at k c (basis r A) i A t z y
+          ∙ ap (λ (M : Matrix). M (at + k) t) a ∙ pivot-taken-none at k c (basis r A) i A t z y
 
       -- the three matrices, one after another
-      pub next-done : {M₁ M₂ M₃ : Matrix} {d : ℕ} → k < 12 → M₁ ≡ taken at k c (basis r A) i A → d ≡ basisRow r k → M₂ ≡ putRow d (M₁ (at + k)) M₁
-          → Joined r k c k M₂ M₃ → NextPivot true r at k c A M₃
+      pub next-done : {M₁ M₂ M₃ : Matrix} {d : ℕ} → k < 12 → M₁ ≡ pivotTaken at k c (basis r A) i A → d ≡ basisRow r k → M₂ ≡ putRow d (M₁ (at + k)) M₁
+          → JoinedRows r k c k M₂ M₃ → NextPivot true r at k c A M₃
       next-done {M₁} {M₂} {M₃} few a d p′ j = record {
         answer = a-pivot r (at + k) (c + k) later (subst (λ (z : ℕ). z < r) e (chosen .1)) .0;
         none = λ z. absurd (true≢false z);
-        front = λ z n l. last n l ∙ ap (λ (M : Matrix). M n) a ∙ ap (λ (s : ℕ). taken at k c (basis r A) s A n) e;
+        front = λ z n l. last n l ∙ ap (λ (M : Matrix). M n) a ∙ ap (λ (s : ℕ). pivotTaken at k c (basis r A) s A n) e;
         above = λ n g l.
             last n l ∙ ap (λ (M : Matrix). M n) a ∙ taken-else at k c i (basis r A) A n (λ z. omega arith) (λ z. omega (arith, chosen .0, z));
         block = λ z n l. row n l (ℕ-discrete n k);

@@ -51,7 +51,7 @@ pub record ForJoin (ones twos : List ℕ) (rows w f v r k c : ℕ) : Type 0 wher
   pub outside : (t : ℕ) → (t < 64 * f) ⊎ (64 * v ≤ t) → matrixAt w ones twos (basisRow r k) t ≡ t0
 
 -- the first j rows of the block are cleared at the column c + k by row k, and no other row is changed
-pub record Joined (r k c j : ℕ) (A B : Matrix) : Type 0 where
+pub record JoinedRows (r k c j : ℕ) (A B : Matrix) : Type 0 where
   pub cleared : (l : ℕ) → l < j → B (basisRow r l) ≡ (λ t. subT (A (basisRow r l) t) (mulT (A (basisRow r l) (c + k)) (A (basisRow r k) t)))
   pub kept : (i : ℕ) → ((l : ℕ) → l < j → i ≢ basisRow r l) → B i ≡ A i
 

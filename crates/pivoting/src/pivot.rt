@@ -3,9 +3,9 @@ ghost use mathlib.Core.Path.{_≡_};
 ghost use mathlib.Core.Bool.{cond};
 ghost use lib.Dec.{ltb};
 ghost use Rattle.trits.specs.Rows.{matrixAt};
-ghost use Rattle.matrix.specs.Blocks.{basis, taken, NextPivot, Block};
+ghost use Rattle.matrix.specs.Blocks.{basis, pivotTaken, NextPivot, Block};
 ghost use Rattle.grid.specs.Steps.{Rows, Grid};
-ghost use Rattle.pivoting.specs.Steps.{Joined, Ended, ForJoin, ForBringPivot, ForNextPivot, ForTakeBlock};
+ghost use Rattle.pivoting.specs.Steps.{JoinedRows, Ended, ForJoin, ForBringPivot, ForNextPivot, ForTakeBlock};
 use super::search;
 use grid::two_rows;
 
@@ -23,7 +23,7 @@ pub fn join(
 )
     requires { ⌜ ForJoin (now ones) (now twos) rows w f v r k c ⌝ }
     ensures { λ _. ⌜ Rows (now (ones .exit)) (now (twos .exit)) rows w ⌝ }
-    ensures { λ _. ⌜ Joined r k c k (matrixAt w (now (ones .entry)) (now (twos .entry))) (matrixAt w (now (ones .exit)) (now (twos .exit))) ⌝ }
+    ensures { λ _. ⌜ JoinedRows r k c k (matrixAt w (now (ones .entry)) (now (twos .entry))) (matrixAt w (now (ones .exit)) (now (twos .exit))) ⌝ }
 {
     let p = blocks::rows::basis_row(r, k);
     let mut j = 0;
@@ -50,7 +50,7 @@ pub fn bring_pivot(
 )
     requires { ⌜ ForBringPivot (now ones) (now twos) rows w f v r at k c i ⌝ }
     ensures { λ _. ⌜ Grid (now (ones .exit)) (now (twos .exit)) rows w
-        (taken at k c (basis r (matrixAt w (now (ones .entry)) (now (twos .entry)))) i (matrixAt w (now (ones .entry)) (now (twos .entry)))) ⌝ }
+        (pivotTaken at k c (basis r (matrixAt w (now (ones .entry)) (now (twos .entry)))) i (matrixAt w (now (ones .entry)) (now (twos .entry)))) ⌝ }
 {
     blocks::rows::bring(ones, twos, rows, w, f, v, r, k, c, i);
     two_rows::swap_rows(ones, twos, rows, w, at + k, i);

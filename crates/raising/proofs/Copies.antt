@@ -12,7 +12,7 @@ use Rattle.matrix.specs.Linear.{Vector, Matrix, zeros}
 use Rattle.matrix.specs.Blocks.{basisRow}
 use Rattle.grid.specs.Steps.{Grid, putRow, within}
 use Rattle.grid.proofs.Words.{within-in, within-out}
-use Rattle.blocks.proofs.Bring.{basis-past, basis-in, basis-less}
+use Rattle.matrix.proofs.BasisRows.{basis-past, basis-in, basis-less}
 use Rattle.raising.specs.Steps.{Copied}
 
 pub copied-none : (f r c : ℕ) (A : Matrix) → Copied f r 0 c A A

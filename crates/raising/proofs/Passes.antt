@@ -9,7 +9,7 @@ use native.Mathlib.Omega.{arith}
 use borrow.Author.Tests.{lt-ltb, le-ltb, lt-leb, le-leb}
 use lib.Dec.{ltb}
 use lib.ListN.{getD}
-use Rattle.trits.specs.Trit.{Trit, t0, t1, subT, mulT}
+use Rattle.trits.specs.Trit.{Trit, t0, subT, mulT}
 use Rattle.trits.specs.Rows.{matrixAt}
 use Rattle.trits.proofs.Products.{dot-zero}
 use Rattle.trits.proofs.Arithmetic.{add-zero-r, mul-zero}
@@ -179,8 +179,8 @@ pub record Rising (r e : ℕ) (A B : Matrix) : Type 0 where
   pub triangular : Triangular e B
   pub kept : (i : ℕ) → r + 243 ≤ i → B i ≡ A i
 
-pub rising-none : (r : ℕ) (A : Matrix) → ((c : ℕ) → c < r → A c c ≡ t1) → ((c i : ℕ) → c < i → i < r → A i c ≡ t0) → Rising r r A A
-rising-none r A one none = record { few = omega arith; todo = λ i t h l. refl; triangular = record { one = one; none = none }; kept = λ i h. refl }
+pub rising-none : (r : ℕ) (A : Matrix) → Triangular r A → Rising r r A A
+rising-none r A d = record { few = omega arith; todo = λ i t h l. refl; triangular = d; kept = λ i h. refl }
 
 pub rising-turn : {r e : ℕ} {A B C : Matrix} (b : ℕ) → Rising r e A B → b ≤ e → AtEnds r b (risen (e - b) b B) B C → Rising r b A C
 rising-turn {r} {e} {A} {B} {C} b g h f = record {

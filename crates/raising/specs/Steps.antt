@@ -67,11 +67,10 @@ pub record ForRaiseBlock (ones twos : List ℕ) (rows w r b e : ℕ) : Type 0 wh
   pub end : e ≤ r
   pub triangular : Triangular e (matrixAt w ones twos)
 
--- a grid, and r of its rows: 1 on the diagonal of their first r columns, and 0 below it
+-- a grid, and r of its rows, which are triangular
 pub record ForRaise (ones twos : List ℕ) (rows w r : ℕ) : Type 0 where
   pub grid : Rows ones twos rows w
   pub small : length ones ≤ 4294967296
   pub room : r + 243 ≤ rows
   pub columns : r ≤ 64 * w
-  pub one : (c : ℕ) → c < r → matrixAt w ones twos c c ≡ t1
-  pub none : (c i : ℕ) → c < i → i < r → matrixAt w ones twos i c ≡ t0
+  pub triangular : Triangular r (matrixAt w ones twos)

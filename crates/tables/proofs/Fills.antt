@@ -8,21 +8,22 @@ use Rattle.trits.specs.Trit.{addT, zipV}
 use Rattle.matrix.specs.Linear.{Vector, Matrix, zeros}
 use Rattle.matrix.specs.Blocks.{pow3, entryOf, basisRow, basis}
 use Rattle.matrix.proofs.Entries.{pow3-some, entry-sum, entry-none, entry-unit, entry-same}
+use Rattle.matrix.proofs.BasisRows.{pow3-most, basis-table}
 use Rattle.grid.specs.Steps.{putRow, within}
 use Rattle.grid.proofs.RowParts.{put-here, put-else}
 use Rattle.grid.proofs.Words.{within-in}
-use Rattle.tables.specs.Tables.{Filled, Table, Tables}
+use Rattle.tables.specs.Tables.{Extended, Table, Tables}
 
 -- ---- the loop over the entries
 
-pub filled-none : (f v z p : ℕ) (A : Matrix) → Filled f v z p 1 A A
-filled-none f v z p A = record { sums = λ a t h l w. absurd (omega arith); kept = λ i h. refl }
+pub extended-none : (f v z p : ℕ) (A : Matrix) → Extended f v z p 1 A A
+extended-none f v z p A = record { sums = λ a t h l w. absurd (omega arith); kept = λ i h. refl }
 
 -- the next of them becomes a sum
-pub filled-more : {f v z p n : ℕ} {A B C : Matrix} → 0 < p → 0 < n → Filled f v z p n A B
+pub extended-more : {f v z p n : ℕ} {A B C : Matrix} → 0 < p → 0 < n → Extended f v z p n A B
     → C ≡ putRow (z + (p + n)) (within f v (zipV addT (B (z + p)) (B (z + n))) (B (z + (p + n)))) B
-    → Filled f v z p (n + 1) A C
-filled-more {f} {v} {z} {p} {n} {A} {B} {C} some more s e = record { sums = λ a t h l w. at a t h w (ℕ-discrete a n) l; kept = λ i h. by i h }
+    → Extended f v z p (n + 1) A C
+extended-more {f} {v} {z} {p} {n} {A} {B} {C} some more s e = record { sums = λ a t h l w. at a t h w (ℕ-discrete a n) l; kept = λ i h. by i h }
   where
     sum : Vector
     sum = zipV addT (B (z + p)) (B (z + n))
@@ -48,8 +49,8 @@ filled-more {f} {v} {z} {p} {n} {A} {B} {C} some more s e = record { sums = λ a
     by i (inl h) = else i (λ g. omega arith) ∙ s .kept i (inl h)
     by i (inr h) = else i (λ g. omega arith) ∙ s .kept i (inr (omega arith))
 
-pub filled-all : {f v z p n : ℕ} {A B : Matrix} (m : ℕ) → n ≡ m → Filled f v z p n A B → Filled f v z p m A B
-filled-all m e s = rw e at s
+pub extended-all : {f v z p n : ℕ} {A B : Matrix} (m : ℕ) → n ≡ m → Extended f v z p n A B → Extended f v z p m A B
+extended-all m e s = rw e at s
 
 -- ---- a table, from one entry to three times as many
 
@@ -84,7 +85,7 @@ pow3-apart (suc i) (suc j) = by (pow3-apart i j)
     by (inl h) = inl (omega arith)
     by (inr h) = inr (omega arith)
 
-pub table-more : {f v z : ℕ} {A B C : Matrix} (j : ℕ) → j < 4 → Table f v (pow3 j) z A B → Filled f v z (pow3 j) (2 * pow3 j) B C
+pub table-more : {f v z : ℕ} {A B C : Matrix} (j : ℕ) → j < 4 → Table f v (pow3 j) z A B → Extended f v z (pow3 j) (2 * pow3 j) B C
     → Table f v (3 * pow3 j) z A C
 table-more {f} {v} {z} {A} {B} {C} j l s g = record {
   entries = λ e t h w. below t w (suc e) e (omega arith) h;
@@ -122,29 +123,13 @@ table-more {f} {v} {z} {A} {B} {C} j l s g = record {
     by i (inr h) = g .kept i (inr (omega arith)) ∙ s .kept i (inr (omega arith))
 
 -- all of it
-pub table-made : {f v z : ℕ} {A B C D E F : Matrix} → B ≡ putRow z zeros A → Filled f v z 1 2 B C → Filled f v z 3 6 C D → Filled f v z 9 18 D E
-    → Filled f v z 27 54 E F → Table f v 81 z A F
+pub table-made : {f v z : ℕ} {A B C D E F : Matrix} → B ≡ putRow z zeros A → Extended f v z 1 2 B C → Extended f v z 3 6 C D → Extended f v z 9 18 D E
+    → Extended f v z 27 54 E F → Table f v 81 z A F
 unfolding pow3
 table-made {f} {v} {z} e p q s t =
     table-more 3 (omega arith) (table-more 2 (omega arith) (table-more 1 (omega arith) (table-more 0 (omega arith) (table-first f v z e) p) q) s) t
 
 -- ---- the three tables
-
-pow-lt : (j : ℕ) → j < 4 → pow3 j < 81
-unfolding pow3
-pow-lt zero h = omega arith
-pow-lt (suc zero) h = omega arith
-pow-lt (suc (suc zero)) h = omega arith
-pow-lt (suc (suc (suc zero))) h = omega arith
-pow-lt (suc (suc (suc (suc j)))) h = absurd (omega arith)
-
--- row j of the block stands in the table of its four
-pub basis-at : (r h j : ℕ) → j < 4 → basisRow r (4 * h + j) ≡ r + (81 * h + pow3 j)
-unfolding basisRow
-basis-at r h j l =
-    let d : (4 * h + j) / 4 ≡ h = omega arith in
-    let m : (4 * h + j) % 4 ≡ j = omega arith in
-    ap₂ (λ (x y : ℕ). r + (81 * x + pow3 y)) d m
 
 -- table h, made of rows that no table before it has changed, and not changed by those after it
 record Made (f v r h : ℕ) (A D : Matrix) : Type 0 where
@@ -157,7 +142,7 @@ made-by {f} {v} {r} {z} {A} {B} {C} {D} h g s before after = record {
   entries = λ e t l w.
       ap (λ (i : ℕ). D i t) (at e) ∙ ap (λ (u : Vector). u t) (after e l) ∙ s .entries e t l w
       ∙ entry-same 4 (λ j. B (z + pow3 j)) (λ j. A (r + (81 * h + pow3 j))) e t (λ j m. ap (λ (u : Vector). u t) (before (pow3 j) ∙ ap A (sym (at (pow3 j)))));
-  own = λ j l. ap D (at (pow3 j)) ∙ after (pow3 j) (pow-lt j l) ∙ s .own j ∙ before (pow3 j) ∙ ap A (sym (at (pow3 j)));
+  own = λ j l. ap D (at (pow3 j)) ∙ after (pow3 j) (omega (arith, pow3-most j l)) ∙ s .own j ∙ before (pow3 j) ∙ ap A (sym (at (pow3 j)));
 }
   where
     at : (k : ℕ) → r + (81 * h + k) ≡ z + k
@@ -177,7 +162,7 @@ module _ {f v r : ℕ} {A B C D : Matrix} (s : Table f v 81 r A B) (t : Table f 
       entries = λ h e q l m w.
           made h l .entries e q m w
           ∙ entry-same 4 (λ j. A (r + (81 * h + pow3 j))) (λ j. basis r D (4 * h + j)) e q
-          (λ j g. ap (λ (x : Vector). x q) (sym (ap D (basis-at r h j g) ∙ made h l .own j g)));
+          (λ j g. ap (λ (x : Vector). x q) (sym (ap D (basis-table r h j g) ∙ made h l .own j g)));
     };
     block = λ j l. by j l (j / 4) (j % 4) (omega arith, omega arith);
     kept = λ i h. beside i h;
@@ -185,7 +170,7 @@ module _ {f v r : ℕ} {A B C D : Matrix} (s : Table f v 81 r A B) (t : Table f 
     where
       by : (j : ℕ) → j < 12 → (h k : ℕ) → (j ≡ 4 * h + k) × (k < 4) → basis r D j ≡ basis r A j
       by j l h k (e, g) =
-          let d : basisRow r j ≡ r + (81 * h + pow3 k) = ap (basisRow r) e ∙ basis-at r h k g in
+          let d : basisRow r j ≡ r + (81 * h + pow3 k) = ap (basisRow r) e ∙ basis-table r h k g in
           ap D d ∙ made h (omega arith) .own k g ∙ ap A (sym d)
 
       beside : (i : ℕ) → (i < r) ⊎ (r + 243 ≤ i) → D i ≡ A i

@@ -14,10 +14,10 @@ use Rattle.trits.proofs.Reading.{bitAt-place}
 use Rattle.trits.proofs.Put.{low-bit}
 use Rattle.trits.proofs.WordOps as masks
 use Rattle.matrix.specs.Linear.{Vector}
-use Rattle.matrix.specs.Blocks.{code, pow3}
-use Rattle.matrix.proofs.Entries.{code-lt}
+use Rattle.matrix.specs.Blocks.{base3, pow3}
+use Rattle.matrix.proofs.Entries.{base3-lt}
 use Rattle.grid.proofs.Cells.{cell}
-use Rattle.tables.specs.Steps.{Twelve, digits, pairsOf}
+use Rattle.tables.specs.Steps.{Twelve, twoDigits, digitPairs}
 
 -- the bit that is read is 0 or 1
 pub read-bit : (w b : ℕ) → bitAnd (w / 2 ^ b) 1 < 2
@@ -81,8 +81,8 @@ module _ (w : ℕ) (o t : List ℕ) (i c : ℕ) (h : c + 4 ≤ 64 * w) where
 
   pub four-read : (x y z u : ℕ) → x ≡ number (tritAt o t (64 * (i * w) + c)) → y ≡ number (tritAt o t (64 * (i * w) + c + 1))
       → z ≡ number (tritAt o t (64 * (i * w) + c + 2)) → u ≡ number (tritAt o t (64 * (i * w) + c + 3))
-      → x + 3 * y + 9 * z + 27 * u ≡ code (λ j. matrixAt w o t i (c + j)) 4
-  unfolding code
+      → x + 3 * y + 9 * z + 27 * u ≡ base3 (λ j. matrixAt w o t i (c + j)) 4
+  unfolding base3
   four-read x y z u a b d e =
       omega (
         arith,
@@ -94,49 +94,49 @@ module _ (w : ℕ) (o t : List ℕ) (i c : ℕ) (h : c + 4 ≤ 64 * w) where
 
 -- ---- four of twelve trits
 
-pub digits-lt : (n : ℕ) → digits n < 5
-unfolding digits
+pub digits-lt : (n : ℕ) → twoDigits n < 5
+unfolding twoDigits
 digits-lt n = omega arith
 
-pub pairs-lt : (n : ℕ) → pairsOf n < 4096
-unfolding pairsOf
+pub pairs-lt : (n : ℕ) → digitPairs n < 4096
+unfolding digitPairs
 pairs-lt n = omega (arith, digits-lt n, digits-lt (n / 16), digits-lt (n / 256))
 
 -- two bits make a number, and the second of them counts once more
-two-bits : (m : ℕ) → digits m ≡ m % 4 + m / 2 % 2
-unfolding digits
+two-bits : (m : ℕ) → twoDigits m ≡ m % 4 + m / 2 % 2
+unfolding twoDigits
 two-bits m = omega arith
 
 pub pairs-made : (n : ℕ)
-    → n % 4 + 16 * (n / 16 % 4) + 256 * (n / 256 % 4) + (n / 2 % 2 + 16 * (n / 32 % 2) + 256 * (n / 512 % 2)) ≡ pairsOf n
-unfolding pairsOf
+    → n % 4 + 16 * (n / 16 % 4) + 256 * (n / 256 % 4) + (n / 2 % 2 + 16 * (n / 32 % 2) + 256 * (n / 512 % 2)) ≡ digitPairs n
+unfolding digitPairs
 pairs-made n =
     by (n % 4) (n / 16 % 4) (n / 256 % 4) (n / 2 % 2) (n / 32 % 2) (n / 512 % 2) (two-bits n)
     (two-bits (n / 16) ∙ ap (λ (k : ℕ). n / 16 % 4 + k) (omega arith)) (two-bits (n / 256) ∙ ap (λ (k : ℕ). n / 256 % 4 + k) (omega arith))
   where
-    by : (a b c d e f : ℕ) → digits n ≡ a + d → digits (n / 16) ≡ b + e → digits (n / 256) ≡ c + f
-        → a + 16 * b + 256 * c + (d + 16 * e + 256 * f) ≡ digits n + 16 * digits (n / 16) + 256 * digits (n / 256)
+    by : (a b c d e f : ℕ) → twoDigits n ≡ a + d → twoDigits (n / 16) ≡ b + e → twoDigits (n / 256) ≡ c + f
+        → a + 16 * b + 256 * c + (d + 16 * e + 256 * f) ≡ twoDigits n + 16 * twoDigits (n / 16) + 256 * twoDigits (n / 256)
     by a b c d e f g h k = omega arith
 
 -- the numbers of both planes together, each in its four bits
 module _ (x y : ℕ) where
   abbrev both : ℕ
-  both = pairsOf x + 2 * pairsOf y
+  both = digitPairs x + 2 * digitPairs y
 
   lane : (a b c a′ b′ c′ n : ℕ) → a < 5 → b < 5 → c < 5 → a′ < 5 → b′ < 5 → c′ < 5 → n ≡ (a + 16 * b + 256 * c) + 2 * (a′ + 16 * b′ + 256 * c′)
       → (n % 16 ≡ a + 2 * a′) × (n / 16 % 16 ≡ b + 2 * b′) × (n / 256 % 16 ≡ c + 2 * c′)
   lane a b c a′ b′ c′ n d e f d′ e′ f′ m = (omega arith, omega arith, omega arith)
 
-  lanes : (both % 16 ≡ digits x + 2 * digits y) × (both / 16 % 16 ≡ digits (x / 16) + 2 * digits (y / 16))
-      × (both / 256 % 16 ≡ digits (x / 256) + 2 * digits (y / 256))
-  unfolding pairsOf
+  lanes : (both % 16 ≡ twoDigits x + 2 * twoDigits y) × (both / 16 % 16 ≡ twoDigits (x / 16) + 2 * twoDigits (y / 16))
+      × (both / 256 % 16 ≡ twoDigits (x / 256) + 2 * twoDigits (y / 256))
+  unfolding digitPairs
   lanes =
-      lane (digits x) (digits (x / 16)) (digits (x / 256)) (digits y) (digits (y / 16)) (digits (y / 256)) both (digits-lt x) (digits-lt (x / 16))
-      (digits-lt (x / 256)) (digits-lt y) (digits-lt (y / 16)) (digits-lt (y / 256)) refl
+      lane (twoDigits x) (twoDigits (x / 16)) (twoDigits (x / 256)) (twoDigits y) (twoDigits (y / 16)) (twoDigits (y / 256)) both (digits-lt x)
+      (digits-lt (x / 16)) (digits-lt (x / 256)) (digits-lt y) (digits-lt (y / 16)) (digits-lt (y / 256)) refl
 
 -- two bits from place u on
-digits-at : (u n m : ℕ) → m ≡ n / 2 ^ u → digits m ≡ bit (u + 0) n + 3 * bit (u + 1) n
-unfolding digits bit
+digits-at : (u n m : ℕ) → m ≡ n / 2 ^ u → twoDigits m ≡ bit (u + 0) n + 3 * bit (u + 1) n
+unfolding twoDigits bit
 digits-at u n m e = rw e (ap₂ (λ (a b : ℕ). a + 3 * b) (ap (λ (k : ℕ). k % 2) (omega arith) ∙ shr-bit u 0 n) (shr-bit u 1 n))
 
 module _ (w : ℕ) {o t : List ℕ} (r : Row o t) (i c : ℕ) (h : c + 12 ≤ 64 * w) {x y : ℕ} (ox : Twelve o (64 * (i * w) + c) x)
@@ -148,7 +148,7 @@ module _ (w : ℕ) {o t : List ℕ} (r : Row o t) (i c : ℕ) (h : c + 12 ≤ 64
   -- four trits, from place u of the twelve on
   entry-at : (u : ℕ) → u ≤ 8 → (a b : ℕ) → a ≡ (bit (u + 0) x + 3 * bit (u + 1) x) + 2 * (bit (u + 0) y + 3 * bit (u + 1) y)
       → b ≡ (bit (2 + u + 0) x + 3 * bit (2 + u + 1) x) + 2 * (bit (2 + u + 0) y + 3 * bit (2 + u + 1) y)
-      → a + 9 * b ≡ code (λ j. matrixAt w o t i ((c + u) + j)) 4
+      → a + 9 * b ≡ base3 (λ j. matrixAt w o t i ((c + u) + j)) 4
   entry-at u l a b e f =
       together (bit (u + 0) x) (bit (u + 1) x) (bit (2 + u + 0) x) (bit (2 + u + 1) x)
       (bit (u + 0) y) (bit (u + 1) y) (bit (2 + u + 0) y) (bit (2 + u + 1) y) a b _ e f
@@ -160,26 +160,26 @@ module _ (w : ℕ) {o t : List ℕ} (r : Row o t) (i c : ℕ) (h : c + 12 ≤ 64
       together p q s v p′ q′ s′ v′ a b n e f g = omega arith
 
   -- the bits that a number is made of
-  pair-at : (u a m n : ℕ) → a ≡ digits m + 2 * digits n → m ≡ x / 2 ^ u → n ≡ y / 2 ^ u
+  pair-at : (u a m n : ℕ) → a ≡ twoDigits m + 2 * twoDigits n → m ≡ x / 2 ^ u → n ≡ y / 2 ^ u
       → a ≡ (bit (u + 0) x + 3 * bit (u + 1) x) + 2 * (bit (u + 0) y + 3 * bit (u + 1) y)
   pair-at u a m n e f g = e ∙ ap₂ (λ (p q : ℕ). p + 2 * q) (digits-at u x m f) (digits-at u y n g)
 
-  pub first-entry : both x y % 16 + 9 * (both (x / 2 ^ 2) (y / 2 ^ 2) % 16) ≡ code (λ j. matrixAt w o t i (c + j)) 4
+  pub first-entry : both x y % 16 + 9 * (both (x / 2 ^ 2) (y / 2 ^ 2) % 16) ≡ base3 (λ j. matrixAt w o t i (c + j)) 4
   first-entry =
       entry-at 0 (omega arith) _ _ (pair-at 0 _ x y (lanes x y .0) (omega arith) (omega arith))
       (pair-at 2 _ (x / 2 ^ 2) (y / 2 ^ 2) (lanes (x / 2 ^ 2) (y / 2 ^ 2) .0) refl refl)
-      ∙ ap (λ (k : ℕ). code (λ j. matrixAt w o t i (k + j)) 4) (omega arith)
+      ∙ ap (λ (k : ℕ). base3 (λ j. matrixAt w o t i (k + j)) 4) (omega arith)
 
-  pub second-entry : both x y / 2 ^ 4 % 16 + 9 * (both (x / 2 ^ 2) (y / 2 ^ 2) / 2 ^ 4 % 16) ≡ code (λ j. matrixAt w o t i ((c + 4) + j)) 4
+  pub second-entry : both x y / 2 ^ 4 % 16 + 9 * (both (x / 2 ^ 2) (y / 2 ^ 2) / 2 ^ 4 % 16) ≡ base3 (λ j. matrixAt w o t i ((c + 4) + j)) 4
   second-entry =
       entry-at 4 (omega arith) _ _ (pair-at 4 _ (x / 16) (y / 16) (lanes x y .1) (omega arith) (omega arith))
       (pair-at 6 _ (x / 2 ^ 2 / 16) (y / 2 ^ 2 / 16) (lanes (x / 2 ^ 2) (y / 2 ^ 2) .1) (omega arith) (omega arith))
 
-  pub third-entry : both x y / 2 ^ 8 % 16 + 9 * (both (x / 2 ^ 2) (y / 2 ^ 2) / 2 ^ 8 % 16) ≡ code (λ j. matrixAt w o t i ((c + 8) + j)) 4
+  pub third-entry : both x y / 2 ^ 8 % 16 + 9 * (both (x / 2 ^ 2) (y / 2 ^ 2) / 2 ^ 8 % 16) ≡ base3 (λ j. matrixAt w o t i ((c + 8) + j)) 4
   third-entry =
       entry-at 8 (omega arith) _ _ (pair-at 8 _ (x / 256) (y / 256) (lanes x y .2) (omega arith) (omega arith))
       (pair-at 10 _ (x / 2 ^ 2 / 256) (y / 2 ^ 2 / 256) (lanes (x / 2 ^ 2) (y / 2 ^ 2) .2) (omega arith) (omega arith))
 
-pub four-lt : (x : Vector) → code x 4 < 81
+pub four-lt : (x : Vector) → base3 x 4 < 81
 unfolding pow3
-four-lt x = code-lt 4 x
+four-lt x = base3-lt 4 x

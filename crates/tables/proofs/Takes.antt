@@ -8,7 +8,7 @@ use Rattle.trits.specs.Trit.{t0, subT, mulT}
 use Rattle.trits.proofs.Products.{dot-zero}
 use Rattle.trits.proofs.Arithmetic.{add-zero-r, mul-zero}
 use Rattle.matrix.specs.Linear.{Vector, Matrix}
-use Rattle.matrix.specs.Blocks.{lessOf, code, entryOf, basisRow, basis, from, Cleared}
+use Rattle.matrix.specs.Blocks.{lessOf, base3, entryOf, basisRow, basis, from, Cleared}
 use Rattle.matrix.proofs.Dots.{dot-right}
 use Rattle.matrix.proofs.Entries.{entry-same, less-entries}
 use Rattle.grid.specs.Steps.{putRow, within, lessThree}
@@ -20,7 +20,7 @@ use Rattle.tables.specs.Tables.{Tabled, Tables, Taken}
 
 module _ {f v r : ℕ} {A : Matrix} (s : Tabled f v r A) {e g h : ℕ} (le : e < 81) (lg : g < 81) (lh : h < 81) where
   -- the row less three entries is the row cleared at the twelve columns; in the words that the tables leave out the block's rows are 0
-  pub three-less : (c i : ℕ) → e ≡ code (λ j. A i (c + j)) 4 → g ≡ code (λ j. A i ((c + 4) + j)) 4 → h ≡ code (λ j. A i ((c + 8) + j)) 4
+  pub three-less : (c i : ℕ) → e ≡ base3 (λ j. A i (c + j)) 4 → g ≡ base3 (λ j. A i ((c + 4) + j)) 4 → h ≡ base3 (λ j. A i ((c + 8) + j)) 4
       → ((j t : ℕ) → j < 12 → (t < 64 * f) ⊎ (64 * v ≤ t) → basis r A j t ≡ t0)
       → within f v (lessThree A i (r + e) (r + (81 + g)) (r + (162 + h))) (A i) ≡ lessOf 12 (from c) (basis r A) (A i)
   three-less c i p q u outside = fun-ext (λ t. by t (decLt t (64 * f)) (decLt t (64 * v)))
@@ -29,26 +29,26 @@ module _ {f v r : ℕ} {A : Matrix} (s : Tabled f v r A) {e g h : ℕ} (le : e <
       three = lessThree A i (r + e) (r + (81 + g)) (r + (162 + h))
 
       -- the entry that the four trits from column k of the twelve on stand for
-      at : (n k x y : ℕ) → n < 3 → x < 81 → 4 * n ≡ k → x ≡ code (λ j. A i ((c + k) + j)) 4 → r + (81 * n + x) ≡ y → (t : ℕ)
-          → (64 * f ≤ t) × (t < 64 * v) → A y t ≡ entryOf 4 (λ j. basis r A (k + j)) (code (λ j. A i (c + (k + j))) 4) t
+      at : (n k x y : ℕ) → n < 3 → x < 81 → 4 * n ≡ k → x ≡ base3 (λ j. A i ((c + k) + j)) 4 → r + (81 * n + x) ≡ y → (t : ℕ)
+          → (64 * f ≤ t) × (t < 64 * v) → A y t ≡ entryOf 4 (λ j. basis r A (k + j)) (base3 (λ j. A i (c + (k + j))) 4) t
       at n k x y l m d b a t o =
           let old : Vector = λ j. A i ((c + k) + j) in
           let new : Vector = λ j. A i (c + (k + j)) in
           let same : old ≡ new = fun-ext (λ j. ap (A i) (omega arith)) in
           ap (λ (z : ℕ). A z t) (sym a) ∙ s .entries n x t l m o
-          ∙ ap₂ (λ (z o : ℕ). entryOf 4 (λ j. basis r A (z + j)) o t) d (b ∙ ap (λ (z : Vector). code z 4) same)
+          ∙ ap₂ (λ (z o : ℕ). entryOf 4 (λ j. basis r A (z + j)) o t) d (b ∙ ap (λ (z : Vector). base3 z 4) same)
 
-      first : (t : ℕ) → (64 * f ≤ t) × (t < 64 * v) → A (r + e) t ≡ entryOf 4 (basis r A) (code (λ j. A i (c + j)) 4) t
+      first : (t : ℕ) → (64 * f ≤ t) × (t < 64 * v) → A (r + e) t ≡ entryOf 4 (basis r A) (base3 (λ j. A i (c + j)) 4) t
       first t o =
           let a : r + e ≡ r + (81 * 0 + e) = omega arith in
           ap (λ (z : ℕ). A z t) a ∙ s .entries 0 e t (omega arith) le o
           ∙ entry-same 4 (λ j. basis r A (4 * 0 + j)) (basis r A) e t (λ j l. ap (λ (z : ℕ). basis r A z t) (omega arith))
           ∙ ap (λ (z : ℕ). entryOf 4 (basis r A) z t) p
 
-      second : (t : ℕ) → (64 * f ≤ t) × (t < 64 * v) → A (r + (81 + g)) t ≡ entryOf 4 (λ j. basis r A (4 + j)) (code (λ j. A i (c + (4 + j))) 4) t
+      second : (t : ℕ) → (64 * f ≤ t) × (t < 64 * v) → A (r + (81 + g)) t ≡ entryOf 4 (λ j. basis r A (4 + j)) (base3 (λ j. A i (c + (4 + j))) 4) t
       second = at 1 4 g (r + (81 + g)) (omega arith) lg refl q refl
 
-      third : (t : ℕ) → (64 * f ≤ t) × (t < 64 * v) → A (r + (162 + h)) t ≡ entryOf 4 (λ j. basis r A (8 + j)) (code (λ j. A i (c + (8 + j))) 4) t
+      third : (t : ℕ) → (64 * f ≤ t) × (t < 64 * v) → A (r + (162 + h)) t ≡ entryOf 4 (λ j. basis r A (8 + j)) (base3 (λ j. A i (c + (8 + j))) 4) t
       third = at 2 8 h (r + (162 + h)) (omega arith) lh refl u refl
 
       inside : (t : ℕ) → (64 * f ≤ t) × (t < 64 * v) → within f v three (A i) t ≡ lessOf 12 (from c) (basis r A) (A i) t

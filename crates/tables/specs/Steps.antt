@@ -16,12 +16,12 @@ pub record Twelve (plane : List ℕ) (p n : ℕ) : Type 0 where
   pub bits : (k : ℕ) → k < 12 → bit k n ≡ bitAt plane (p + k)
 
 -- the lowest two bits of n as digits to the base 3
-unfoldable pub digits : ℕ → ℕ
-digits n = n % 2 + 3 * (n / 2 % 2)
+unfoldable pub twoDigits : ℕ → ℕ
+twoDigits n = n % 2 + 3 * (n / 2 % 2)
 
 -- and so the first two of each four of the lowest twelve bits, each number in four bits of its own
-unfoldable pub pairsOf : ℕ → ℕ
-pairsOf n = digits n + 16 * digits (n / 16) + 256 * digits (n / 256)
+unfoldable pub digitPairs : ℕ → ℕ
+digitPairs n = twoDigits n + 16 * twoDigits (n / 16) + 256 * twoDigits (n / 256)
 
 -- a grid, words of its rows, and the rows of a table up to three times the entry p
 pub record ForFillTable (ones twos : List ℕ) (rows w f v z p : ℕ) : Type 0 where
@@ -36,18 +36,6 @@ pub record ForTable (ones twos : List ℕ) (rows w f v z n : ℕ) : Type 0 where
   pub width : v ≤ w
   pub room : z + n ≤ rows
 
--- a grid with tables after its first r rows, whose block is 0 before word f and from word v on; twelve columns, and the rows a to b - 1
-pub record ForTakeRows (ones twos : List ℕ) (rows w f v r c a b : ℕ) : Type 0 where
-  pub grid : Rows ones twos rows w
-  pub small : length ones ≤ 4294967296
-  pub room : r + 243 ≤ rows
-  pub ordered : a ≤ b
-  pub end : b ≤ r
-  pub width : v ≤ w
-  pub columns : c + 12 ≤ 64 * w
-  pub tabled : Tabled f v r (matrixAt w ones twos)
-  pub outside : (j t : ℕ) → j < 12 → (t < 64 * f) ⊎ (64 * v ≤ t) → matrixAt w ones twos (basisRow r j) t ≡ t0
-
 -- a grid with a block's rows among the 243 after its first r, which are 0 before word f and from word v on; twelve columns, and the rows a to b - 1
 pub record ForClearByTables (ones twos : List ℕ) (rows w f v r c a b : ℕ) : Type 0 where
   pub grid : Rows ones twos rows w
@@ -58,3 +46,8 @@ pub record ForClearByTables (ones twos : List ℕ) (rows w f v r c a b : ℕ) : 
   pub width : v ≤ w
   pub columns : c + 12 ≤ 64 * w
   pub outside : (j t : ℕ) → j < 12 → (t < 64 * f) ⊎ (64 * v ≤ t) → matrixAt w ones twos (basisRow r j) t ≡ t0
+
+-- and the tables are those of the block's rows
+pub record ForTakeEntries (ones twos : List ℕ) (rows w f v r c a b : ℕ) : Type 0 where
+  pub clears : ForClearByTables ones twos rows w f v r c a b
+  pub tabled : Tabled f v r (matrixAt w ones twos)

@@ -7,7 +7,7 @@ use Rattle.matrix.specs.Linear.{Matrix}
 use Rattle.matrix.specs.Blocks.{lessOf, pow3, entryOf, basis, from}
 
 -- of the table at row z, the entries p + 1 .. p + n - 1 have become the sums of entry p and those before them
-pub record Filled (f v z p n : ℕ) (A B : Matrix) : Type 0 where
+pub record Extended (f v z p n : ℕ) (A B : Matrix) : Type 0 where
   pub sums : (a t : ℕ) → 0 < a → a < n → (64 * f ≤ t) × (t < 64 * v) → B (z + (p + a)) t ≡ addT (A (z + p) t) (B (z + a) t)
   pub kept : (i : ℕ) → (i ≤ z + p) ⊎ (z + (p + n) ≤ i) → B i ≡ A i
 

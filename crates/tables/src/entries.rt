@@ -4,7 +4,7 @@ ghost use Prim.Native.Nat.{_+_, _*_, _%_, _≤_, _<_};
 ghost use lib.ListN.{length};
 ghost use Rattle.trits.specs.Trit.{number};
 ghost use Rattle.trits.specs.Planes.{tritAt, Row};
-ghost use Rattle.tables.specs.Steps.{Twelve, pairsOf};
+ghost use Rattle.tables.specs.Steps.{Twelve, digitPairs};
 
 // The number of the trit at place p, without a branch.
 pub fn number_at(ones: &[u64], twos: &[u64], p: usize) -> usize
@@ -35,7 +35,7 @@ pub fn twelve_from(plane: &[u64], p: usize) -> u64
 
 // Of the lowest twelve bits the first two of each four, as digits of a number to the base 3: each number in four bits of its own.
 pub fn pairs(n: u64) -> u64
-    ensures { λ r. ⌜ r ≡ pairsOf n ⌝ }
+    ensures { λ r. ⌜ r ≡ digitPairs n ⌝ }
 {
     let pair = n % 4 + 16 * (n / 16 % 4) + 256 * (n / 256 % 4);
     let second = n / 2 % 2 + 16 * (n / 32 % 2) + 256 * (n / 512 % 2);
@@ -44,7 +44,7 @@ pub fn pairs(n: u64) -> u64
 
 // The numbers of the first two trits of each four, whose bits are the lowest twelve of x and y.
 pub fn numbers(x: u64, y: u64) -> u64
-    ensures { λ r. ⌜ r ≡ pairsOf x + 2 * pairsOf y ⌝ }
+    ensures { λ r. ⌜ r ≡ digitPairs x + 2 * digitPairs y ⌝ }
 {
     pairs(x) + 2 * pairs(y)
 }

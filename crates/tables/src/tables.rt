@@ -3,8 +3,8 @@ ghost use Prim.Native.Nat.{suc, _*_};
 ghost use Rattle.trits.specs.Rows.{matrixAt};
 ghost use Rattle.matrix.specs.Blocks.{lessOf, basis, from, Cleared};
 ghost use Rattle.grid.specs.Steps.{Rows, Grid, putRow};
-ghost use Rattle.tables.specs.Tables.{Filled, Table, Tables, Taken};
-ghost use Rattle.tables.specs.Steps.{ForFillTable, ForTable, ForTakeRows, ForClearByTables};
+ghost use Rattle.tables.specs.Tables.{Extended, Table, Tables, Taken};
+ghost use Rattle.tables.specs.Steps.{ForFillTable, ForTable, ForTakeEntries, ForClearByTables};
 use super::entries;
 
 // In the table at row z the entries p + 1 to 3 * p - 1 become, in the words f to v - 1, the sums of entry p and those before them.
@@ -20,7 +20,7 @@ pub fn fill_table(
 )
     requires { ⌜ ForFillTable (now ones) (now twos) rows w f v z p ⌝ }
     ensures { λ _. ⌜ Rows (now (ones .exit)) (now (twos .exit)) rows w ⌝ }
-    ensures { λ _. ⌜ Filled f v z p (2 * p) (matrixAt w (now (ones .entry)) (now (twos .entry))) (matrixAt w (now (ones .exit)) (now (twos .exit))) ⌝ }
+    ensures { λ _. ⌜ Extended f v z p (2 * p) (matrixAt w (now (ones .entry)) (now (twos .entry))) (matrixAt w (now (ones .exit)) (now (twos .exit))) ⌝ }
 {
     let n = 2 * p;
     let mut a = 1;
@@ -82,7 +82,7 @@ pub fn take_entries(
     c: usize,
     i: usize,
 )
-    requires { ⌜ ForTakeRows (now ones) (now twos) rows w f v r c i (suc i) ⌝ }
+    requires { ⌜ ForTakeEntries (now ones) (now twos) rows w f v r c i (suc i) ⌝ }
     ensures { λ _. ⌜ Grid (now (ones .exit)) (now (twos .exit)) rows w
         (putRow i (lessOf 12 (from c) (basis r (matrixAt w (now (ones .entry)) (now (twos .entry)))) (matrixAt w (now (ones .entry)) (now (twos .entry)) i))
         (matrixAt w (now (ones .entry)) (now (twos .entry)))) ⌝ }
@@ -122,7 +122,7 @@ pub fn take_rows(
     a: usize,
     b: usize,
 )
-    requires { ⌜ ForTakeRows (now ones) (now twos) rows w f v r c a b ⌝ }
+    requires { ⌜ ForTakeEntries (now ones) (now twos) rows w f v r c a b ⌝ }
     ensures { λ _. ⌜ Rows (now (ones .exit)) (now (twos .exit)) rows w ⌝ }
     ensures { λ _. ⌜ Taken r c a b (matrixAt w (now (ones .entry)) (now (twos .entry))) (matrixAt w (now (ones .exit)) (now (twos .exit))) ⌝ }
 {

@@ -10,7 +10,7 @@ use lib.Bits.{bitXor}
 use lib.ListN.{length, getD, set, length-set}
 use lib.Seq.{getD-set-same, getD-set-other}
 use Rattle.trits.specs.Planes.{bit}
-use Rattle.turning.specs.Steps.{crossed, pairOf, ExchangedPairs, Exchanged}
+use Rattle.turning.specs.Steps.{crossed, pairNumber, ExchangedPairs, Exchanged}
 use Rattle.turning.proofs.Words.{differing, first-low, first-taken, first-kept, second-taken, second-kept}
 use Rattle.turning.proofs.Widths.{Laws, lower, side, crossed-by, set-high, moved}
 
@@ -68,13 +68,13 @@ module _ {j mask s m : ℕ} {l₀ l : List ℕ} (n : Laws j mask) (x : Exchanged
   new-upper : getD l′ (k + j) 0 ≡ b′
   new-upper = getD-set-same (set l k a′) (k + j) b′ 0 (omega (arith, x .kept, n .upper-in m hm, length-set l k a′))
 
-  still : (i : ℕ) → pairOf j i ≢ m → getD l′ i 0 ≡ getD l i 0
+  still : (i : ℕ) → pairNumber j i ≢ m → getD l′ i 0 ≡ getD l i 0
   still i f =
-      getD-set-other (set l k a′) (k + j) i b′ 0 (λ z. f (ap (pairOf j) z ∙ n .upper-pair m hm))
-      ∙ getD-set-other l k i a′ 0 (λ z. f (ap (pairOf j) z ∙ n .lower-pair m hm))
+      getD-set-other (set l k a′) (k + j) i b′ 0 (λ z. f (ap (pairNumber j) z ∙ n .upper-pair m hm))
+      ∙ getD-set-other l k i a′ 0 (λ z. f (ap (pairNumber j) z ∙ n .lower-pair m hm))
 
   -- row i of the pair, column q
-  cell : (i q : ℕ) → i < 64 → q < 64 → pairOf j i ≡ m → (i / j % 2 ≡ 0) ⊎ (i / j % 2 ≡ 1) → (q / j % 2 ≡ 0) ⊎ (q / j % 2 ≡ 1)
+  cell : (i q : ℕ) → i < 64 → q < 64 → pairNumber j i ≡ m → (i / j % 2 ≡ 0) ⊎ (i / j % 2 ≡ 1) → (q / j % 2 ≡ 0) ⊎ (q / j % 2 ≡ 1)
       → bit q (getD l′ i 0) ≡ bit (crossed j q i) (getD l₀ (crossed j i q) 0)
   cell i q h g p = by
     where
@@ -102,16 +102,16 @@ module _ {j mask s m : ℕ} {l₀ l : List ℕ} (n : Laws j mask) (x : Exchanged
   exchange-pair : ExchangedPairs j s (m + 1) l₀ l′
   exchange-pair = record {
     kept = length-set (set l k a′) (k + j) b′ ∙ length-set l k a′ ∙ x .kept;
-    bits = λ i q h g u v. by i q h g u v (ℕ-discrete (pairOf j i) m);
+    bits = λ i q h g u v. by i q h g u v (ℕ-discrete (pairNumber j i) m);
     rest = off;
   }
     where
-      by : (i q : ℕ) → i < 64 → q < 64 → s ≤ pairOf j i → pairOf j i < m + 1 → Dec (pairOf j i ≡ m)
+      by : (i q : ℕ) → i < 64 → q < 64 → s ≤ pairNumber j i → pairNumber j i < m + 1 → Dec (pairNumber j i ≡ m)
           → bit q (getD l′ i 0) ≡ bit (crossed j q i) (getD l₀ (crossed j i q) 0)
       by i q h g u v (yes z) = cell i q h g z (side j i) (side j q)
       by i q h g u v (no f) = ap (bit q) (still i f) ∙ x .bits i q h g u (omega arith)
 
-      off : (i : ℕ) → i < 64 → (pairOf j i < s) ⊎ (m + 1 ≤ pairOf j i) → getD l′ i 0 ≡ getD l₀ i 0
+      off : (i : ℕ) → i < 64 → (pairNumber j i < s) ⊎ (m + 1 ≤ pairNumber j i) → getD l′ i 0 ≡ getD l₀ i 0
       off i h (inl p) = still i (λ z. omega arith) ∙ x .rest i h (inl p)
       off i h (inr p) = still i (λ z. omega arith) ∙ x .rest i h (inr (omega arith))
 
@@ -141,17 +141,17 @@ pub exchange-join : {j mask m n : ℕ} {l₀ l l′ : List ℕ} → Laws j mask 
     → ExchangedPairs j 0 n l₀ l′
 exchange-join {j} {mask} {m} {n} {l₀} {l} {l′} z x y o = record {
   kept = y .kept ∙ x .kept;
-  bits = λ i q h g u v. by i q h g v (decLt (pairOf j i) m);
+  bits = λ i q h g u v. by i q h g v (decLt (pairNumber j i) m);
   rest = off;
 }
   where
-    by : (i q : ℕ) → i < 64 → q < 64 → pairOf j i < n → Dec (pairOf j i < m) → bit q (getD l′ i 0) ≡ bit (crossed j q i) (getD l₀ (crossed j i q) 0)
+    by : (i q : ℕ) → i < 64 → q < 64 → pairNumber j i < n → Dec (pairNumber j i < m) → bit q (getD l′ i 0) ≡ bit (crossed j q i) (getD l₀ (crossed j i q) 0)
     by i q h g v (yes d) = ap (bit q) (y .rest i h (inl d)) ∙ x .bits i q h g (omega arith) d
     by i q h g v (no d) =
         y .bits i q h g (omega arith) v
         ∙ ap (bit (crossed j q i)) (x .rest (crossed j i q) (z .crossed-in i q h g) (inr (omega (arith, z .crossed-pair i q h g))))
 
-    off : (i : ℕ) → i < 64 → (pairOf j i < 0) ⊎ (n ≤ pairOf j i) → getD l′ i 0 ≡ getD l₀ i 0
+    off : (i : ℕ) → i < 64 → (pairNumber j i < 0) ⊎ (n ≤ pairNumber j i) → getD l′ i 0 ≡ getD l₀ i 0
     off i h (inl p) = absurd (omega arith)
     off i h (inr p) = y .rest i h (inr p) ∙ x .rest i h (inr (omega arith))
 

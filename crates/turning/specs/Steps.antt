@@ -21,14 +21,14 @@ pub record Exchanged (j : ℕ) (l₀ l : List ℕ) : Type 0 where
   pub bits : (i b : ℕ) → i < 64 → b < 64 → bit b (getD l i 0) ≡ bit (crossed j b i) (getD l₀ (crossed j i b) 0)
 
 -- the pair of row i: 32 pairs of rows differ in the bit of width j alone, counted upwards
-unfoldable pub pairOf : ℕ → ℕ → ℕ
-pairOf j i = i / (2 * j) * j + i % j
+unfoldable pub pairNumber : ℕ → ℕ → ℕ
+pairNumber j i = i / (2 * j) * j + i % j
 
 -- the rows of the pairs from m to n - 1 alone have done so
 pub record ExchangedPairs (j m n : ℕ) (l₀ l : List ℕ) : Type 0 where
   pub kept : length l ≡ length l₀
-  pub bits : (i b : ℕ) → i < 64 → b < 64 → m ≤ pairOf j i → pairOf j i < n → bit b (getD l i 0) ≡ bit (crossed j b i) (getD l₀ (crossed j i b) 0)
-  pub rest : (i : ℕ) → i < 64 → (pairOf j i < m) ⊎ (n ≤ pairOf j i) → getD l i 0 ≡ getD l₀ i 0
+  pub bits : (i b : ℕ) → i < 64 → b < 64 → m ≤ pairNumber j i → pairNumber j i < n → bit b (getD l i 0) ≡ bit (crossed j b i) (getD l₀ (crossed j i b) 0)
+  pub rest : (i : ℕ) → i < 64 → (pairNumber j i < m) ⊎ (n ≤ pairNumber j i) → getD l i 0 ≡ getD l₀ i 0
 
 -- the six widths, each with the mask of the columns whose bit of that width is clear
 pub data Width : ℕ → ℕ → Type 0 where

@@ -13,7 +13,7 @@ use Rattle.matrix.specs.Linear.{Vector, Matrix, zeros, times}
 use Rattle.matrix.proofs.Field.{sub-zero-eq}
 use Rattle.matrix.proofs.Dots.{dot-left, dot-right, dot-comm, dot-add, dot-mul, dot-swap, dot-split}
 use Rattle.matrix.proofs.Dimension.{Injective}
-use Rattle.matrix.proofs.Places.{picked, fill-at}
+use Rattle.matrix.proofs.Places.{columnsAt, fill-at}
 use Rattle.matrix.proofs.Greedy.{kept-injective}
 use Rattle.matrix.proofs.Orders.{order-good, dot-order}
 use Rattle.verdict.specs.Verdict.{Key, timesKey, syndrome, HasSyndrome}
@@ -27,13 +27,14 @@ module _ (m k n : ℕ) (H : Matrix) (a : Arrangement) (size : m + k ≡ n) (g : 
   abbrev p : List ℕ
   p = a .order
 
-  placed-times : (e : Vector) (x : ℕ) → times n H (placed p e) x ≡ dotV (picked H p x) e n
+  placed-times : (e : Vector) (x : ℕ) → times n H (placed p e) x ≡ dotV (columnsAt H p x) e n
   placed-times e x =
       dot-order n p (H x) (placed p e) (g .order)
-      ∙ dot-right n (picked H p x) (λ i. placed p e (getD p i 0)) e (λ i l. fill-at p e zeros i (order-good n p (g .order) .0) (omega (arith, g .order .size)))
+      ∙ dot-right n (columnsAt H p x) (λ i. placed p e (getD p i 0)) e
+      (λ i l. fill-at p e zeros i (order-good n p (g .order) .0) (omega (arith, g .order .size)))
 
   -- a word goes where its syndrome goes by the kept columns
-  pub syndrome-times : (e : Vector) (x : ℕ) → x < m → times n H (placed p e) x ≡ times m (picked H p) (syndrome m k (rowOfR m n H p) e) x
+  pub syndrome-times : (e : Vector) (x : ℕ) → x < m → times n H (placed p e) x ≡ times m (columnsAt H p) (syndrome m k (rowOfR m n H p) e) x
   unfolding syndrome timesKey
   syndrome-times e x h =
       placed-times e x
@@ -49,23 +50,23 @@ module _ (m k n : ℕ) (H : Matrix) (a : Arrangement) (size : m + k ≡ n) (g : 
       R = rowOfR m n H p
 
       c : Vector
-      c = picked H p x
+      c = columnsAt H p x
 
       t : Vector
       t i = e (m + i)
 
-  kept-first : Injective m m (picked H p)
+  kept-first : Injective m m (columnsAt H p)
   kept-first w v j h =
-      kept-injective m n H (take m p) (g .kept) w (λ x l. ap (dotV (picked H (take m p) x) w) first
-      ∙ dot-left m (picked H (take m p) x) (picked H p x) w (λ j o. ap (H x) (getD-take m p j 0 o)) ∙ v x l) j (rw first h)
+      kept-injective m n H (take m p) (g .kept) w (λ x l. ap (dotV (columnsAt H (take m p) x) w) first
+      ∙ dot-left m (columnsAt H (take m p) x) (columnsAt H p x) w (λ j o. ap (H x) (getD-take m p j 0 o)) ∙ v x l) j (rw first h)
     where
       first : length (take m p) ≡ m
       first = length-take-le m p (omega (arith, g .order .size, g .fits))
 
   -- (y, 0...0) has the syndrome y
-  start-times : (y : Vector) (x : ℕ) → x < m → times n H (placed p (join m y zeros)) x ≡ times m (picked H p) y x
+  start-times : (y : Vector) (x : ℕ) → x < m → times n H (placed p (join m y zeros)) x ≡ times m (columnsAt H p) y x
   unfolding syndrome timesKey
-  start-times y x h = syndrome-times (join m y zeros) x h ∙ dot-right m (picked H p x) (syndrome m k (rowOfR m n H p) (join m y zeros)) y plain
+  start-times y x h = syndrome-times (join m y zeros) x h ∙ dot-right m (columnsAt H p x) (syndrome m k (rowOfR m n H p) (join m y zeros)) y plain
     where
       plain : (j : ℕ) → j < m → addT (join m y zeros j) (dotV (λ i. join m y zeros (m + i)) (λ i. rowOfR m n H p i j) k) ≡ y j
       plain j l =
@@ -77,12 +78,12 @@ module _ (m k n : ℕ) (H : Matrix) (a : Arrangement) (size : m + k ≡ n) (g : 
   pub syndrome-iff : (y e : Vector)
       → HasSyndrome m k (rowOfR m n H p) e y ↔ ((x : ℕ) → x < m → times n H (placed p e) x ≡ times n H (placed p (join m y zeros)) x)
   syndrome-iff y e = (
-    (λ c x h. syndrome-times e x h ∙ dot-right m (picked H p x) S y c ∙ sym (start-times y x h)),
+    (λ c x h. syndrome-times e x h ∙ dot-right m (columnsAt H p x) S y c ∙ sym (start-times y x h)),
     λ c j h. sub-zero-eq (S j) (y j)
         (kept-first (λ j. addT (S j) (mulT t2 (y j)))
-        (λ x l. dot-add m (picked H p x) S (λ j. mulT t2 (y j))
-        ∙ ap₂ addT (sym (syndrome-times e x l) ∙ c x l ∙ start-times y x l) (dot-mul m t2 (picked H p x) y)
-        ∙ add-neg (times m (picked H p) y x)) j h),
+        (λ x l. dot-add m (columnsAt H p x) S (λ j. mulT t2 (y j))
+        ∙ ap₂ addT (sym (syndrome-times e x l) ∙ c x l ∙ start-times y x l) (dot-mul m t2 (columnsAt H p x) y)
+        ∙ add-neg (times m (columnsAt H p) y x)) j h),
   )
     where
       S : Vector

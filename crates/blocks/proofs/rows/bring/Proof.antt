@@ -8,8 +8,9 @@ use Rattle.trits.specs.Rows.{matrixAt}
 use Rattle.matrix.specs.Linear.{Vector}
 use Rattle.matrix.specs.Blocks.{basis, brought}
 use Rattle.grid.specs.Steps.{Grid}
-use Rattle.grid.proofs.Cells.{grid-of}
-use Rattle.blocks.proofs.Bring.{rows-most, basis-past, basis-in, brought-none, bring-block, bring-turn, bring-done}
+use Rattle.grid.proofs.Cells.{grid-of, rows-most}
+use Rattle.matrix.proofs.BasisRows.{basis-past, basis-in}
+use Rattle.blocks.proofs.Bring.{brought-none, bring-block, bring-turn, bring-done}
 use Rattle.blocks.proofs.rows.bring.Statement.{statement}
 use Rattle.blocks.proofs.rows.bring.Tie as tie
 

@@ -5,7 +5,7 @@ use native.Mathlib.Omega.{arith}
 use denote.Ref.{now}
 use Rattle.matrix.specs.Linear.{Matrix}
 use Rattle.build_matrix.specs.Steps.{placedAt}
-use Rattle.build_key.proofs.BothPasses.{diagonal-one, diagonal-none, key-left}
+use Rattle.build_key.proofs.BothPasses.{first-triangular, key-left}
 use Rattle.build_key.proofs.arrange.arrange.Statement.{statement}
 use Rattle.build_key.proofs.arrange.arrange.Tie as tie
 
@@ -34,8 +34,7 @@ raise-requires c κs =
       small = omega (arith, g .size, s .pre .grid .size, s .pre .small);
       room = s .pre .room;
       columns = omega (arith, f .fits, s .pre .places-fit, s .pre .half-fits, s .pre .words);
-      one = diagonal-one f;
-      none = diagonal-none f;
+      triangular = first-triangular f;
     }
 
 same-length : tie.Need-same-length

@@ -1,4 +1,4 @@
--- The three operations, one after another, are `taken` (`taken-by`).
+-- The three operations, one after another, are `pivotTaken` (`taken-by`).
 -- Assumes nothing.
 use borrow.Author.Needs.{needs}
 use native.Mathlib.Omega.{arith}

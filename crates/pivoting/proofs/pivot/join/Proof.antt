@@ -7,15 +7,16 @@ use denote.Ref.{now}
 use Rattle.trits.specs.Rows.{matrixAt}
 use Rattle.matrix.specs.Linear.{Vector, Matrix}
 use Rattle.grid.specs.Steps.{Rows, clearRow}
-use Rattle.blocks.proofs.Bring.{rows-most, basis-in, basis-less}
-use Rattle.pivoting.specs.Steps.{Joined}
+use Rattle.matrix.proofs.BasisRows.{basis-in, basis-less}
+use Rattle.grid.proofs.Cells.{rows-most}
+use Rattle.pivoting.specs.Steps.{JoinedRows}
 use Rattle.pivoting.proofs.Pivots.{join-none, join-kept, join-turn}
 use Rattle.pivoting.proofs.pivot.join.Statement.{statement}
 use Rattle.pivoting.proofs.pivot.join.Tie as tie
 
 abbrev Inv-loop : tie.InvT-loop
 Inv-loop ones₀ twos₀ rows w f v r k c p j₀ ones twos j =
-    (j ≤ k) × Rows ones twos rows w × Joined r k c j (matrixAt w ones₀ twos₀) (matrixAt w ones twos)
+    (j ≤ k) × Rows ones twos rows w × JoinedRows r k c j (matrixAt w ones₀ twos₀) (matrixAt w ones twos)
 
 abbrev μ-loop : tie.MeasureT-loop
 μ-loop ones₀ twos₀ rows w f v r k c p j₀ ones twos j = k - j

@@ -10,7 +10,8 @@ use Rattle.trits.specs.Trit.{isSet}
 use Rattle.trits.specs.Rows.{matrixAt}
 use Rattle.matrix.specs.Linear.{Matrix}
 use Rattle.matrix.specs.Blocks.{lessOf, basis, from}
-use Rattle.blocks.proofs.Bring.{rows-most, basis-past, basis-in}
+use Rattle.matrix.proofs.BasisRows.{basis-past, basis-in}
+use Rattle.grid.proofs.Cells.{rows-most}
 use Rattle.pivoting.proofs.Pivots.{none-next, chosen, joins-none, next-done}
 use Rattle.pivoting.proofs.pivot.next_pivot.Statement.{statement}
 use Rattle.pivoting.proofs.pivot.next_pivot.Tie as tie

@@ -8,7 +8,8 @@ use Rattle.trits.specs.Trit.{number}
 use Rattle.trits.specs.Rows.{matrixAt}
 use Rattle.matrix.specs.Linear.{Matrix}
 use Rattle.matrix.specs.Blocks.{lessOf, basis, from}
-use Rattle.blocks.proofs.Bring.{rows-most, basis-in}
+use Rattle.matrix.proofs.BasisRows.{basis-in}
+use Rattle.grid.proofs.Cells.{rows-most}
 use Rattle.grid.proofs.RowParts.{trit-lt}
 use Rattle.pivoting.proofs.Numbers.{product-most, now-none, now-turn}
 use Rattle.pivoting.proofs.search.trit_now.Statement.{statement}

@@ -6,8 +6,8 @@ use native.Mathlib.Omega.{arith}
 use denote.Ref.{now}
 use Rattle.trits.specs.Rows.{matrixAt}
 use Rattle.grid.specs.Steps.{Rows}
-use Rattle.grid.proofs.Cells.{cell-past}
-use Rattle.blocks.proofs.Bring.{rows-most, basis-past, basis-in}
+use Rattle.grid.proofs.Cells.{cell-past, rows-most}
+use Rattle.matrix.proofs.BasisRows.{basis-past, basis-in}
 use Rattle.raising.specs.Steps.{Copied}
 use Rattle.raising.proofs.Copies.{copied-none, copied-turn, copied-done}
 use Rattle.raising.proofs.raise.copy_block.Statement.{statement}

@@ -31,7 +31,7 @@ loop-holds : tie.Need-loop-holds Inv-loop μ-loop
 loop-holds c =
     let s = c .before .before in
     let a = s .args in
-    (s .pre .grid, rising-none (a .r) (matrixAt (a .w) (now (a .ones)) (now (a .twos))) (s .pre .one) (s .pre .none))
+    (s .pre .grid, rising-none (a .r) (matrixAt (a .w) (now (a .ones)) (now (a .twos))) (s .pre .triangular))
 
 sub-b : tie.Need-sub-b Inv-loop μ-loop
 sub-b c = omega arith

@@ -35,15 +35,17 @@ take-rows-requires c κs =
     let s = start-from-make-tables m in
     let g = m .make-tables .ensures .0 in
     let t = m .make-tables .ensures .1 in record {
-      grid = g;
-      small = omega (arith, g .size, s .pre .grid .size, s .pre .small);
-      room = s .pre .room;
-      ordered = s .pre .ordered;
-      end = s .pre .end;
-      width = s .pre .width;
-      columns = s .pre .columns;
+      clears = record {
+        grid = g;
+        small = omega (arith, g .size, s .pre .grid .size, s .pre .small);
+        room = s .pre .room;
+        ordered = s .pre .ordered;
+        end = s .pre .end;
+        width = s .pre .width;
+        columns = s .pre .columns;
+        outside = λ j q l o. ap (λ (v : Vector). v q) (t .block j l) ∙ s .pre .outside j q l o;
+      };
       tabled = t .tabled;
-      outside = λ j q l o. ap (λ (v : Vector). v q) (t .block j l) ∙ s .pre .outside j q l o;
     }
 
 same-length : tie.Need-same-length

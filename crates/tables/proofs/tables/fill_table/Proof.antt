@@ -1,18 +1,18 @@
--- Each turn makes one entry more the sum of entry p and one before it (`filled-more`).
+-- Each turn makes one entry more the sum of entry p and one before it (`extended-more`).
 -- Assumes nothing.
 use Prim.Native.Nat.{_-_, _≤_, _<_}
 use native.Mathlib.Omega.{arith}
 use denote.Ref.{now}
 use Rattle.trits.specs.Rows.{matrixAt}
 use Rattle.grid.specs.Steps.{Rows}
-use Rattle.tables.specs.Tables.{Filled}
-use Rattle.tables.proofs.Fills.{filled-none, filled-more, filled-all}
+use Rattle.tables.specs.Tables.{Extended}
+use Rattle.tables.proofs.Fills.{extended-none, extended-more, extended-all}
 use Rattle.tables.proofs.tables.fill_table.Statement.{statement}
 use Rattle.tables.proofs.tables.fill_table.Tie as tie
 
 abbrev Inv-loop : tie.InvT-loop
 Inv-loop ones₀ twos₀ rows w f v z p n a₀ ones twos a =
-    ((0 < a) × (a ≤ n)) × (Rows ones twos rows w × Filled f v z p a (matrixAt w ones₀ twos₀) (matrixAt w ones twos))
+    ((0 < a) × (a ≤ n)) × (Rows ones twos rows w × Extended f v z p a (matrixAt w ones₀ twos₀) (matrixAt w ones twos))
 
 abbrev μ-loop : tie.MeasureT-loop
 μ-loop ones₀ twos₀ rows w f v z p n a₀ ones twos a = n - a
@@ -28,7 +28,7 @@ loop-holds : tie.Need-loop-holds Inv-loop μ-loop
 loop-holds c =
     let s = c .before .before in
     let a = s .args in
-    ((omega arith, omega (arith, s .pre .some)), (s .pre .grid, filled-none (a .f) (a .v) (a .z) (a .p) (matrixAt (a .w) (now (a .ones)) (now (a .twos)))))
+    ((omega arith, omega (arith, s .pre .some)), (s .pre .grid, extended-none (a .f) (a .v) (a .z) (a .p) (matrixAt (a .w) (now (a .ones)) (now (a .twos)))))
 
 add-sum-row : tie.Need-add-sum-row Inv-loop μ-loop
 add-sum-row c = omega (arith, start-from-sum-row-arg2 c .pre .room)
@@ -68,7 +68,7 @@ loop-again c =
     let s = at-loop .before .before .before in
     let l = at-loop .loop in
     let e = after-sum-row .sum-row .ensures in
-    ((omega arith, omega arith), (e .rows, filled-more (s .pre .some) (l .inv .0 .0) (l .inv .1 .1) (e .cells)))
+    ((omega arith, omega arith), (e .rows, extended-more (s .pre .some) (l .inv .0 .0) (l .inv .1 .1) (e .cells)))
 
 same-length : tie.Need-same-length Inv-loop μ-loop
 same-length c = omega (arith, c .before .loop .inv .1 .0 .size, c .before .before .before .before .pre .grid .size)
@@ -82,7 +82,7 @@ same-length-2 c =
 returns : tie.Need-returns Inv-loop μ-loop
 returns c =
     let l = c .before .loop .inv .1 in
-    (l .0, filled-all _ (omega arith) (l .1))
+    (l .0, extended-all _ (omega arith) (l .1))
 
 pub fill-table-spec : {M : Type 1} → statement M
 fill-table-spec =

@@ -23,23 +23,25 @@ loop-holds : tie.Need-loop-holds Inv-loop μ-loop
 loop-holds c =
     let s = c .before .before in
     let a = s .args in
-    ((omega arith, s .pre .ordered), (s .pre .grid, taken-none (a .r) (a .c) (a .a) (matrixAt (a .w) (now (a .ones)) (now (a .twos)))))
+    ((omega arith, s .pre .clears .ordered), (s .pre .clears .grid, taken-none (a .r) (a .c) (a .a) (matrixAt (a .w) (now (a .ones)) (now (a .twos)))))
 
 take-entries-requires : tie.Need-take-entries-requires Inv-loop μ-loop
 take-entries-requires c κs =
     let s = c .before .before .before .before .before .before in
     let l = c .before .before .before .loop in
-    let h : l .i ≤ s .args .r = omega (arith, s .pre .end) in
+    let h : l .i ≤ s .args .r = omega (arith, s .pre .clears .end) in
     let g = l .inv .1 .0 in record {
-      grid = g;
-      small = omega (arith, g .size, s .pre .grid .size, s .pre .small);
-      room = s .pre .room;
-      ordered = omega arith;
-      end = omega (arith, s .pre .end);
-      width = s .pre .width;
-      columns = s .pre .columns;
+      clears = record {
+        grid = g;
+        small = omega (arith, g .size, s .pre .clears .grid .size, s .pre .clears .small);
+        room = s .pre .clears .room;
+        ordered = omega arith;
+        end = omega (arith, s .pre .clears .end);
+        width = s .pre .clears .width;
+        columns = s .pre .clears .columns;
+        outside = λ j t m o. ap (λ (v : Vector). v t) (same-block h (l .inv .1 .1) j) ∙ s .pre .clears .outside j t m o;
+      };
       tabled = taken-tabled h (l .inv .1 .1) (s .pre .tabled);
-      outside = λ j t m o. ap (λ (v : Vector). v t) (same-block h (l .inv .1 .1) j) ∙ s .pre .outside j t m o;
     }
 
 add-i : tie.Need-add-i Inv-loop μ-loop
@@ -55,16 +57,16 @@ loop-again c =
     let s = at-loop .before .before .before in
     let l = at-loop .loop in
     let e = after-take-entries .take-entries .ensures in
-    ((omega arith, omega arith), (e .rows, taken-more (omega (arith, s .pre .end)) (l .inv .1 .1) (l .inv .0 .0) (e .cells)))
+    ((omega arith, omega arith), (e .rows, taken-more (omega (arith, s .pre .clears .end)) (l .inv .1 .1) (l .inv .0 .0) (e .cells)))
 
 same-length : tie.Need-same-length Inv-loop μ-loop
-same-length c = omega (arith, c .before .loop .inv .1 .0 .size, c .before .before .before .before .pre .grid .size)
+same-length c = omega (arith, c .before .loop .inv .1 .0 .size, c .before .before .before .before .pre .clears .grid .size)
 
 same-length-2 : tie.Need-same-length-2 Inv-loop μ-loop
 same-length-2 c =
     let g = c .before .loop .inv .1 .0 in
     let s = c .before .before .before .before in
-    omega (arith, g .size, g .row .same, s .pre .grid .size, s .pre .grid .row .same)
+    omega (arith, g .size, g .row .same, s .pre .clears .grid .size, s .pre .clears .grid .row .same)
 
 returns : tie.Need-returns Inv-loop μ-loop
 returns c =

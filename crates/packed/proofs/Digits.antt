@@ -2,7 +2,7 @@
 use mathlib.Core.Path.{_≡_, refl, ap, ap₂, _∙_}
 use mathlib.Core.List.{List}
 use Prim.Native.Nat.{ℕ, zero, suc, _+_, _*_, _/_, _%_, _^_, _<_}
-use native.Mathlib.Nat.{mod-lt, zero-lt-suc}
+use native.Mathlib.Nat.{mod-lt, zero-div, zero-lt-suc}
 use native.Mathlib.Omega.{arith}
 use lib.Arith.{digits-div, digits-mod}
 use lib.ListN.{getD}
@@ -14,6 +14,11 @@ use Rattle.packed.specs.Packed.{byteOf, digitOf, byteTable, packedRow}
 pub digit-lt : (b k : ℕ) → digitOf b k < 3
 unfolding digitOf
 digit-lt b k = mod-lt (b / 3 ^ k) (zero-lt-suc 2)
+
+-- the digits of 0 are 0
+pub digit-none : (k : ℕ) → digitOf 0 k ≡ 0
+unfolding digitOf
+digit-none k = ap (λ (x : ℕ). x % 3) (zero-div (3 ^ k))
 
 -- the number of the trit of a digit is the digit
 pub digit-number : (b k : ℕ) → number (tritOf (digitOf b k)) ≡ digitOf b k

@@ -1,7 +1,7 @@
 -- The bytes of a stream that give trits: how many there are in its first bytes, and which they are. Assumes nothing.
 use mathlib.Core.Path.{_≡_, refl, sym, ap, _∙_}
 use mathlib.Core.Logic.{_≢_}
-use mathlib.Core.Bool.{Bool, true, false, not, cond}
+use mathlib.Core.Bool.{Bool, true, false, not, _||_, cond}
 use mathlib.Core.List.{List, [], _∷_}
 use Prim.Native.Nat.{ℕ, zero, suc, _+_, _-_, _*_, _≤_, _<_, zero-le, suc-le-suc}
 use native.Mathlib.Nat.{not-suc-le-zero, le-of-suc-le-suc, zero-lt-suc}
@@ -13,7 +13,7 @@ use lib.Dec.{ltb, eqb}
 use lib.ListN.{length, getD, take}
 use lib.Seq.{take-all}
 use Rattle.trits.specs.Trit.{anyTo}
-use Rattle.trits.proofs.Tests.{any-none, any-found, any-passed}
+use Rattle.trits.proofs.Tests.{any-none}
 use Rattle.packed.specs.Packed.{badByte}
 use Rattle.packed.specs.Stream.{kept, tooShort}
 use Rattle.packed.specs.Steps.{missing}
@@ -89,18 +89,15 @@ kept-all bytes e = kept-each bytes (bytes-small bytes e)
 pub kept-enough : (m : ℕ) (bytes : List ℕ) → badByte bytes ≡ false → m ≤ 5 * length bytes → m ≤ 5 * length (kept bytes)
 kept-enough m bytes e h = omega (arith, ap length (kept-all bytes e))
 
--- the three ends of a turn of the search for a byte above 242
+-- a turn of the search for a byte above 242, and its end
 module _ (bytes : List ℕ) (i : ℕ) where
-  pub big-found : i < length bytes → 242 < getD bytes i 0 → true ≡ badByte bytes
-  unfolding badByte
-  big-found l h = sym (any-found (big bytes) i (length bytes) l (lt-ltb 242 (getD bytes i 0) h))
+  pub big-turn : {bad : Bool} → bad ≡ anyTo (big bytes) i → (bad || ltb 242 (getD bytes i 0)) ≡ anyTo (big bytes) (i + 1)
+  unfolding anyTo
+  big-turn e = ap (λ (t : Bool). t || big bytes i) e ∙ sym (ap (anyTo (big bytes)) (add-one i))
 
-  pub big-passed : anyTo (big bytes) i ≡ false → getD bytes i 0 ≤ 242 → anyTo (big bytes) (i + 1) ≡ false
-  big-passed e h = any-passed (big bytes) i e (le-ltb 242 (getD bytes i 0) h)
-
-  pub big-all : i ≡ length bytes → anyTo (big bytes) i ≡ false → false ≡ badByte bytes
+  pub big-all : {bad : Bool} → i ≡ length bytes → bad ≡ anyTo (big bytes) i → bad ≡ badByte bytes
   unfolding badByte
-  big-all p e = sym e ∙ ap (anyTo (big bytes)) p
+  big-all p e = e ∙ ap (anyTo (big bytes)) p
 
 -- ---- how many trits are missing
 

@@ -3,7 +3,7 @@ use mathlib.Core.Path.{_≡_, refl, sym, ap, _∙_}
 use mathlib.Core.Bool.{Bool, true, false}
 use mathlib.Core.List.{List}
 use Prim.Native.Nat.{ℕ, zero, suc, _+_, _-_, _*_, _/_, _%_, _^_, _≤_, _<_}
-use native.Mathlib.Nat.{zero-div, zero-lt-suc, mod-lt, div-eq-of-lt, pow-suc, add-zero, add-suc}
+use native.Mathlib.Nat.{zero-lt-suc, mod-lt, div-eq-of-lt, pow-suc, add-zero, add-suc}
 use native.Mathlib.Decide.{decLt}
 use native.Mathlib.Omega.{arith}
 use borrow.Author.Tests.{le-leb, lt-leb}
@@ -16,14 +16,10 @@ use Rattle.trits.proofs.Ends.{upto-ended}
 use Rattle.trits.proofs.Refusals.{positive}
 use Rattle.packed.specs.Packed.{bytesFor, digitOf, packedRow, badByte, packedPastEnd}
 use Rattle.packed.specs.Stream.{streamRow}
-use Rattle.packed.proofs.Digits.{digit-lt, digit-number, byte-digits, packed-place}
+use Rattle.packed.proofs.Digits.{digit-lt, digit-none, digit-number, byte-digits, packed-place}
 use Rattle.packed.proofs.Keeping.{bytes-small, kept-all}
 
 -- ---- a row that passes is 0 past its length
-
-digit-none : (k : ℕ) → digitOf 0 k ≡ 0
-unfolding digitOf
-digit-none k = ap (λ (x : ℕ). x % 3) (zero-div (3 ^ k))
 
 -- past the bytes there is 0
 pub bytes-end : (bytes : List ℕ) (q : ℕ) → 5 * length bytes ≤ q → packedRow bytes q ≡ t0

@@ -1,2 +1,2 @@
--- What reading and writing packed bytes ask of rows, bytes and the byte table.
+-- What reading and writing packed bytes ask of rows, bytes, the byte table and masks.
 pub mod Steps

@@ -14,14 +14,13 @@ use trits::refusal::Refusal;
 pub fn bad_byte(bytes: &[u8]) -> bool
     ensures { λ r. ⌜ r ≡ badByte (now (bytes .entry)) ⌝ }
 {
+    let mut bad = false;
     let mut i = 0;
     while i < bytes.len() {
-        if bytes[i] > 242 {
-            return true;
-        }
+        bad = bad | (bytes[i] > 242);
         i += 1;
     }
-    false
+    bad
 }
 
 // 3 to the power of a number of trits: the first byte with a nonzero trit past so many.

@@ -32,15 +32,22 @@ pub fn too_short(m: usize, a: [[u64; 5]; 5]) -> bool
 }
 
 // The output's trits are written to the first places of planes that are 0.
-fn put_output(table: &[u8; 1215], m: usize, a: [[u64; 5]; 5], ones: &mut [u64], twos: &mut [u64])
-    requires { ⌜ ForPutOutput (now table) m a (now ones) (now twos) ⌝ }
+fn put_output(
+    in_ones: &[u8; 243],
+    in_twos: &[u8; 243],
+    m: usize,
+    a: [[u64; 5]; 5],
+    ones: &mut [u64],
+    twos: &mut [u64],
+)
+    requires { ⌜ ForPutOutput (now «in_ones») (now «in_twos») m a (now ones) (now twos) ⌝ }
     ensures { λ _. ⌜ Reads (now (ones .exit)) (now (twos .exit)) (length (now (ones .entry))) (streamRow m (outputFor m a)) ⌝ }
 {
     let mut b = a;
     let mut at = 0;
     let mut i = 0;
     while at < m {
-        at = packing::write::put_next(table, m, byte_of(b, i % 136), ones, twos, at);
+        at = packing::write::put_next(in_ones, in_twos, m, byte_of(b, i % 136), ones, twos, at);
         i += 1;
         if i % 136 == 0 {
             let next = keccak::permute(b);
@@ -56,6 +63,7 @@ pub fn write_output(m: usize, a: [[u64; 5]; 5], ones: &mut [u64], twos: &mut [u6
 {
     planes::words::zero_words(ones);
     planes::words::zero_words(twos);
-    let table = packing::table::byte_table();
-    put_output(&table, m, a, ones, twos);
+    let in_ones = packing::table::ones_masks();
+    let in_twos = packing::table::twos_masks();
+    put_output(&in_ones, &in_twos, m, a, ones, twos);
 }

@@ -1,12 +1,13 @@
 -- The bits of a number: the operators work at each bit apart, a number is its bits, and the number that `fromBits` makes of given bits has them;
 -- shifts move them. Assumes nothing.
-use mathlib.Core.Path.{_≡_, sym, ap, _∙_}
+use mathlib.Core.Path.{_≡_, refl, sym, ap, ap₂, _∙_}
 use Prim.Native.Nat.{ℕ, zero, suc, _+_, _-_, _*_, _/_, _%_, _^_, _≤_, _<_, suc-le-suc}
-use native.Mathlib.Nat.{zero-lt-suc, not-suc-le-zero, le-of-suc-le-suc, mod-lt, div-one, zero-div, pow-suc, div-eq-of-lt, mul-assoc}
+use native.Mathlib.Nat.{zero-lt-suc, not-suc-le-zero, le-of-suc-le-suc, mod-lt, div-one, zero-div, pow-suc, div-eq-of-lt, mod-eq-of-lt, one-mul, mul-assoc}
 use native.Mathlib.Numerals.{one-add}
+use native.Mathlib.Decide.{decLt}
 use native.Mathlib.Omega.{arith}
-use lib.Bits.{bitAnd, bitOr, bitXor, and-shr, or-shr, xor-shr, and-mod, or-mod, xor-mod, shifted-even}
-use lib.Pow.{shr-shr, shl-shr, field, mod-mod-pow, pow-add, pow-mono}
+use lib.Bits.{bitAnd, bitOr, bitXor, and-shr, or-shr, xor-shr, and-mod, or-mod, xor-mod, or-lt, or-zero-r, shifted-even}
+use lib.Pow.{shr-shr, shl-shr, field, mod-mod-pow, pow-add, pow-mono, pow-pos, pow-lt}
 use lib.Arith.{lt-one}
 use Rattle.trits.specs.Planes.{bit, fromBits}
 
@@ -75,6 +76,13 @@ bit-from (suc k) f d (suc i) l =
     let half : (f 0 + 2 * fromBits (λ j. f (suc j)) k) / 2 ≡ fromBits (λ j. f (suc j)) k = omega (arith, d 0) in
     bit-next i (fromBits f (suc k)) ∙ ap (bit i) half ∙ bit-from k (λ j. f (suc j)) (λ j. d (suc j)) i (le-of-suc-le-suc l)
 
+-- it is read at the first k places alone
+pub from-same : (k : ℕ) (f g : ℕ → ℕ) → ((i : ℕ) → i < k → f i ≡ g i) → fromBits f k ≡ fromBits g k
+unfolding fromBits
+from-same zero f g e = refl
+from-same (suc k) f g e =
+    ap₂ (λ (a b : ℕ). a + 2 * b) (e 0 (zero-lt-suc k)) (from-same k (λ i. f (suc i)) (λ i. g (suc i)) (λ i l. e (suc i) (suc-le-suc l)))
+
 -- a number is the one that has its bits
 pub from-bits : (k n : ℕ) (f : ℕ → ℕ) → n < 2 ^ k → ((i : ℕ) → f i < 2) → ((i : ℕ) → i < k → bit i n ≡ f i) → n ≡ fromBits f k
 from-bits k n f h d e = bits-eq k n (fromBits f k) h (from-lt k f d) (λ i l. e i l ∙ sym (bit-from k f d i l))
@@ -85,20 +93,25 @@ pub shr-bit : (u i n : ℕ) → bit i (n / 2 ^ u) ≡ bit (u + i) n
 unfolding bit
 shr-bit u i n = ap (λ (x : ℕ). x % 2) (shr-shr n u i)
 
-bit-cut : (n q : ℕ) → q < 64 → bit q (n % 2 ^ 64) ≡ bit q n
+-- one bit
+pub one-shifted : (b : ℕ) → b < 64 → 1 * 2 ^ b % 2 ^ 64 ≡ 2 ^ b
+one-shifted b h = ap (λ (x : ℕ). x % 2 ^ 64) (one-mul (2 ^ b)) ∙ mod-eq-of-lt (pow-lt h)
+
+-- the lowest w bits
+pub bit-cut : (w n q : ℕ) → q < w → bit q (n % 2 ^ w) ≡ bit q n
 unfolding bit
-bit-cut n q h =
-    let e : suc (63 - q) + q ≡ 64 = omega arith in
-    let d : (63 - q) + 1 ≡ suc (63 - q) = omega arith in
-    ap (λ (k : ℕ). n % 2 ^ k / 2 ^ q % 2) (sym e) ∙ ap (λ (x : ℕ). x % 2) (field n (suc (63 - q)) q)
-    ∙ ap (λ (k : ℕ). n / 2 ^ q % 2 ^ k % 2) (sym d) ∙ mod-mod-pow (n / 2 ^ q) (63 - q) 1
+bit-cut w n q h =
+    let e : suc (w - suc q) + q ≡ w = omega arith in
+    let d : (w - suc q) + 1 ≡ suc (w - suc q) = omega arith in
+    ap (λ (k : ℕ). n % 2 ^ k / 2 ^ q % 2) (sym e) ∙ ap (λ (x : ℕ). x % 2) (field n (suc (w - suc q)) q)
+    ∙ ap (λ (k : ℕ). n / 2 ^ q % 2 ^ k % 2) (sym d) ∙ mod-mod-pow (n / 2 ^ q) (w - suc q) 1
 
 -- below the shift there is 0
 pub bit-low : (x j q : ℕ) → q < 64 → q < j → bit q (x * 2 ^ j % 2 ^ 64) ≡ 0
 unfolding bit
 bit-low x j q h l =
     let e : j ≡ suc (j - suc q) + q = omega arith in
-    bit-cut (x * 2 ^ j) q h ∙ ap (λ (k : ℕ). x * 2 ^ k / 2 ^ q % 2) e
+    bit-cut 64 (x * 2 ^ j) q h ∙ ap (λ (k : ℕ). x * 2 ^ k / 2 ^ q % 2) e
     ∙ ap (λ (y : ℕ). y / 2 ^ q % 2) (ap (λ (y : ℕ). x * y) (pow-add 2 (suc (j - suc q)) q) ∙ sym (mul-assoc x (2 ^ suc (j - suc q)) (2 ^ q)))
     ∙ ap (λ (y : ℕ). y % 2) (shl-shr (x * 2 ^ suc (j - suc q)) q) ∙ shifted-even x (j - suc q)
 
@@ -106,5 +119,18 @@ pub bit-high : (x j q : ℕ) → q < 64 → j ≤ q → bit q (x * 2 ^ j % 2 ^ 6
 unfolding bit
 bit-high x j q h l =
     let e : q ≡ j + (q - j) = omega arith in
-    bit-cut (x * 2 ^ j) q h ∙ ap (λ (k : ℕ). x * 2 ^ j / 2 ^ k % 2) e ∙ ap (λ (y : ℕ). y % 2) (sym (shr-shr (x * 2 ^ j) j (q - j)))
+    bit-cut 64 (x * 2 ^ j) q h ∙ ap (λ (k : ℕ). x * 2 ^ j / 2 ^ k % 2) e ∙ ap (λ (y : ℕ). y % 2) (sym (shr-shr (x * 2 ^ j) j (q - j)))
     ∙ ap (λ (y : ℕ). y / 2 ^ (q - j) % 2) (shl-shr x j)
+
+-- a word shifted left by k places, with a number of k bits below it
+pub joined-bits : (k x y : ℕ) (f : ℕ → ℕ) → k ≤ 64 → x < 2 ^ k → ((i : ℕ) → f i < 2) → ((i : ℕ) → i < k → bit i x ≡ f i)
+    → ((i : ℕ) → k ≤ i → i < 64 → bit (i - k) y ≡ f i) → bitOr (y * 2 ^ k % 2 ^ 64) x ≡ fromBits f 64
+joined-bits k x y f h l d low high =
+    from-bits 64 (bitOr (y * 2 ^ k % 2 ^ 64) x) f (or-lt 64 (y * 2 ^ k % 2 ^ 64) x (mod-lt (y * 2 ^ k) (pow-pos 64)) (omega (arith, l, pow-mono h))) d
+    (λ i g. bit-or i (y * 2 ^ k % 2 ^ 64) x ∙ at i g (decLt i k))
+  where
+    at : (i : ℕ) → i < 64 → Dec (i < k) → bitOr (bit i (y * 2 ^ k % 2 ^ 64)) (bit i x) ≡ f i
+    at i g (yes m) = ap (λ (b : ℕ). bitOr b (bit i x)) (bit-low y k i g m) ∙ low i m
+    at i g (no m) =
+        let e : k ≤ i = omega arith in
+        ap (bitOr (bit i (y * 2 ^ k % 2 ^ 64))) (bit-past k i x l e) ∙ or-zero-r (bit i (y * 2 ^ k % 2 ^ 64)) ∙ bit-high y k i g e ∙ high i e g

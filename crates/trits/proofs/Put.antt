@@ -4,7 +4,7 @@ use mathlib.Core.Logic.{_≢_}
 use mathlib.Core.Bool.{Bool, true, false, cond}
 use mathlib.Core.List.{List}
 use Prim.Native.Nat.{ℕ, zero, suc, _*_, _/_, _%_, _^_, _<_}
-use native.Mathlib.Nat.{one-mul, mod-eq-of-lt, pow-suc}
+use native.Mathlib.Nat.{pow-suc}
 use native.Mathlib.Decide.{ℕ-discrete}
 use native.Mathlib.Omega.{arith}
 use borrow.Author.Tests.{eq-eqb, ne-eqb}
@@ -15,7 +15,7 @@ use lib.Bits.{bitAnd, bitOr, bitXor, and-mask, and-lt, or-lt, xor-lt, and-zero-r
 use lib.Pow.{pow-lt}
 use Rattle.trits.specs.Trit.{Trit, number, tritOf, putV, one, two}
 use Rattle.trits.specs.Planes.{bit, trit, bitAt, tritAt, withBit, Row, Reads}
-use Rattle.trits.proofs.Bits.{bit-and, bit-or, bit-xor, bit-lt, bit-none, bit-first, bit-next, from-bits, from-lt, bit-from, bits-eq}
+use Rattle.trits.proofs.Bits.{bit-and, bit-or, bit-xor, bit-lt, bit-none, bit-first, bit-next, from-bits, from-lt, bit-from, bits-eq, one-shifted}
 use Rattle.trits.proofs.Reading.{one-lt, two-lt, trit-of, and-one-two}
 
 -- ---- what is read
@@ -94,12 +94,9 @@ chosen-other : (k b c w : ℕ) → k ≢ b → cond (eqb k b) c (bit k w) ≡ bi
 chosen-other k b c w f = ap (λ (t : Bool). cond t c (bit k w)) (ne-eqb k b f)
 
 module _ (b w : ℕ) (hb : b < 64) (hw : w < 2 ^ 64) where
-  mask : (1 * 2 ^ b) % 2 ^ 64 ≡ 2 ^ b
-  mask = ap (λ (x : ℕ). x % 2 ^ 64) (one-mul (2 ^ b)) ∙ mod-eq-of-lt (pow-lt hb)
-
   pub with-on : bitOr w ((1 * 2 ^ b) % 2 ^ 64) ≡ withBit b 1 w
   unfolding withBit
-  with-on = ap (bitOr w) mask
+  with-on = ap (bitOr w) (one-shifted b hb)
       ∙ from-bits 64 (bitOr w (2 ^ b)) _ (or-lt 64 w (2 ^ b) hw (pow-lt hb)) (λ k. chosen-lt k b 1 w (lit< tt))
       (λ k l. bit-or k w (2 ^ b) ∙ at k (ℕ-discrete k b))
     where
@@ -110,7 +107,7 @@ module _ (b w : ℕ) (hb : b < 64) (hw : w < 2 ^ 64) where
   pub with-off : bitXor w (bitAnd w ((1 * 2 ^ b) % 2 ^ 64)) ≡ withBit b 0 w
   unfolding withBit
   with-off =
-      ap (λ (x : ℕ). bitXor w (bitAnd w x)) mask
+      ap (λ (x : ℕ). bitXor w (bitAnd w x)) (one-shifted b hb)
       ∙ from-bits 64 (bitXor w (bitAnd w (2 ^ b))) _ (xor-lt 64 w (bitAnd w (2 ^ b)) hw (and-lt 64 w (2 ^ b) hw (pow-lt hb))) (λ k. chosen-lt k b 0 w (lit< tt))
       (λ k l. bit-xor k w (bitAnd w (2 ^ b)) ∙ ap (bitXor (bit k w)) (bit-and k w (2 ^ b)) ∙ at k (ℕ-discrete k b))
     where

@@ -144,6 +144,30 @@ coded-at ones twos a j b h =
     let t : tritAt ones twos (64 * j + b) ≡ c .0 = tritAt-place j b h ones twos ∙ ap₂ trit (c .1) (c .2) ∙ trit-of (c .0) in
     (c .1 ∙ ap one (sym t), c .2 ∙ ap two (sym t))
 
+pub row-bits : {ones twos : List ℕ} → Row ones twos → (p : ℕ) → (bitAt ones p ≡ one (tritAt ones twos p)) × (bitAt twos p ≡ two (tritAt ones twos p))
+unfolding bitAt
+row-bits {ones} {twos} r p =
+    let e : 64 * (p / 64) + p % 64 ≡ p = omega arith in
+    let c = coded-at ones twos (r .apart) (p / 64) (p % 64) (omega arith) in
+    (c .0 ∙ ap (λ (q : ℕ). one (tritAt ones twos q)) e, c .1 ∙ ap (λ (q : ℕ). two (tritAt ones twos q)) e)
+
+-- and planes whose bits are those of v read as v
+pub bits-read : {ones twos : List ℕ} {n : ℕ} {v : ℕ → Trit} → length ones ≡ n → length twos ≡ n → ((p : ℕ) → bitAt ones p ≡ one (v p))
+    → ((p : ℕ) → bitAt twos p ≡ two (v p)) → ((j : ℕ) → getD ones j 0 < 2 ^ 64) → ((j : ℕ) → getD twos j 0 < 2 ^ 64) → Reads ones twos n v
+unfolding tritAt
+bits-read {ones} {twos} {n} {v} lo lt eo et ho ht = record {
+  row = record { same = lt ∙ sym lo; apart = record { word = apart } };
+  size = lo;
+  trits = fun-ext (λ p. ap₂ trit (eo p) (et p) ∙ trit-of (v p));
+}
+  where
+    apart : (j : ℕ) → bitAnd (getD ones j 0) (getD twos j 0) ≡ 0
+    apart j =
+        bits-eq 64 (bitAnd (getD ones j 0) (getD twos j 0)) 0 (and-lt 64 (getD ones j 0) (getD twos j 0) (ho j) (ht j)) (lit< tt)
+        (λ b h. bit-and b (getD ones j 0) (getD twos j 0)
+        ∙ ap₂ bitAnd (sym (bitAt-place j b h ones) ∙ eo (64 * j + b)) (sym (bitAt-place j b h twos) ∙ et (64 * j + b)) ∙ and-one-two (v (64 * j + b))
+        ∙ sym (bit-none b))
+
 -- planes that are apart are those of the vector that they read: so they are determined by their trits
 pub read-holds : (ones twos : List ℕ) (n : ℕ) → Row ones twos → length ones ≡ n → ((j : ℕ) → getD ones j 0 < 2 ^ 64) → ((j : ℕ) → getD twos j 0 < 2 ^ 64)
     → Holds ones twos n (tritAt ones twos)

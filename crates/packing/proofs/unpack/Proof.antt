@@ -61,9 +61,9 @@ returns-5 c =
 write-packed-requires : tie.Need-write-packed-requires
 write-packed-requires c κs =
     record {
+      ones-size = omega arith;
       twos-size = omega arith;
       enough = omega arith;
-      trits-fit = omega arith;
       small = omega arith;
       not-refused = sym (c .before .before .before .before .test-bytes .ensures) ∙ sym (c .before .before .before .code .ensures)
           ∙ c .before .before .if5 .left;

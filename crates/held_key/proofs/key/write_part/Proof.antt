@@ -16,9 +16,9 @@ start-from-write-packed c = c .before .before .before .before .before .before
 write-packed-requires : tie.Need-write-packed-requires
 write-packed-requires c κs =
     record {
+      ones-size = start-from-write-packed-arg2 c .pre .ones-size;
       twos-size = omega arith;
       enough = omega arith;
-      trits-fit = omega arith;
       small = omega arith;
       not-refused = start-from-write-packed-arg2 c .pre .not-refused;
     }

@@ -1,92 +1,98 @@
--- A turn puts the next trit of the byte, which the table gives, at the next place (`put-turn`).
+-- The first bits of the byte's mask are put into each plane, and they are those of its first trits (`byte-put`).
 -- Assumes nothing.
-use Prim.Native.Nat.{_-_, _≤_}
-use mathlib.Core.Path.{_≡_, refl, sym, _∙_}
+use Prim.Native.Nat.{ℕ, _%_, _^_, _<_}
+use mathlib.Core.Path.{_≡_, sym, ap, _∙_}
+use mathlib.Core.List.{List}
+use native.Mathlib.Nat.{mod-lt}
 use native.Mathlib.Omega.{arith}
-use lib.ListN.{length}
-use Rattle.trits.specs.Planes.{tritAt, Reads}
-use Rattle.packed.specs.Steps.{withByte}
-use Rattle.packed.proofs.Digits.{digit-lt}
-use Rattle.packed.proofs.Putting.{with-none, put-turn}
+use borrow.Author.Needs.{needs}
+use denote.Ref.{now}
+use lib.ListN.{getD}
+use lib.Pow.{pow-pos}
+use Rattle.trits.specs.Trit.{one, two}
+use Rattle.trits.proofs.Reading.{row-bits}
+use Rattle.packed.proofs.Putting.{byte-put}
 use Rattle.packing.proofs.write.put_byte.Statement.{statement}
 use Rattle.packing.proofs.write.put_byte.Tie as tie
 
-abbrev Inv-loop : tie.InvT-loop
-Inv-loop table b ones₀ twos₀ at count k₀ ones twos k =
-    (k ≤ count) × Reads ones twos (length ones₀) (withByte (tritAt ones₀ twos₀) b at k)
+-- The places that the answers look back to, each from a later one.
+abbrev start-from-put-bits : tie.After-put-bits → tie.Start
+start-from-put-bits c = c .before .before .before .before .before .before
 
-abbrev μ-loop : tie.MeasureT-loop
-μ-loop table b ones₀ twos₀ at count k₀ ones twos k = count - k
+abbrev start-from-first-bits2 : tie.After-first-bits2 → tie.Start
+start-from-first-bits2 c = start-from-put-bits (c .before .before .before .before .before)
 
-loop-holds : tie.Need-loop-holds Inv-loop μ-loop
-loop-holds c =
-    let s = c .before .before in
-    (omega arith, record { row = s .pre .row; size = refl; trits = with-none _ (s .args .b) (s .args .at) })
+mask-requires : tie.Need-mask-requires
+mask-requires c κs = search needs
 
-add-put-trit : tie.Need-add-put-trit Inv-loop μ-loop
-add-put-trit c =
-    omega arith
+first-bits-requires : tie.Need-first-bits-requires
+first-bits-requires c κs = search needs
 
-trit-requires : tie.Need-trit-requires Inv-loop μ-loop
-trit-requires c κs =
+put-bits-requires : tie.Need-put-bits-requires
+put-bits-requires c κs =
+    let s = c .before .before .before .before .before in
+    let a = s .args in
     record {
-      is-table = c .before .before .before .before .before .before .pre .is-table;
-      byte = omega arith;
-      digit = omega arith;
+      fits = omega (arith, c .first-bits .ensures, mod-lt (c .before .mask .result) (pow-pos (a .count)));
+      some = s .pre .some;
+      few = s .pre .few;
+      room = s .pre .room;
+      free = λ p l. row-bits (s .pre .row) p .0 ∙ ap one (s .pre .free p l);
+      small = s .pre .small;
     }
 
-put-trit-requires : tie.Need-put-trit-requires Inv-loop μ-loop
-put-trit-requires c κs =
-    let s = c .before .before .before .before in
-    let i = s .loop .inv .1 in record {
-      row = i .row;
-      place = omega (arith, i .size);
-      trit = omega (arith, c .trit .ensures, digit-lt (s .before .before .before .args .b) (s .loop .k));
+mask-requires-2 : tie.Need-mask-requires-2
+mask-requires-2 c κs = search needs
+
+first-bits-requires-2 : tie.Need-first-bits-requires-2
+first-bits-requires-2 c κs = search needs
+
+put-bits-requires-2 : tie.Need-put-bits-requires-2
+put-bits-requires-2 c κs =
+    let s = start-from-first-bits2 c in
+    let a = s .args in
+    record {
+      fits = omega (arith, c .first-bits2 .ensures, mod-lt (c .before .mask2 .result) (pow-pos (a .count)));
+      some = s .pre .some;
+      few = s .pre .few;
+      room = omega (arith, s .pre .room, s .pre .row .same);
+      free = λ p l. row-bits (s .pre .row) p .1 ∙ ap two (s .pre .free p l);
+      small = omega (arith, s .pre .small, s .pre .row .same);
     }
 
-add-k : tie.Need-add-k Inv-loop μ-loop
-add-k c =
-    omega arith
+same-length : tie.Need-same-length
+same-length c = search needs
 
-loop-less : tie.Need-loop-less Inv-loop μ-loop
-loop-less c =
-    omega arith
+same-length-2 : tie.Need-same-length-2
+same-length-2 c = search needs
 
-loop-again : tie.Need-loop-again Inv-loop μ-loop
-loop-again c =
-    let after-put-trit = c .before .before .before .before in
-    let after-trit = after-put-trit .before in
-    let s = after-trit .before .before .before .before in
-    let a = s .before .before .before .args in
-    (omega arith, put-turn _ (a .b) (a .at) (s .loop .k) (s .loop .inv .1) (after-trit .trit .ensures) (after-put-trit .put-trit .ensures))
-
-same-length : tie.Need-same-length Inv-loop μ-loop
-same-length c =
-    c .before .loop .inv .1 .size
-
-same-length-2 : tie.Need-same-length-2 Inv-loop μ-loop
-same-length-2 c =
-    c .before .loop .inv .1 .row .same ∙ c .before .loop .inv .1 .size ∙ sym (c .before .before .before .before .pre .row .same)
-
-returns : tie.Need-returns Inv-loop μ-loop
+returns : tie.Need-returns
 returns c =
-    let l = c .before .loop in
-    let e : l .k ≡ c .before .before .before .before .args .count = omega arith in
-    rw (← e) (l .inv .1)
+    let after-put-bits2 = c .before .before in
+    let after-first-bits2 = after-put-bits2 .before in
+    let after-slice-known3 = after-first-bits2 .before .before .before in
+    let after-put-bits = after-slice-known3 .before .before in
+    let after-first-bits = after-put-bits .before in
+    let s = after-first-bits .before .before .before .before .before in
+    let a = s .args in
+    let cut : ℕ → ℕ = λ x. x % 2 ^ a .count in
+    let at-byte : List ℕ → ℕ = λ l. getD l (a .b) 0 in
+    byte-put (a .b) (a .at) (a .count) (s .pre .byte) (s .pre .few) (s .pre .row)
+    (after-first-bits .first-bits .ensures ∙ ap cut (after-first-bits .before .mask .ensures ∙ ap at-byte (s .pre .masks .of-ones)))
+    (after-first-bits2 .first-bits2 .ensures ∙ ap cut (after-first-bits2 .before .mask2 .ensures ∙ ap at-byte (s .pre .masks .of-twos)))
+    (after-put-bits .put-bits .ensures) (after-put-bits2 .put-bits2 .ensures)
+    (λ j. after-slice-known3 .slice-known3 .given j .fits) (λ j. c .slice-known4 .given j .fits)
 
 pub put-byte-spec : {M : Type 1} → statement M
 put-byte-spec =
     tie.close
     (tie.spec
-    Inv-loop
-    μ-loop
-    loop-holds
-    add-put-trit
-    trit-requires
-    put-trit-requires
-    add-k
-    loop-less
-    loop-again
+    mask-requires
+    first-bits-requires
+    put-bits-requires
+    mask-requires-2
+    first-bits-requires-2
+    put-bits-requires-2
     same-length
     same-length-2
     returns)

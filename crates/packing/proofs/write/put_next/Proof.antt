@@ -17,7 +17,7 @@ returns c =
     let a = s .args in
     let u = tritAt (now (a .ones)) (now (a .twos)) in
     let z = gives-none (a .m) (a .at) (a .b) (omega arith) in
-    (omega arith, record { row = s .pre .row; size = refl; trits = with-none u (a .b) (a .at) ∙ ap (withByte u (a .b) (a .at)) (sym z) })
+    (omega arith, record { row = s .pre .row; size = refl; trits = with-none u _ (a .at) ∙ ap (withByte u (a .b) (a .at)) (sym z) })
 
 sub-left : tie.Need-sub-left
 sub-left c = search needs
@@ -25,10 +25,12 @@ sub-left c = search needs
 put-byte-requires : tie.Need-put-byte-requires
 put-byte-requires c κs =
     let s = c .before .before .before .before .before .before in record {
-      is-table = s .pre .is-table;
+      masks = s .pre .masks;
       row = s .pre .row;
+      free = s .pre .free;
       byte = omega arith;
-      digits = omega arith;
+      some = omega arith;
+      few = omega arith;
       room = omega arith;
       small = omega arith;
     }
@@ -55,10 +57,12 @@ returns-2 c =
 put-byte-requires-2 : tie.Need-put-byte-requires-2
 put-byte-requires-2 c κs =
     let s = c .before .before .before .before .before .before in record {
-      is-table = s .pre .is-table;
+      masks = s .pre .masks;
       row = s .pre .row;
+      free = s .pre .free;
       byte = omega arith;
-      digits = omega arith;
+      some = omega arith;
+      few = omega arith;
       room = omega arith;
       small = omega arith;
     }

@@ -7,16 +7,16 @@ use lib.ListN.{length}
 use denote.Ref.{now}
 use Rattle.trits.specs.Planes.{Reads}
 use Rattle.packed.specs.Stream.{streamRow}
-use Rattle.packed.proofs.Putting.{Stands, stands-none, stands-more, stands-next, reads-next, stands-all}
+use Rattle.packed.proofs.Putting.{Stands, stands-none, stands-more, stands-next, reads-next, stands-all, reads-free}
 use Rattle.packing.proofs.write.put_stream.Statement.{statement}
 use Rattle.packing.proofs.write.put_stream.Tie as tie
 
 abbrev Inv-loop : tie.InvT-loop
-Inv-loop table m bytes ones₀ twos₀ at₀ i₀ ones twos at i =
+Inv-loop in-ones in-twos m bytes ones₀ twos₀ at₀ i₀ ones twos at i =
     Stands m bytes at i × Reads ones twos (length ones₀) (streamRow at bytes)
 
 abbrev μ-loop : tie.MeasureT-loop
-μ-loop table m bytes ones₀ twos₀ at₀ i₀ ones twos at i = length bytes - i
+μ-loop in-ones in-twos m bytes ones₀ twos₀ at₀ i₀ ones twos at i = length bytes - i
 
 -- The places that the answers look back to, each from a later one.
 abbrev start-from-in-loop : tie.In-loop Inv-loop μ-loop → tie.Start Inv-loop μ-loop
@@ -45,9 +45,10 @@ put-next-requires c κs =
     let s = c .before .before .before .before in
     let start = s .before .before .before .before in
     let r = s .loop .inv .1 in record {
-      is-table = start .pre .is-table;
+      masks = start .pre .masks;
       row = r .row;
-      place = omega (arith, s .loop .inv .0 .within, r .size);
+      free = reads-free (now (start .args .bytes)) r;
+      place = c .before .before .before .loop-test .taken;
       trits-fit = omega (arith, s .loop .inv .0 .within, r .size);
       small = omega (arith, s .loop .inv .0 .within, r .size);
     }

@@ -16,11 +16,11 @@ use Rattle.packing.proofs.write.write_stream.Tie as tie
 abbrev start-from-zero-words : tie.After-zero-words → tie.Start
 start-from-zero-words c = c .before .before .before .before .before
 
-abbrev zero-words-from-byte-table : tie.After-byte-table → tie.After-zero-words
-zero-words-from-byte-table c = c .before .before .before .before .before .before .before
+abbrev zero-words2-from-put-stream-arg2 : tie.After-put-stream-arg2 → tie.After-zero-words2
+zero-words2-from-put-stream-arg2 c = c .before .before .before .before .before .before .before .before
 
 abbrev zero-words-from-put-stream : tie.After-put-stream → tie.After-zero-words
-zero-words-from-put-stream c = zero-words-from-byte-table (c .before .before .before .before)
+zero-words-from-put-stream c = zero-words2-from-put-stream-arg2 (c .before) .before .before .before .before
 
 zero-words-requires : tie.Need-zero-words-requires
 zero-words-requires c κs = search needs
@@ -28,19 +28,23 @@ zero-words-requires c κs = search needs
 zero-words-requires-2 : tie.Need-zero-words-requires-2
 zero-words-requires-2 c κs = search needs
 
-byte-table-requires : tie.Need-byte-table-requires
-byte-table-requires c κs = search needs
+ones-masks-requires : tie.Need-ones-masks-requires
+ones-masks-requires c κs = search needs
+
+twos-masks-requires : tie.Need-twos-masks-requires
+twos-masks-requires c κs = search needs
 
 put-stream-requires : tie.Need-put-stream-requires
 unfolding streamRow
 put-stream-requires c κs =
-    let after-zero-words2 = c .before .before .before .before .before .before in
+    let after-twos-masks = c .before .before .before .before in
+    let after-zero-words2 = zero-words2-from-put-stream-arg2 c in
     let after-zero-words = after-zero-words2 .before .before .before .before in
     let s = start-from-zero-words after-zero-words in
     let eo = after-zero-words .zero-words .ensures in
     let et = after-zero-words2 .zero-words2 .ensures in
     let l = ap length eo ∙ length-zeros (length (now (s .args .ones))) in record {
-      is-table = c .before .before .before .byte-table .ensures;
+      masks = record { of-ones = after-twos-masks .before .ones-masks .ensures; of-twos = after-twos-masks .twos-masks .ensures };
       nothing-put = zeros-hold (packedRow (kept (now (s .args .bytes)))) eo et (s .pre .twos-size);
       enough = omega (arith, l);
       trits-fit = omega (arith, l);
@@ -67,7 +71,8 @@ write-stream-spec =
     (tie.spec
     zero-words-requires
     zero-words-requires-2
-    byte-table-requires
+    ones-masks-requires
+    twos-masks-requires
     put-stream-requires
     same-length
     same-length-2

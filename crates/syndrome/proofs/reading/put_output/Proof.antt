@@ -11,7 +11,7 @@ use lib.ListN.{length, getD}
 use denote.Ref.{now}
 use Rattle.trits.specs.Planes.{Reads}
 use Rattle.packed.specs.Stream.{streamRow}
-use Rattle.packed.proofs.Putting.{Stands, stands-none, stands-more, stands-byte, reads-byte, stands-all}
+use Rattle.packed.proofs.Putting.{Stands, stands-none, stands-more, stands-byte, reads-byte, stands-all, reads-free}
 use Rattle.keccak.specs.Lanes.{laneAt}
 use Rattle.shake.proofs.Sponge.{Gives, gives-first, gives-permuted, gives-same, gives-at, length-squeezed}
 use Rattle.syndrome.specs.Steps.{outputFor}
@@ -19,11 +19,11 @@ use Rattle.syndrome.proofs.reading.put_output.Statement.{statement}
 use Rattle.syndrome.proofs.reading.put_output.Tie as tie
 
 abbrev Inv-loop : tie.InvT-loop
-Inv-loop table m ones₀ twos₀ b₀ at₀ i₀ ones twos b at i =
+Inv-loop in-ones in-twos m ones₀ twos₀ b₀ at₀ i₀ ones twos b at i =
     Stands m (outputFor m b₀) at i × Reads ones twos (length ones₀) (streamRow at (outputFor m b₀)) × Gives (laneAt b₀) i b
 
 abbrev μ-loop : tie.MeasureT-loop
-μ-loop table m ones₀ twos₀ b₀ at₀ i₀ ones twos b at i = m + 136 - i
+μ-loop in-ones in-twos m ones₀ twos₀ b₀ at₀ i₀ ones twos b at i = m + 136 - i
 
 -- The places that the answers look back to, each from a later one.
 abbrev start-from-in-loop : tie.In-loop Inv-loop μ-loop → tie.Start Inv-loop μ-loop
@@ -68,7 +68,7 @@ byte c =
 one-more : (c : tie.After-put-next Inv-loop μ-loop) → let in-loop = in-loop-from-put-next c in
     let s = start-from-in-loop in-loop in
     Stands (s .args .m) (output-of in-loop) (c .put-next .result) (in-loop .before .loop .i + 1)
-    × Reads (c .put-next .last .1 .1 .1 .0) (c .put-next .last .1 .1 .1 .1 .0) (length (now (s .args .ones)))
+    × Reads (c .put-next .last .1 .1 .1 .1 .0) (c .put-next .last .1 .1 .1 .1 .1 .0) (length (now (s .args .ones)))
     (streamRow (c .put-next .result) (output-of in-loop))
 one-more c =
     let in-loop = in-loop-from-put-next c in
@@ -92,9 +92,10 @@ put-next-requires c κs =
     let l = in-loop-from-put-next-arg c .before .loop in
     let start = start-from-in-loop (in-loop-from-put-next-arg c) in
     let r = l .inv .1 in record {
-      is-table = start .pre .is-table;
+      masks = start .pre .masks;
       row = r .row;
-      place = omega (arith, l .inv .0 .within);
+      free = reads-free (output-of (in-loop-from-put-next-arg c)) r;
+      place = in-loop-from-put-next-arg c .loop-test .taken;
       trits-fit = omega (arith, r .size, start .pre .ones-size);
       small = omega (arith, r .size, start .pre .ones-size, start .pre .small);
     }

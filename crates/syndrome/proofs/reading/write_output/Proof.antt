@@ -16,11 +16,11 @@ use Rattle.syndrome.proofs.reading.write_output.Tie as tie
 abbrev start-from-zero-words : tie.After-zero-words → tie.Start
 start-from-zero-words c = c .before .before .before .before
 
-abbrev zero-words-from-byte-table : tie.After-byte-table → tie.After-zero-words
-zero-words-from-byte-table c = c .before .before .before .before .before .before .before
+abbrev zero-words2-from-put-output-arg2 : tie.After-put-output-arg2 → tie.After-zero-words2
+zero-words2-from-put-output-arg2 c = c .before .before .before .before .before .before .before .before
 
 abbrev zero-words-from-put-output : tie.After-put-output → tie.After-zero-words
-zero-words-from-put-output c = zero-words-from-byte-table (c .before .before .before .before)
+zero-words-from-put-output c = zero-words2-from-put-output-arg2 (c .before) .before .before .before .before
 
 zero-words-requires : tie.Need-zero-words-requires
 zero-words-requires c κs = search needs
@@ -28,13 +28,17 @@ zero-words-requires c κs = search needs
 zero-words-requires-2 : tie.Need-zero-words-requires-2
 zero-words-requires-2 c κs = search needs
 
-byte-table-requires : tie.Need-byte-table-requires
-byte-table-requires c κs = search needs
+ones-masks-requires : tie.Need-ones-masks-requires
+ones-masks-requires c κs = search needs
+
+twos-masks-requires : tie.Need-twos-masks-requires
+twos-masks-requires c κs = search needs
 
 put-output-requires : tie.Need-put-output-requires
 unfolding streamRow
 put-output-requires c κs =
-    let after-zero-words2 = c .before .before .before .before .before .before in
+    let after-twos-masks = c .before .before .before .before in
+    let after-zero-words2 = zero-words2-from-put-output-arg2 c in
     let after-zero-words = after-zero-words2 .before .before .before .before in
     let s = start-from-zero-words after-zero-words in
     let eo = after-zero-words .zero-words .ensures in
@@ -43,7 +47,7 @@ put-output-requires c κs =
       small = s .pre .small;
       ones-size = l ∙ s .pre .ones-size;
       enough = s .pre .enough;
-      is-table = c .before .before .before .byte-table .ensures;
+      masks = record { of-ones = after-twos-masks .before .ones-masks .ensures; of-twos = after-twos-masks .twos-masks .ensures };
       nothing-put = zeros-hold (packedRow (kept (outputFor (s .args .m) (s .args .a)))) eo et (s .pre .twos-size);
     }
 
@@ -67,7 +71,8 @@ write-output-spec =
     (tie.spec
     zero-words-requires
     zero-words-requires-2
-    byte-table-requires
+    ones-masks-requires
+    twos-masks-requires
     put-output-requires
     same-length
     same-length-2

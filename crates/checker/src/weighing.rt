@@ -194,6 +194,6 @@ pub fn weigh_packed(
     ensures { λ r. ⌜ r ≡ heldCounts held (now (ones .entry)) (now (twos .entry)) (packedRow (now (y .entry)))
         (packedRow (now (s .entry))) ⌝ }
 {
-    packing::write::write_packed(held_key::state::row_trits(held), y, work_ones, work_twos);
+    placing::packed_row::write_packed(held_key::state::row_trits(held), y, work_ones, work_twos);
     weigh_made(held, ones, twos, s, work_ones, work_twos)
 }

@@ -91,7 +91,7 @@ pub fn write_part(m: usize, row: &[u8], ones: &mut [u64], twos: &mut [u64])
     requires { ⌜ ForWritePart m (now row) (now ones) (now twos) ⌝ }
     ensures { λ _. ⌜ Holds (now (ones .exit)) (now (twos .exit)) (wordsFor m) (packedRow (now (row .entry))) ⌝ }
 {
-    packing::write::write_packed(m, row, ones, twos);
+    placing::packed_row::write_packed(m, row, ones, twos);
 }
 
 // The state that counts one row more.

@@ -1,7 +1,7 @@
 -- The laws that the functions' proofs cite, and that callers may; what request C-20 changes, computed cases.
 pub mod Digits
 pub mod Keeping
-pub mod Masks
+pub mod Pieces
 pub mod Putting
 pub mod Past
 pub mod Turned

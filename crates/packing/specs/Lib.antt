@@ -1,2 +1,2 @@
--- What reading and writing packed bytes ask of rows, bytes, the byte table and masks.
+-- What reading packed bytes asks of rows, bytes and the byte table.
 pub mod Steps

@@ -1,7 +1,6 @@
 // Trits packed five to a byte, and trits of a byte stream: the calls.
 pub mod table; // the five trits of each byte
 pub mod faults; // the tests for 5, 15 and 6
-pub mod write; // a row written from bytes
 pub mod read; // bytes made from a row
 
 ghost use mathlib.Core.Path.{_≡_};
@@ -60,7 +59,7 @@ pub fn unpack(m: usize, bytes: &[u8], ones: &mut [u64], twos: &mut [u64]) -> Out
     if trits::refusal::code(tested) != 0 {
         return tested;
     }
-    write::write_packed(m, bytes, ones, twos);
+    placing::packed_row::write_packed(m, bytes, ones, twos);
     Outcome::Done
 }
 
@@ -83,6 +82,6 @@ pub fn from_stream(m: usize, bytes: &[u8], ones: &mut [u64], twos: &mut [u64]) -
     if faults::too_short(m, bytes) {
         return Outcome::Refused(Refusal::StreamEnd);
     }
-    write::write_stream(m, bytes, ones, twos);
+    placing::stream::write_stream(m, bytes, ones, twos);
     Outcome::Done
 }

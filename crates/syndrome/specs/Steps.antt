@@ -3,10 +3,10 @@ use mathlib.Core.Path.{_≡_}
 use mathlib.Core.List.{List}
 use Prim.Native.Nat.{ℕ, _+_, _*_, _≤_}
 use lib.ListN.{length}
-use Rattle.trits.specs.Planes.{Reads, wordsFor}
-use Rattle.packed.specs.Stream.{kept, streamRow}
+use Rattle.trits.specs.Planes.{wordsFor}
+use Rattle.packed.specs.Stream.{kept}
 use Rattle.packed.specs.Calls.{mostTrits}
-use Rattle.packing.specs.Steps.{BothMasks}
+use Rattle.packed.specs.Steps.{byteMasks}
 use Rattle.keccak.specs.Lanes.{laneAt}
 use Rattle.shake.specs.Shake.{squeezedBytes}
 use Rattle.shake.specs.Steps.{ForMessage}
@@ -22,13 +22,10 @@ pub record ForWriteOutput (m : ℕ) (a : List (List ℕ)) (ones twos : List ℕ)
   pub ones-size : length ones ≡ wordsFor m
   pub enough : m ≤ 5 * length (kept (outputFor m a))
 
--- and the masks, and a row in which nothing is put yet
-pub record ForPutOutput (in-ones in-twos : List ℕ) (m : ℕ) (a : List (List ℕ)) (ones twos : List ℕ) : Type 0 where
-  pub small : m ≤ mostTrits
-  pub ones-size : length ones ≡ wordsFor m
-  pub enough : m ≤ 5 * length (kept (outputFor m a))
-  pub masks : BothMasks in-ones in-twos
-  pub nothing-put : Reads ones twos (length ones) (streamRow 0 (outputFor m a))
+-- and the masks
+pub record ForPutOutput (masks : List ℕ) (m : ℕ) (a : List (List ℕ)) (ones twos : List ℕ) : Type 0 where
+  pub is-masks : masks ≡ byteMasks
+  pub row : ForWriteOutput m a ones twos
 
 -- a row for m trits, a salt and a text
 pub record ForMake (m : ℕ) (salt text ones twos : List ℕ) : Type 0 where

@@ -5,7 +5,10 @@ ghost use lib.ListN.{length};
 ghost use Rattle.trits.specs.Planes.{Reads};
 ghost use Rattle.packed.specs.Stream.{streamRow, tooShort};
 ghost use Rattle.packed.specs.Calls.{mostTrits};
+ghost use Rattle.placing.specs.Steps.{Written};
 ghost use Rattle.syndrome.specs.Steps.{outputFor, ForPutOutput, ForWriteOutput};
+use placing::stream::put_next;
+use placing::writer::Writer;
 use shake::squeezing::byte_of;
 
 // Whether the output that is looked at gives fewer than m trits.
@@ -31,29 +34,35 @@ pub fn too_short(m: usize, a: [[u64; 5]; 5]) -> bool
     left != 0
 }
 
-// The output's trits are written to the first places of planes that are 0.
+// The output's trits come to a row of which nothing is written, until it has m.
 fn put_output(
-    in_ones: &[u8; 243],
-    in_twos: &[u8; 243],
+    masks: &[u64; 243],
     m: usize,
     a: [[u64; 5]; 5],
     ones: &mut [u64],
     twos: &mut [u64],
-)
-    requires { ⌜ ForPutOutput (now «in_ones») (now «in_twos») m a (now ones) (now twos) ⌝ }
-    ensures { λ _. ⌜ Reads (now (ones .exit)) (now (twos .exit)) (length (now (ones .entry))) (streamRow m (outputFor m a)) ⌝ }
+) -> Writer
+    requires { ⌜ ForPutOutput (now masks) m a (now ones) (now twos) ⌝ }
+    ensures { λ r. ⌜ r .at ≡ m ⌝ }
+    ensures { λ r. ⌜ Written (streamRow m (outputFor m a)) (length (now (ones .entry))) (now (ones .exit)) (now (twos .exit)) r ⌝ }
 {
     let mut b = a;
-    let mut at = 0;
+    let mut w = Writer {
+        at: 0,
+        ones: 0,
+        twos: 0,
+    };
     let mut i = 0;
-    while at < m {
-        at = packing::write::put_next(in_ones, in_twos, m, byte_of(b, i % 136), ones, twos, at);
+    while w.at < m {
+        let after = put_next(masks, m, byte_of(b, i % 136), ones, twos, w);
+        w = after;
         i += 1;
         if i % 136 == 0 {
             let next = keccak::permute(b);
             b = next;
         }
     }
+    w
 }
 
 // The row of m trits of an output that has as many; what the planes held before is gone.
@@ -61,9 +70,7 @@ pub fn write_output(m: usize, a: [[u64; 5]; 5], ones: &mut [u64], twos: &mut [u6
     requires { ⌜ ForWriteOutput m a (now ones) (now twos) ⌝ }
     ensures { λ _. ⌜ Reads (now (ones .exit)) (now (twos .exit)) (length (now (ones .entry))) (streamRow m (outputFor m a)) ⌝ }
 {
-    planes::words::zero_words(ones);
-    planes::words::zero_words(twos);
-    let in_ones = packing::table::ones_masks();
-    let in_twos = packing::table::twos_masks();
-    put_output(&in_ones, &in_twos, m, a, ones, twos);
+    let masks = placing::masks::byte_masks();
+    let all = put_output(&masks, m, a, ones, twos);
+    placing::writer::finish(ones, twos, all);
 }

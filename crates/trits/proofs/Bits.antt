@@ -1,7 +1,7 @@
 -- The bits of a number: the operators work at each bit apart, a number is its bits, and the number that `fromBits` makes of given bits has them;
 -- shifts move them. Assumes nothing.
 use mathlib.Core.Path.{_≡_, refl, sym, ap, ap₂, _∙_}
-use Prim.Native.Nat.{ℕ, zero, suc, _+_, _-_, _*_, _/_, _%_, _^_, _≤_, _<_, suc-le-suc}
+use Prim.Native.Nat.{ℕ, zero, suc, _+_, _-_, _*_, _/_, _%_, _^_, _≤_, _<_, zero-le, suc-le-suc}
 use native.Mathlib.Nat.{zero-lt-suc, not-suc-le-zero, le-of-suc-le-suc, mod-lt, div-one, zero-div, pow-suc, div-eq-of-lt, mod-eq-of-lt, one-mul, mul-assoc}
 use native.Mathlib.Numerals.{one-add}
 use native.Mathlib.Decide.{decLt}
@@ -83,6 +83,16 @@ from-same zero f g e = refl
 from-same (suc k) f g e =
     ap₂ (λ (a b : ℕ). a + 2 * b) (e 0 (zero-lt-suc k)) (from-same k (λ i. f (suc i)) (λ i. g (suc i)) (λ i l. e (suc i) (suc-le-suc l)))
 
+-- and what is 0 past them needs no more
+pub from-ended : (k n : ℕ) (f : ℕ → ℕ) → k ≤ n → ((i : ℕ) → k ≤ i → f i ≡ 0) → fromBits f n ≡ fromBits f k
+unfolding fromBits
+from-ended zero zero f h z = refl
+from-ended zero (suc n) f h z =
+    omega (arith, z 0 (zero-le), from-ended zero n (λ i. f (suc i)) zero-le (λ i l. z (suc i) zero-le))
+from-ended (suc k) zero f h z = absurd (not-suc-le-zero h)
+from-ended (suc k) (suc n) f h z =
+    ap (λ (x : ℕ). f 0 + 2 * x) (from-ended k n (λ i. f (suc i)) (le-of-suc-le-suc h) (λ i l. z (suc i) (suc-le-suc l)))
+
 -- a number is the one that has its bits
 pub from-bits : (k n : ℕ) (f : ℕ → ℕ) → n < 2 ^ k → ((i : ℕ) → f i < 2) → ((i : ℕ) → i < k → bit i n ≡ f i) → n ≡ fromBits f k
 from-bits k n f h d e = bits-eq k n (fromBits f k) h (from-lt k f d) (λ i l. e i l ∙ sym (bit-from k f d i l))
@@ -105,6 +115,10 @@ bit-cut w n q h =
     let d : (w - suc q) + 1 ≡ suc (w - suc q) = omega arith in
     ap (λ (k : ℕ). n % 2 ^ k / 2 ^ q % 2) (sym e) ∙ ap (λ (x : ℕ). x % 2) (field n (suc (w - suc q)) q)
     ∙ ap (λ (k : ℕ). n / 2 ^ q % 2 ^ k % 2) (sym d) ∙ mod-mod-pow (n / 2 ^ q) (w - suc q) 1
+
+pub from-cut : (k n : ℕ) (f : ℕ → ℕ) → k ≤ n → ((i : ℕ) → f i < 2) → fromBits f n % 2 ^ k ≡ fromBits f k
+from-cut k n f h d =
+    from-bits k (fromBits f n % 2 ^ k) f (mod-lt (fromBits f n) (pow-pos k)) d (λ i l. bit-cut k (fromBits f n) i l ∙ bit-from n f d i (omega arith))
 
 -- below the shift there is 0
 pub bit-low : (x j q : ℕ) → q < 64 → q < j → bit q (x * 2 ^ j % 2 ^ 64) ≡ 0

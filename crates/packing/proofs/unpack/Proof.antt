@@ -63,7 +63,7 @@ write-packed-requires c κs =
     record {
       ones-size = omega arith;
       twos-size = omega arith;
-      enough = omega arith;
+      bytes-size = omega arith;
       small = omega arith;
       not-refused = sym (c .before .before .before .before .test-bytes .ensures) ∙ sym (c .before .before .before .code .ensures)
           ∙ c .before .before .if5 .left;

@@ -49,7 +49,7 @@ write-packed-requires c κs =
     let n = sizes (s .args .held) (p .whole .is-sound) in record {
       ones-size = omega (arith, f, p, c .before .before .row-trits .ensures, n);
       twos-size = omega (arith, f, p, c .before .before .row-trits .ensures, n);
-      enough = omega (arith, f, p, c .before .before .row-trits .ensures, n);
+      bytes-size = omega (arith, f, p, c .before .before .row-trits .ensures, n);
       small = omega (arith, f, p, c .before .before .row-trits .ensures, n);
       not-refused = ap (λ (m : ℕ). packedRefusal m (now (s .args .y))) (c .before .before .row-trits .ensures) ∙ passed s .1;
     }

@@ -18,7 +18,7 @@ write-packed-requires c κs =
     record {
       ones-size = start-from-write-packed-arg2 c .pre .ones-size;
       twos-size = omega arith;
-      enough = omega arith;
+      bytes-size = start-from-write-packed-arg2 c .pre .bytes-size;
       small = omega arith;
       not-refused = start-from-write-packed-arg2 c .pre .not-refused;
     }

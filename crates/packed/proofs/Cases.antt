@@ -2,7 +2,7 @@
 use mathlib.Core.Path.{_≡_, refl}
 use mathlib.Core.Bool.{Bool, false, not, _&&_}
 use mathlib.Core.List.{List, [], _∷_, _++_}
-use Prim.Native.Nat.{ℕ, _%_, _^_}
+use Prim.Native.Nat.{ℕ, _*_, _%_, _^_}
 use lib.Dec.{eqb, leb, ltb}
 use lib.ListN.{getD}
 use Rattle.trits.specs.Trit.{Trit, t0, t1, t2, anyTo, upTo}
@@ -11,6 +11,7 @@ use Rattle.trits.specs.Rows.{rowPart, rowsPastEnd}
 use Rattle.trits.specs.Refusal.{refuse, planesRefusal}
 use Rattle.packed.specs.Packed.{byteOf, digitOf, packedRow, packedBytes, badByte, packedPastEnd, packedRefusal}
 use Rattle.packed.specs.Stream.{kept, streamRow, tooShort}
+use Rattle.packed.specs.Steps.{fiveDigits, fiveTrits, byteFrom}
 use Rattle.packed.specs.Calls.{packOf, packRefusal, packRefusalUnder, packExit, unpackOf, unpackRefusal, unpackOnes, unpackTwos}
 use Rattle.packed.specs.Calls.{streamOf, streamRefusal, streamOnes, streamTwos}
 
@@ -26,6 +27,11 @@ five-pack = refl
 pub five-call : packExit (packOf 5 (17 ∷ []) (2 ∷ []) (99 ∷ [])) ≡ 88 ∷ []
 unfolding packExit packRefusalUnder planesRefusal bothSet rowsPastEnd rowPart pastEnd anyTo bitAt bit packedBytes tabulate byteOf upTo tritAt
 five-call = refl
+
+-- and from their bits, five of each plane; five trits of 2 from theirs, after five of 0
+pub five-bits : (fiveTrits 17 2 ≡ 88) × (byteFrom 0 (31 * 2 ^ 5) 1 ≡ 242)
+unfolding byteFrom fiveTrits fiveDigits bit
+five-bits = (refl, refl)
 
 -- ★ 242 reads 2,2,2,2,2
 pub five-read : (packedRow (242 ∷ []) 0 ≡ t2) × (packedRow (242 ∷ []) 1 ≡ t2) × (packedRow (242 ∷ []) 2 ≡ t2) × (packedRow (242 ∷ []) 3 ≡ t2)

@@ -1,4 +1,5 @@
--- What the inner functions do with bytes: their trits as pieces of a row, a plane that is being written, and one step of a stream. Assumes nothing.
+-- What the inner functions do with bytes: their trits as pieces of a row, a plane that is being written, one step of a stream, and the bytes of a row.
+-- Assumes nothing.
 use mathlib.Core.Path.{_≡_}
 use mathlib.Core.Bool.{cond}
 use mathlib.Core.List.{List}
@@ -6,7 +7,7 @@ use Prim.Native.Nat.{ℕ, _+_, _-_, _*_, _/_, _%_, _^_, _<_}
 use lib.Dec.{ltb}
 use lib.ListN.{length, getD}
 use Rattle.trits.specs.Trit.{Trit, one, two, tritOf}
-use Rattle.trits.specs.Planes.{fromBits, tabulate}
+use Rattle.trits.specs.Planes.{bit, fromBits, tabulate}
 use Rattle.packed.specs.Packed.{byteTable}
 
 -- ---- several trits at once
@@ -34,3 +35,21 @@ gives m at b = cond (ltb b 243) (cond (ltb (m - at) 5) (m - at) 5) 0
 -- how many trits are missing after the byte b, where `left` were before it
 unfoldable pub missing : ℕ → ℕ → ℕ
 missing left b = cond (ltb b 243) (left - 5) left
+
+-- ---- five trits of a row as a byte
+
+-- the lowest five bits of n as digits to the base 3: bit k counts 3 ^ k
+unfoldable pub fiveDigits : ℕ → ℕ
+fiveDigits n = bit 0 n + 3 * bit 1 n + 9 * bit 2 n + 27 * bit 3 n + 81 * bit 4 n
+
+-- the table of these numbers
+unfoldable pub digitValues : List ℕ
+digitValues = tabulate fiveDigits 32
+
+-- the byte of five trits, whose bits are the lowest five of x, from the ones, and of y, from the twos
+unfoldable pub fiveTrits : ℕ → ℕ → ℕ
+fiveTrits x y = fiveDigits x + 2 * fiveDigits y
+
+-- byte k of the trits whose bits are those of x and of y
+unfoldable pub byteFrom : ℕ → ℕ → ℕ → ℕ
+byteFrom x y k = fiveTrits (x / 2 ^ (5 * k)) (y / 2 ^ (5 * k))

@@ -2,19 +2,29 @@
 use mathlib.Core.Path.{_≡_}
 use mathlib.Core.List.{List}
 use Prim.Native.Nat.{ℕ, _*_, _≤_, _<_}
+use lib.Bits.{bitAnd}
 use lib.ListN.{length}
+use Rattle.trits.specs.Trit.{t0}
+use Rattle.trits.specs.Planes.{tritAt, Row}
 use Rattle.packed.specs.Packed.{bytesFor, byteTable}
+use Rattle.packed.specs.Steps.{digitValues}
 
--- a row of m trits in two planes, and the number of a byte
-pub record ForReadByte (m : ℕ) (ones twos : List ℕ) (j : ℕ) : Type 0 where
-  pub twos-size : length twos ≡ length ones
-  pub trits-fit : m ≤ 64 * length ones
-  pub byte-small : j < 65536
+-- the table of what five bits count, and two words with no bit in both
+pub record ForFiveTrits (values : List ℕ) (x y : ℕ) : Type 0 where
+  pub is-table : values ≡ digitValues
+  pub apart : bitAnd x y ≡ 0
 
--- a row of m trits in two planes, and bytes for it
+-- the same, and twelve bytes at most
+pub record ForReadTwelve (values : List ℕ) (x y : ℕ) (part : List ℕ) : Type 0 where
+  pub is-table : values ≡ digitValues
+  pub apart : bitAnd x y ≡ 0
+  pub few : length part ≤ 12
+
+-- a row of m trits in two planes, 0 past them, and bytes for it
 pub record ForReadBytes (m : ℕ) (ones twos bytes : List ℕ) : Type 0 where
-  pub twos-size : length twos ≡ length ones
+  pub row : Row ones twos
   pub trits-fit : m ≤ 64 * length ones
+  pub ended : (i : ℕ) → m ≤ i → tritAt ones twos i ≡ t0
   pub small : m ≤ 16384
   pub bytes-size : length bytes ≡ bytesFor m
 

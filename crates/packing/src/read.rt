@@ -1,35 +1,43 @@
 // Bytes made from a row.
 ghost use mathlib.Core.Path.{_≡_};
-ghost use Prim.Native.Nat.{_*_, _≤_, _<_};
+ghost use Prim.Native.Nat.{_+_, _≤_, _<_};
 ghost use lib.ListN.{length};
-ghost use Rattle.trits.specs.Trit.{number, upTo};
-ghost use Rattle.trits.specs.Planes.{tritAt};
-ghost use Rattle.packed.specs.Packed.{byteOf, packedBytes};
-ghost use Rattle.packing.specs.Steps.{ForReadByte, ForReadBytes};
+ghost use Rattle.trits.specs.Planes.{tritAt, tabulate};
+ghost use Rattle.packed.specs.Packed.{packedBytes};
+ghost use Rattle.packed.specs.Steps.{fiveTrits, byteFrom};
+ghost use Rattle.packing.specs.Steps.{ForFiveTrits, ForReadTwelve, ForReadBytes};
+use super::table::digit_values;
+use planes::places::bits_from;
 
-// The trit at a place of a row of m trits, 0 past them.
-fn trit_below(m: usize, ones: &[u64], twos: &[u64], p: usize) -> u8
-    requires { ⌜ (length (now twos) ≡ length (now ones)) × (m ≤ 64 * length (now ones)) ⌝ }
-    ensures { λ r. ⌜ r ≡ number (upTo m (tritAt (now (ones .entry)) (now (twos .entry))) p) ⌝ }
+// The byte of five trits, whose bits are the lowest five of x and of y.
+fn five_trits(values: &[u8; 32], x: u64, y: u64) -> u8
+    requires { ⌜ ForFiveTrits (now values) x y ⌝ }
+    ensures { λ r. ⌜ r ≡ fiveTrits x y ⌝ }
 {
-    if p < m {
-        return planes::places::trit_at(ones, twos, p);
-    }
-    0
+    values[(x % 32) as usize] + 2 * values[(y % 32) as usize]
 }
 
-// Byte j of a row of m trits.
-fn read_byte(m: usize, ones: &[u64], twos: &[u64], j: usize) -> u8
-    requires { ⌜ ForReadByte m (now ones) (now twos) j ⌝ }
-    ensures { λ r. ⌜ r ≡ byteOf (upTo m (tritAt (now (ones .entry)) (now (twos .entry)))) j ⌝ }
+// A part of twelve bytes or fewer, from the bits of its trits.
+fn read_twelve(values: &[u8; 32], x: u64, y: u64, part: &mut [u8])
+    requires { ⌜ ForReadTwelve (now values) x y (now part) ⌝ }
+    ensures { λ _. ⌜ now (part .exit) ≡ tabulate (byteFrom x y) (length (now (part .entry))) ⌝ }
 {
-    let p = 5 * j;
-    let a = trit_below(m, ones, twos, p);
-    let b = trit_below(m, ones, twos, p + 1);
-    let c = trit_below(m, ones, twos, p + 2);
-    let d = trit_below(m, ones, twos, p + 3);
-    let e = trit_below(m, ones, twos, p + 4);
-    a + 3 * b + 9 * c + 27 * d + 81 * e
+    let mut k = 0;
+    while k < part.len() {
+        part[k] = five_trits(values, x >> 5 * k, y >> 5 * k);
+        k += 1;
+    }
+}
+
+// The end of the next twelve of n bytes from j on, or of the fewer that are left.
+fn next_end(j: usize, n: usize) -> usize
+    requires { ⌜ j < n ⌝ }
+    ensures { λ r. ⌜ (j < r) × (r ≤ n) × (r ≤ j + 12) ⌝ }
+{
+    if n - j < 12 {
+        return n;
+    }
+    j + 12
 }
 
 // All bytes of a row of m trits.
@@ -37,9 +45,16 @@ pub fn read_bytes(m: usize, ones: &[u64], twos: &[u64], bytes: &mut [u8])
     requires { ⌜ ForReadBytes m (now ones) (now twos) (now bytes) ⌝ }
     ensures { λ _. ⌜ now (bytes .exit) ≡ packedBytes m (tritAt (now (ones .entry)) (now (twos .entry))) ⌝ }
 {
+    let values = digit_values();
     let mut j = 0;
-    while j < bytes.len() {
-        bytes[j] = read_byte(m, ones, twos, j);
-        j += 1;
+    while 5 * j < m {
+        let end = next_end(j, bytes.len());
+        read_twelve(
+            &values,
+            bits_from(ones, 5 * j),
+            bits_from(twos, 5 * j),
+            &mut bytes[j..end],
+        );
+        j = end;
     }
 }

@@ -1,6 +1,7 @@
-// The byte table: the five trits of each byte from 0 to 242.
+// The byte table: the five trits of each byte from 0 to 242; and what five bits of a plane count.
 ghost use mathlib.Core.Path.{_≡_};
 ghost use Rattle.packed.specs.Packed.{digitOf, byteTable};
+ghost use Rattle.packed.specs.Steps.{digitValues};
 ghost use Rattle.packing.specs.Steps.{ForTrit};
 
 // The table, made once by who reads many trits, and lent to `trit`.
@@ -16,6 +17,13 @@ pub fn trit(table: &[u8; 1215], b: u8, k: usize) -> u8
     ensures { λ r. ⌜ r ≡ digitOf b k ⌝ }
 {
     table[b as usize * 5 + k]
+}
+
+// What five bits of a plane count as digits to the base 3, made once by who reads many bytes.
+pub fn digit_values() -> [u8; 32]
+    ensures { λ r. ⌜ r ≡ digitValues ⌝ }
+{
+    VALUES
 }
 
 const TRITS: [u8; 1215] = [
@@ -1234,4 +1242,39 @@ const TRITS: [u8; 1215] = [
     2,
     2,
     2,
+];
+
+const VALUES: [u8; 32] = [
+    0,
+    1,
+    3,
+    4,
+    9,
+    10,
+    12,
+    13,
+    27,
+    28,
+    30,
+    31,
+    36,
+    37,
+    39,
+    40,
+    81,
+    82,
+    84,
+    85,
+    90,
+    91,
+    93,
+    94,
+    108,
+    109,
+    111,
+    112,
+    117,
+    118,
+    120,
+    121,
 ];

@@ -1,10 +1,10 @@
-// One place of a row: its trit read, or another put there.
+// Places of a row: a trit read, or another put there; and 64 places of a plane read at once.
 ghost use mathlib.Core.Path.{_≡_};
 ghost use mathlib.Core.Bool.{cond};
-ghost use Prim.Native.Nat.{_*_, _<_};
+ghost use Prim.Native.Nat.{_+_, _*_, _<_};
 ghost use lib.ListN.{length};
 ghost use Rattle.trits.specs.Trit.{number, tritOf, putV};
-ghost use Rattle.trits.specs.Planes.{tritAt, Reads, withBit};
+ghost use Rattle.trits.specs.Planes.{fromBits, bitAt, tritAt, Reads, withBit};
 ghost use Rattle.planes.specs.Steps.{ForPutTrit};
 
 // The trit at a place.
@@ -22,6 +22,23 @@ pub fn trit_at(ones: &[u64], twos: &[u64], i: usize) -> u8
     } else {
         0
     }
+}
+
+// The 64 bits of a plane from place p on; past the plane's end there is 0.
+pub fn bits_from(plane: &[u64], p: usize) -> u64
+    requires { ⌜ p < 64 * length (now plane) ⌝ }
+    ensures { λ r. ⌜ r ≡ fromBits (λ b. bitAt (now (plane .entry)) (p + b)) 64 ⌝ }
+{
+    let j = p / 64;
+    let b = p % 64;
+    let n = plane[j] >> b;
+    if b == 0 {
+        return n;
+    }
+    if plane.len() <= j + 1 {
+        return n;
+    }
+    n | plane[j + 1] << (64 - b)
 }
 
 // A word with one bit set or cleared.

@@ -2,17 +2,15 @@
 use mathlib.Core.Path.{_≡_, refl, sym, ap, ap₂, _∙_}
 use mathlib.Core.List.{List}
 use Prim.Native.Nat.{ℕ, _+_, _-_, _*_, _/_, _%_, _^_, _≤_, _<_}
-use native.Mathlib.Decide.{decLt}
 use native.Mathlib.Omega.{arith}
 use lib.ListN.{getD}
-use lib.Bits.{bitAnd, bitOr, or-zero-r}
-use Rattle.trits.specs.Trit.{Trit, t0, t1, t2, number, one, two}
-use Rattle.trits.specs.Planes.{bit, trit, bitAt, tritAt, Row}
+use lib.Bits.{bitAnd, bitOr}
+use Rattle.trits.specs.Trit.{number}
+use Rattle.trits.specs.Planes.{bit, bitAt, tritAt, Row}
 use Rattle.trits.specs.Rows.{matrixAt}
-use Rattle.trits.proofs.Bits.{bit-lt, bit-or, bit-past, shr-bit, bit-low, bit-high}
-use Rattle.trits.proofs.Reading.{bitAt-place}
+use Rattle.trits.proofs.Bits.{bit-lt, shr-bit}
+use Rattle.trits.proofs.Reading.{bits-within, bits-across, number-at}
 use Rattle.trits.proofs.Put.{low-bit}
-use Rattle.trits.proofs.WordOps as masks
 use Rattle.matrix.specs.Linear.{Vector}
 use Rattle.matrix.specs.Blocks.{base3, pow3}
 use Rattle.matrix.proofs.Entries.{base3-lt}
@@ -22,17 +20,6 @@ use Rattle.tables.specs.Steps.{Twelve, twoDigits, digitPairs}
 -- the bit that is read is 0 or 1
 pub read-bit : (w b : ℕ) → bitAnd (w / 2 ^ b) 1 < 2
 read-bit w b = omega (arith, low-bit b w, bit-lt b w)
-
-number-bits : (x : Trit) → one x + 2 * two x ≡ number (trit (one x) (two x))
-number-bits t0 = refl
-number-bits t1 = refl
-number-bits t2 = refl
-
-number-at : {os ts : List ℕ} (p : ℕ) → Row os ts → bitAt os p + 2 * bitAt ts p ≡ number (tritAt os ts p)
-unfolding tritAt bitAt
-number-at {os} {ts} p r =
-    let u = masks.code (getD os (p / 64) 0) (getD ts (p / 64) 0) (r .apart .word (p / 64)) (p % 64) in
-    ap₂ (λ (a b : ℕ). a + 2 * b) (u .1) (u .2) ∙ number-bits (u .0) ∙ sym (ap₂ (λ (a b : ℕ). number (trit a b)) (u .1) (u .2))
 
 pub number-read : {os ts : List ℕ} (p : ℕ) → Row os ts
     → bitAnd (getD os (p / 64) 0 / 2 ^ (p % 64)) 1 + 2 * bitAnd (getD ts (p / 64) 0 / 2 ^ (p % 64)) 1 ≡ number (tritAt os ts p)
@@ -44,34 +31,12 @@ number-read {os} {ts} p r =
 
 -- they stand in one word
 pub twelve-within : (plane : List ℕ) (p : ℕ) → p % 64 ≤ 52 → Twelve plane p (getD plane (p / 64) 0 / 2 ^ (p % 64))
-twelve-within plane p h = record {
-  bits = λ k l.
-      shr-bit (p % 64) k (getD plane (p / 64) 0) ∙ sym (bitAt-place (p / 64) (p % 64 + k) (omega arith) plane) ∙ ap (bitAt plane) (omega arith);
-}
+twelve-within plane p h = record { bits = λ k l. bits-within plane p k (omega arith) }
 
 -- or in two: the first has those up to its end, and the second, moved there, the others
 pub twelve-across : (plane : List ℕ) (p : ℕ) → 52 < p % 64 → getD plane (p / 64) 0 < 2 ^ 64
     → Twelve plane p (bitOr (getD plane (p / 64) 0 / 2 ^ (p % 64)) (getD plane (p / 64 + 1) 0 * 2 ^ (64 - p % 64) % 2 ^ 64))
-twelve-across plane p h fits = record { bits = λ k l. bit-or k first second ∙ at k l (decLt (p % 64 + k) 64) }
-  where
-    b : ℕ
-    b = p % 64
-
-    first : ℕ
-    first = getD plane (p / 64) 0 / 2 ^ b
-
-    second : ℕ
-    second = getD plane (p / 64 + 1) 0 * 2 ^ (64 - b) % 2 ^ 64
-
-    at : (k : ℕ) → k < 12 → Dec (b + k < 64) → bitOr (bit k first) (bit k second) ≡ bitAt plane (p + k)
-    at k l (yes d) =
-        ap (bitOr (bit k first)) (bit-low (getD plane (p / 64 + 1) 0) (64 - b) k (omega arith) (omega arith)) ∙ or-zero-r (bit k first)
-        ∙ shr-bit b k (getD plane (p / 64) 0) ∙ sym (bitAt-place (p / 64) (b + k) d plane) ∙ ap (bitAt plane) (omega arith)
-    at k l (no d) =
-        let e : 64 * (p / 64 + 1) + (k - (64 - b)) ≡ p + k = omega arith in
-        ap₂ bitOr (shr-bit b k (getD plane (p / 64) 0) ∙ bit-past 64 (b + k) (getD plane (p / 64) 0) fits (omega arith))
-        (bit-high (getD plane (p / 64 + 1) 0) (64 - b) k (omega arith) (omega arith) ∙ sym (bitAt-place (p / 64 + 1) (k - (64 - b)) (omega arith) plane))
-        ∙ ap (bitAt plane) e
+twelve-across plane p h fits = record { bits = λ k l. bits-across plane p fits (omega arith) k (omega arith) }
 
 -- ---- four trits of a row
 

@@ -54,6 +54,23 @@ module _ {f : ℕ → ℕ} {a k : ℕ} {l₀ l : List ℕ} (p : Patched f a k l�
   pub patch-here : q ≡ a + k → getD l q 0 ≡ getD l₀ (a + k) 0
   patch-here e = ap (λ (i : ℕ). getD l i 0) e ∙ p .above (a + k) (omega arith)
 
+-- a turn replaces the n words after them, which begin at c
+pub patch-join : {f g : ℕ → ℕ} {a c k n : ℕ} {l₀ l m : List ℕ} → Patched f a k l₀ l → Patched g c n l m → c ≡ a + k
+    → ((j : ℕ) → j < n → g j ≡ f (k + j)) → Patched f a (k + n) l₀ m
+patch-join {f} {g} {a} {c} {k} {n} {l₀} {l} {m} p q s e = record {
+  kept = q .kept ∙ p .kept;
+  new = λ j h. at j h (decLt j k);
+  below = λ i h. q .below i (omega arith) ∙ p .below i h;
+  above = λ i h. q .above i (omega arith) ∙ p .above i (omega arith);
+}
+  where
+    at : (j : ℕ) → j < k + n → Dec (j < k) → getD m (a + j) 0 ≡ f j
+    at j h (yes d) = q .below (a + j) (omega arith) ∙ p .new j d
+    at j h (no d) =
+        let i = j - k in
+        let d : j ≡ k + i = omega arith in
+        ap (λ (z : ℕ). getD m z 0) (omega arith) ∙ q .new i (omega arith) ∙ e i (omega arith) ∙ ap f (sym d)
+
 -- where every word was replaced the list is f's
 pub patched-all : {f : ℕ → ℕ} {k : ℕ} {l₀ l : List ℕ} (n : ℕ) → Patched f 0 k l₀ l → length l₀ ≡ n → k ≡ n → l ≡ tabulate f n
 patched-all {f} {k} {l₀} {l} n p e q =

@@ -1,17 +1,19 @@
 -- The two planes of a vector: reading what was written gives it back; the written planes have
--- no bit in both; planes with no bit in both are those of what they read.
+-- no bit in both; planes with no bit in both are those of what they read. With them, 64 places of a plane as one word.
 -- Assumes nothing.
 use mathlib.Core.Path.{_≡_, refl, sym, ap, ap₂, _∙_, subst, subst₂, fun-ext}
 use mathlib.Core.List.{List}
-use Prim.Native.Nat.{ℕ, zero, suc, _+_, _*_, _/_, _%_, _^_, _≤_, _<_}
+use Prim.Native.Nat.{ℕ, zero, suc, _+_, _-_, _*_, _/_, _%_, _^_, _≤_, _<_}
+use native.Mathlib.Nat.{mod-lt}
 use native.Mathlib.Omega.{arith}
 use native.Mathlib.Decide.{decLt}
 use lib.ListN.{length, getD, List·getD-eq-default}
-use lib.Bits.{bitAnd, and-lt, and-comm}
+use lib.Bits.{bitAnd, bitOr, and-lt, or-lt, and-comm, or-zero-r}
 use lib.Dec.{lit<}
-use Rattle.trits.specs.Trit.{Trit, t0, t1, t2, negT, negV, one, two}
+use lib.Pow.{pow-pos, shr-le}
+use Rattle.trits.specs.Trit.{Trit, t0, t1, t2, negT, negV, number, one, two}
 use Rattle.trits.specs.Planes.{bit, fromBits, trit, bitAt, tritAt, onesOf, twosOf, Apart, Row, Holds, Reads}
-use Rattle.trits.proofs.Bits.{bit-and, bit-lt, bit-none, bits-eq, from-lt, bit-from, from-bits}
+use Rattle.trits.proofs.Bits.{bit-and, bit-or, bit-lt, bit-none, bit-past, bits-eq, from-lt, bit-from, from-bits, shr-bit, bit-low, bit-high}
 use Rattle.trits.proofs.Lists.{length-tabulate, getD-tabulate, tabulated}
 
 -- ---- a trit and its bits
@@ -62,6 +64,79 @@ module _ (j b : ℕ) (h : b < 64) where
 pub tritAt-word : (ones twos : List ℕ) (p q i : ℕ) → p / 64 ≡ q → p % 64 ≡ i → tritAt ones twos p ≡ trit (bit i (getD ones q 0)) (bit i (getD twos q 0))
 unfolding tritAt bitAt
 tritAt-word ones twos p q i e f = ap₂ (λ (x y : ℕ). trit (bit y (getD ones x 0)) (bit y (getD twos x 0))) e f
+
+-- ---- the 64 places from place p on, as one word: what the word of p has from there to its end, and behind that the next word
+
+module _ (ws : List ℕ) (p : ℕ) where
+  abbrev rest : ℕ
+  rest = getD ws (p / 64) 0 / 2 ^ (p % 64)
+
+  abbrev behind : ℕ
+  behind = getD ws (p / 64 + 1) 0 * 2 ^ (64 - p % 64) % 2 ^ 64
+
+  place-lt : (k : ℕ) → bitAt ws (p + k) < 2
+  unfolding bitAt
+  place-lt k = bit-lt ((p + k) % 64) (getD ws ((p + k) / 64) 0)
+
+  -- up to the word's end
+  pub bits-within : (k : ℕ) → p % 64 + k < 64 → bit k rest ≡ bitAt ws (p + k)
+  bits-within k h =
+      shr-bit (p % 64) k (getD ws (p / 64) 0) ∙ sym (bitAt-place (p / 64) (p % 64 + k) h ws) ∙ ap (bitAt ws) (omega arith)
+
+  module _ (fits : getD ws (p / 64) 0 < 2 ^ 64) where
+    rest-lt : rest < 2 ^ 64
+    rest-lt = omega (arith, shr-le (getD ws (p / 64) 0) (p % 64))
+
+    -- past it there is nothing
+    rest-past : (k : ℕ) → 64 ≤ p % 64 + k → bit k rest ≡ 0
+    rest-past k h = shr-bit (p % 64) k (getD ws (p / 64) 0) ∙ bit-past 64 (p % 64 + k) (getD ws (p / 64) 0) fits h
+
+    -- over the word's end
+    pub bits-across : 0 < p % 64 → (k : ℕ) → k < 64 → bit k (bitOr rest behind) ≡ bitAt ws (p + k)
+    bits-across some k l = bit-or k rest behind ∙ at (decLt (p % 64 + k) 64)
+      where
+        next : ℕ
+        next = getD ws (p / 64 + 1) 0
+
+        at : Dec (p % 64 + k < 64) → bitOr (bit k rest) (bit k behind) ≡ bitAt ws (p + k)
+        at (yes d) = ap (bitOr (bit k rest)) (bit-low next (64 - p % 64) k l (omega arith)) ∙ or-zero-r (bit k rest) ∙ bits-within k d
+        at (no d) =
+            let e : 64 * (p / 64 + 1) + (k - (64 - p % 64)) ≡ p + k = omega arith in
+            ap₂ bitOr (rest-past k (omega arith))
+            (bit-high next (64 - p % 64) k l (omega arith) ∙ sym (bitAt-place (p / 64 + 1) (k - (64 - p % 64)) (omega arith) ws))
+            ∙ ap (bitAt ws) e
+
+    -- behind the last word there is 0
+    bits-last : length ws ≤ p / 64 + 1 → (k : ℕ) → Dec (p % 64 + k < 64) → bit k rest ≡ bitAt ws (p + k)
+    unfolding bitAt
+    bits-last e k (yes d) = bits-within k d
+    bits-last e k (no d) =
+        rest-past k (omega arith) ∙ sym (ap (bit ((p + k) % 64)) (List·getD-eq-default ws 0 (omega arith)) ∙ bit-none ((p + k) % 64))
+
+    -- all 64 stand in one word, or in the last, or in two
+    pub word-within : p % 64 ≡ 0 → rest ≡ fromBits (λ b. bitAt ws (p + b)) 64
+    word-within z = from-bits 64 rest _ rest-lt place-lt (λ k l. bits-within k (omega arith))
+
+    pub word-last : length ws ≤ p / 64 + 1 → rest ≡ fromBits (λ b. bitAt ws (p + b)) 64
+    word-last e = from-bits 64 rest _ rest-lt place-lt (λ k l. bits-last e k (decLt (p % 64 + k) 64))
+
+    pub word-across : 0 < p % 64 → bitOr rest behind ≡ fromBits (λ b. bitAt ws (p + b)) 64
+    word-across some = from-bits 64 (bitOr rest behind) _ (or-lt 64 rest behind rest-lt (mod-lt _ (pow-pos 64))) place-lt (bits-across some)
+
+-- the bits of such a word
+pub word-bit : (ws : List ℕ) (p k : ℕ) → k < 64 → bit k (fromBits (λ b. bitAt ws (p + b)) 64) ≡ bitAt ws (p + k)
+word-bit ws p k h = bit-from 64 _ (place-lt ws p) k h
+
+-- of two planes that are apart, two such words have no bit in both
+pub words-apart : {ones twos : List ℕ} (p : ℕ) → Apart ones twos
+    → bitAnd (fromBits (λ b. bitAt ones (p + b)) 64) (fromBits (λ b. bitAt twos (p + b)) 64) ≡ 0
+unfolding bitAt
+words-apart {ones} {twos} p a =
+    bits-eq 64 _ 0 (and-lt 64 _ _ (from-lt 64 _ (place-lt ones p)) (from-lt 64 _ (place-lt twos p))) (pow-pos 64)
+    (λ k h. bit-and k _ _ ∙ ap₂ bitAnd (word-bit ones p k h) (word-bit twos p k h) ∙ at (p + k) ∙ sym (bit-none k))
+  where
+    at : (q : ℕ) → bitAnd (bitAt ones q) (bitAt twos q) ≡ 0
+    at q = sym (bit-and (q % 64) (getD ones (q / 64) 0) (getD twos (q / 64) 0)) ∙ ap (bit (q % 64)) (a .word (q / 64)) ∙ bit-none (q % 64)
 
 -- ---- the written planes
 
@@ -144,29 +219,19 @@ coded-at ones twos a j b h =
     let t : tritAt ones twos (64 * j + b) ≡ c .0 = tritAt-place j b h ones twos ∙ ap₂ trit (c .1) (c .2) ∙ trit-of (c .0) in
     (c .1 ∙ ap one (sym t), c .2 ∙ ap two (sym t))
 
-pub row-bits : {ones twos : List ℕ} → Row ones twos → (p : ℕ) → (bitAt ones p ≡ one (tritAt ones twos p)) × (bitAt twos p ≡ two (tritAt ones twos p))
-unfolding bitAt
-row-bits {ones} {twos} r p =
-    let e : 64 * (p / 64) + p % 64 ≡ p = omega arith in
-    let c = coded-at ones twos (r .apart) (p / 64) (p % 64) (omega arith) in
-    (c .0 ∙ ap (λ (q : ℕ). one (tritAt ones twos q)) e, c .1 ∙ ap (λ (q : ℕ). two (tritAt ones twos q)) e)
+-- the number of a trit, from its bits
+pub number-bits : (x : Trit) → one x + 2 * two x ≡ number x
+number-bits t0 = refl
+number-bits t1 = refl
+number-bits t2 = refl
 
--- and planes whose bits are those of v read as v
-pub bits-read : {ones twos : List ℕ} {n : ℕ} {v : ℕ → Trit} → length ones ≡ n → length twos ≡ n → ((p : ℕ) → bitAt ones p ≡ one (v p))
-    → ((p : ℕ) → bitAt twos p ≡ two (v p)) → ((j : ℕ) → getD ones j 0 < 2 ^ 64) → ((j : ℕ) → getD twos j 0 < 2 ^ 64) → Reads ones twos n v
-unfolding tritAt
-bits-read {ones} {twos} {n} {v} lo lt eo et ho ht = record {
-  row = record { same = lt ∙ sym lo; apart = record { word = apart } };
-  size = lo;
-  trits = fun-ext (λ p. ap₂ trit (eo p) (et p) ∙ trit-of (v p));
-}
-  where
-    apart : (j : ℕ) → bitAnd (getD ones j 0) (getD twos j 0) ≡ 0
-    apart j =
-        bits-eq 64 (bitAnd (getD ones j 0) (getD twos j 0)) 0 (and-lt 64 (getD ones j 0) (getD twos j 0) (ho j) (ht j)) (lit< tt)
-        (λ b h. bit-and b (getD ones j 0) (getD twos j 0)
-        ∙ ap₂ bitAnd (sym (bitAt-place j b h ones) ∙ eo (64 * j + b)) (sym (bitAt-place j b h twos) ∙ et (64 * j + b)) ∙ and-one-two (v (64 * j + b))
-        ∙ sym (bit-none b))
+-- and of the one that is read at a place
+pub number-at : {ones twos : List ℕ} (p : ℕ) → Row ones twos → bitAt ones p + 2 * bitAt twos p ≡ number (tritAt ones twos p)
+unfolding bitAt
+number-at {ones} {twos} p r =
+    let c = coded-at ones twos (r .apart) (p / 64) (p % 64) (omega arith) in
+    ap₂ (λ (a b : ℕ). a + 2 * b) (c .0) (c .1) ∙ number-bits (tritAt ones twos (64 * (p / 64) + p % 64))
+    ∙ ap (λ (q : ℕ). number (tritAt ones twos q)) (omega arith)
 
 -- planes that are apart are those of the vector that they read: so they are determined by their trits
 pub read-holds : (ones twos : List ℕ) (n : ℕ) → Row ones twos → length ones ≡ n → ((j : ℕ) → getD ones j 0 < 2 ^ 64) → ((j : ℕ) → getD twos j 0 < 2 ^ 64)

@@ -1,95 +1,103 @@
-/* The unpacking of a row, the syndrome of a text and the checks in plain C, with the same tests in the same order. */
+/* The syndrome of a text and the checks in plain C, with the same tests in the same order. */
 
-/* ---- the tests */
+/* room for any row, from the start of a line of the cache on */
+typedef struct { _Alignas(64) uint64_t ones[WAVE_WORDS(16384)], twos[WAVE_WORDS(16384)]; } row;
 
-static uint64_t planes_refusal(const uint64_t *ones, const uint64_t *twos, size_t rows, size_t m) {
-    size_t w = WAVE_WORDS(m);
-    uint64_t both = 0, past = 0;
-    if (m % 64)
-        for (size_t last = w - 1; last < rows * w; last += w) past |= ones[last] | twos[last];
-    if (past >> m % 64) return 4;
-    for (size_t i = 0; i < rows * w; i++) both |= ones[i] & twos[i];
+/* ---- the syndrome */
+
+/* the packed row of m trits that a text with its salt gives, its last byte perhaps with trits past m: 0, or 6 */
+static uint64_t syndrome_bytes(size_t m, const uint8_t *salt, const uint8_t *text, size_t n, uint8_t *bytes) {
+    sponge s = {{0}, {0}, 0};
+    size_t most = WAVE_BYTES(m), count = 0;
+    absorb(&s, salt, WAVE_SALT_BYTES);
+    absorb(&s, text, n);
+    pad(&s);
+    for (size_t left = m + 136; count < most && left > 0;) {
+        size_t size = left < RATE ? left : RATE;
+        count = keep((const uint8_t *)s.lanes, size, bytes, count, most);
+        left -= size;
+        if (count < most) permute(s.lanes);
+    }
+    return count < most ? 6 : 0;
+}
+
+static uint64_t c_syndrome(size_t m, const uint8_t *salt, size_t salt_n, const uint8_t *text, size_t text_n,
+                           uint64_t *ones, size_t on, uint64_t *twos, size_t tn) {
+    uint8_t bytes[WAVE_BYTES(16384)];
+    if (m > 16384) return 1;
+    if (salt_n != WAVE_SALT_BYTES || on != WAVE_WORDS(m) || tn != WAVE_WORDS(m)) return 2;
+    if (syndrome_bytes(m, salt, text, text_n, bytes)) return 6;
+    need_tables();
+    unpack(m, bytes, ones, twos);
+    return 0;
+}
+
+/* ---- the full word */
+
+/* a row is added, and its bits in both planes are the answer; not inlined, so that gcc sees that no rows overlap */
+static __attribute__((noinline)) uint64_t add_tested(uint64_t *restrict o, uint64_t *restrict t,
+                                                     const uint64_t *restrict so, const uint64_t *restrict st,
+                                                     size_t w) {
+    uint64_t both = 0;
+    BY_FOUR for (size_t k = 0; k < w; k++) {
+        uint64_t a = o[k], b = t[k], c = so[k], d = st[k], x = (a | d) ^ (b | c);
+        o[k] = (b | d) ^ x;
+        t[k] = (a | c) ^ x;
+        both |= c & d;
+    }
+    return both;
+}
+
+/* s times the key is taken from y, which stands in the sums, and each row is tested in the same pass: 4, 3 or 0 */
+static uint64_t take_tested(wave_held h, const uint64_t *ones, const uint64_t *twos, const uint64_t *s_ones,
+                            const uint64_t *s_twos, row *sum) {
+    size_t m = h.n - h.k, w = WAVE_WORDS(m);
+    uint64_t both = 0, last = 0;
+    for (size_t i = 0; i < h.k; i++, ones += w, twos += w) {
+        int x = at(s_ones, s_twos, i);
+        if (x == 0) both |= both_set(ones, twos, w);
+        else if (x == 1) both |= add_tested(sum->ones, sum->twos, twos, ones, w);
+        else both |= add_tested(sum->ones, sum->twos, ones, twos, w);
+        last |= ones[w - 1] | twos[w - 1];
+    }
+    if (m % 64 && last >> m % 64) return 4;
     return both ? 3 : 0;
 }
 
-static uint64_t bytes_refusal(size_t m, const uint8_t *bytes, size_t n) {
-    static const uint8_t powers[5] = {1, 3, 9, 27, 81};
-    for (size_t i = 0; i < n; i++)
-        if (bytes[i] > 242) return 5;
-    return m % 5 && bytes[n - 1] >= powers[m % 5] ? 15 : 0;
+/* the same of a key that was tested */
+static void take(wave_held h, const uint64_t *ones, const uint64_t *twos, const uint64_t *s_ones,
+                 const uint64_t *s_twos, row *sum) {
+    size_t w = WAVE_WORDS(h.n - h.k);
+    for (size_t i = 0; i < h.k; i++, ones += w, twos += w) {
+        int x = at(s_ones, s_twos, i);
+        if (x == 1) add_row(sum->ones, sum->twos, twos, ones, w);
+        if (x == 2) add_row(sum->ones, sum->twos, ones, twos, w);
+    }
 }
 
-static uint64_t call_refusal(wave_held h, uint64_t number, size_t ones, size_t twos, size_t work_ones, size_t work_twos) {
+/* the ones and twos of the full word: the bits of a plane are the weight of a row that is this plane twice */
+static wave_checked verdict(wave_held h, const row *sum, const uint64_t *s_ones, const uint64_t *s_twos) {
+    size_t w = WAVE_WORDS(h.n - h.k), v = WAVE_WORDS(h.k);
+    uint64_t ones = weight(sum->ones, sum->ones, w) + weight(s_ones, s_ones, v);
+    uint64_t twos = weight(sum->twos, sum->twos, w) + weight(s_twos, s_twos, v);
+    return (wave_checked){0, ones + twos == h.w, ones, twos};
+}
+
+/* ---- the checks */
+
+static wave_checked refused(uint64_t r) {
+    return (wave_checked){r, 0, 0, 0};
+}
+
+static uint64_t call_refusal(wave_held h, uint64_t number, size_t ones, size_t twos, size_t work_ones,
+                             size_t work_twos) {
     if (h.begun == 0) return 20;
-    if (h.begun != 1 || h.number > 4294967295 || h.n < 4 || h.n > 16384 || h.n % 2 || h.k < 2 || h.k > h.n - 2 || h.w < 1 || h.w > h.n || h.rows > h.k) return 1;
+    if (h.begun != 1 || h.number > 4294967295 || h.n < 4 || h.n > 16384 || h.n % 2) return 1;
+    if (h.k < 2 || h.k > h.n - 2 || h.w < 1 || h.w > h.n || h.rows > h.k) return 1;
     if (h.rows != h.k) return 20;
     if (number != h.number) return 22;
     size_t w = WAVE_WORDS(h.n - h.k);
     return ones != h.k * w || twos != h.k * w || work_ones != w || work_twos != w ? 2 : 0;
-}
-
-/* ---- the ones and twos */
-
-static uint8_t table[243][5];
-
-static void make_table(void) {
-    for (int b = 0; b < 243; b++)
-        for (int k = 0, x = b; k < 5; k++, x /= 3) table[b][k] = x % 3;
-}
-
-/* the packed row's trits one after the other into planes that are 0 */
-static void unpack(size_t m, const uint8_t *bytes, uint64_t *restrict ones, uint64_t *restrict twos) {
-    for (size_t p = 0; p < m; bytes++)
-        for (size_t k = 0; k < 5 && p < m; k++, p++) {
-            int t = table[*bytes][k];
-            ones[p / 64] |= (uint64_t)(t == 1) << p % 64;
-            twos[p / 64] |= (uint64_t)(t == 2) << p % 64;
-        }
-}
-
-/* row i times t is taken from the word */
-static void take_row(const uint64_t *ones, const uint64_t *twos, size_t i, int t, uint64_t *work_ones, uint64_t *work_twos, size_t w) {
-    if (t == 1)
-        add(work_ones, work_twos, twos + i * w, ones + i * w, w);
-    else if (t == 2)
-        add(work_ones, work_twos, ones + i * w, twos + i * w, w);
-}
-
-typedef struct { uint64_t ones, twos; } counts;
-
-static counts count(const uint64_t *ones, const uint64_t *twos, size_t w) {
-    counts c = {0, 0};
-    for (size_t k = 0; k < w; k++) {
-        c.ones += (uint64_t)__builtin_popcountll(ones[k]);
-        c.twos += (uint64_t)__builtin_popcountll(twos[k]);
-    }
-    return c;
-}
-
-static counts full_counts(wave_held h, const uint64_t *ones, const uint64_t *twos, const uint64_t *y_ones, const uint64_t *y_twos, const uint64_t *s_ones, const uint64_t *s_twos,
-                          uint64_t *work_ones, uint64_t *work_twos) {
-    size_t w = WAVE_WORDS(h.n - h.k);
-    memcpy(work_ones, y_ones, 8 * w);
-    memcpy(work_twos, y_twos, 8 * w);
-    for (size_t i = 0; i < h.k; i++) take_row(ones, twos, i, (s_ones[i / 64] >> i % 64 & 1) + 2 * (s_twos[i / 64] >> i % 64 & 1), work_ones, work_twos, w);
-    counts first = count(work_ones, work_twos, w), last = count(s_ones, s_twos, WAVE_WORDS(h.k));
-    return (counts){first.ones + last.ones, first.twos + last.twos};
-}
-
-static counts full_counts_packed(wave_held h, const uint64_t *ones, const uint64_t *twos, const uint8_t *y, const uint8_t *s, uint64_t *work_ones, uint64_t *work_twos) {
-    size_t m = h.n - h.k, w = WAVE_WORDS(m);
-    counts taken = {0, 0};
-    memset(work_ones, 0, 8 * w);
-    memset(work_twos, 0, 8 * w);
-    unpack(m, y, work_ones, work_twos);
-    for (size_t i = 0; i < h.k; i++) {
-        int t = table[s[i / 5]][i % 5];
-        take_row(ones, twos, i, t, work_ones, work_twos, w);
-        taken.ones += t == 1;
-        taken.twos += t == 2;
-    }
-    counts first = count(work_ones, work_twos, w);
-    return (counts){first.ones + taken.ones, first.twos + taken.twos};
 }
 
 static void clear(wave_held h, uint64_t *work_ones, uint64_t *work_twos) {
@@ -97,77 +105,53 @@ static void clear(wave_held h, uint64_t *work_ones, uint64_t *work_twos) {
     memset(work_twos, 0, 8 * WAVE_WORDS(h.n - h.k));
 }
 
-static wave_checked verdict(wave_held h, counts c, uint64_t *work_ones, uint64_t *work_twos) {
+/* the refusal r of y or s, unless the key has one, which comes first */
+static uint64_t after_key(wave_held h, const uint64_t *ones, const uint64_t *twos, uint64_t r) {
+    uint64_t of_key = planes_refusal(ones, twos, h.k, h.n - h.k);
+    return of_key ? of_key : r;
+}
+
+/* the check in one pass over the key, with y in the sums; a refusal leaves the working space as it was */
+static wave_checked one_pass(wave_held h, const uint64_t *ones, const uint64_t *twos, const uint64_t *s_ones,
+                             const uint64_t *s_twos, row *sum, uint64_t *work_ones, uint64_t *work_twos) {
+    uint64_t r = take_tested(h, ones, twos, s_ones, s_twos, sum);
+    if (r) return refused(r);
     clear(h, work_ones, work_twos);
-    return (wave_checked){0, c.ones + c.twos == h.w, c.ones, c.twos};
+    return verdict(h, sum, s_ones, s_twos);
 }
 
-/* ---- the calls */
-
-static uint64_t c_unpack(size_t m, const uint8_t *bytes, size_t n, uint64_t *ones, size_t on, uint64_t *twos, size_t tn) {
-    size_t w = WAVE_WORDS(m);
-    if (m > 16384) return 1;
-    if (n != WAVE_BYTES(m) || on != w || tn != w) return 2;
-    uint64_t r = bytes_refusal(m, bytes, n);
-    if (r) return r;
-    if (!table[1][0]) make_table();
-    memset(ones, 0, 8 * w);
-    memset(twos, 0, 8 * w);
-    unpack(m, bytes, ones, twos);
-    return 0;
-}
-
-static wave_checked c_weigh(wave_held h, uint64_t number, const uint64_t *ones, size_t on, const uint64_t *twos, size_t tn, const uint64_t *y_ones, size_t yon, const uint64_t *y_twos, size_t ytn,
-                     const uint64_t *s_ones, size_t son, const uint64_t *s_twos, size_t stn, uint64_t *work_ones, size_t won, uint64_t *work_twos, size_t wtn, size_t times) {
-    uint64_t r = call_refusal(h, number, on, tn, won, wtn);
-    counts c = {0, 0};
-    size_t m = h.n - h.k;
-    if (!r && (yon != WAVE_WORDS(m) || ytn != WAVE_WORDS(m) || son != WAVE_WORDS(h.k) || stn != WAVE_WORDS(h.k))) r = 2;
-    if (!r) r = planes_refusal(ones, twos, h.k, m);
-    if (!r) r = planes_refusal(y_ones, y_twos, 1, m);
-    if (!r) r = planes_refusal(s_ones, s_twos, 1, h.k);
-    if (r) return (wave_checked){r, 0, 0, 0};
-    for (size_t i = 0; i < times; i++) c = full_counts(h, ones, twos, y_ones, y_twos, s_ones, s_twos, work_ones, work_twos);
-    return verdict(h, c, work_ones, work_twos);
-}
-
-static wave_checked c_weigh_packed(wave_held h, uint64_t number, const uint64_t *ones, size_t on, const uint64_t *twos, size_t tn, const uint8_t *y, size_t yn, const uint8_t *s, size_t sn,
-                            uint64_t *work_ones, size_t won, uint64_t *work_twos, size_t wtn, size_t times) {
-    uint64_t r = call_refusal(h, number, on, tn, won, wtn);
-    counts c = {0, 0};
-    size_t m = h.n - h.k;
-    if (!r && (yn != WAVE_BYTES(m) || sn != WAVE_BYTES(h.k))) r = 2;
-    if (!r) r = planes_refusal(ones, twos, h.k, m);
-    if (!r) r = bytes_refusal(m, y, yn);
-    if (!r) r = bytes_refusal(h.k, s, sn);
-    if (r) return (wave_checked){r, 0, 0, 0};
-    if (!table[1][0]) make_table();
-    for (size_t i = 0; i < times; i++) c = full_counts_packed(h, ones, twos, y, s, work_ones, work_twos);
-    return verdict(h, c, work_ones, work_twos);
-}
-
-static wave_checked c_check(wave_held h, uint64_t number, const uint64_t *ones, size_t on, const uint64_t *twos, size_t tn, const uint64_t *y_ones, size_t yon, const uint64_t *y_twos, size_t ytn,
-                     const uint64_t *s_ones, size_t son, const uint64_t *s_twos, size_t stn, uint64_t *work_ones, size_t won, uint64_t *work_twos, size_t wtn) {
-    return c_weigh(h, number, ones, on, twos, tn, y_ones, yon, y_twos, ytn, s_ones, son, s_twos, stn, work_ones, won, work_twos, wtn, 1);
-}
-
-static wave_checked c_check_packed(wave_held h, uint64_t number, const uint64_t *ones, size_t on, const uint64_t *twos, size_t tn, const uint8_t *y, size_t yn, const uint8_t *s, size_t sn,
+static wave_checked c_check(wave_held h, uint64_t number, const uint64_t *ones, size_t on, const uint64_t *twos,
+                            size_t tn, const uint64_t *y_ones, size_t yon, const uint64_t *y_twos, size_t ytn,
+                            const uint64_t *s_ones, size_t son, const uint64_t *s_twos, size_t stn,
                             uint64_t *work_ones, size_t won, uint64_t *work_twos, size_t wtn) {
-    return c_weigh_packed(h, number, ones, on, twos, tn, y, yn, s, sn, work_ones, won, work_twos, wtn, 1);
+    row sum;
+    uint64_t r = call_refusal(h, number, on, tn, won, wtn);
+    size_t m = h.n - h.k, w = WAVE_WORDS(m), v = WAVE_WORDS(h.k);
+    if (r) return refused(r);
+    if (yon != w || ytn != w || son != v || stn != v) return refused(2);
+    r = planes_refusal(y_ones, y_twos, 1, m);
+    if (!r) r = planes_refusal(s_ones, s_twos, 1, h.k);
+    if (r) return refused(after_key(h, ones, twos, r));
+    memcpy(sum.ones, y_ones, 8 * w);
+    memcpy(sum.twos, y_twos, 8 * w);
+    return one_pass(h, ones, twos, s_ones, s_twos, &sum, work_ones, work_twos);
 }
 
-static uint64_t c_syndrome(size_t m, const uint8_t *salt, size_t salt_n, const uint8_t *text, size_t text_n,
-                           uint64_t *ones, size_t on, uint64_t *twos, size_t tn) {
-    uint8_t y[WAVE_BYTES(16384)];
-    size_t w = WAVE_WORDS(m);
-    if (m > 16384) return 1;
-    if (salt_n != WAVE_SALT_BYTES || on != w || tn != w) return 2;
-    if (stream_bytes(m, salt, text, text_n, y)) return 6;
-    if (!table[1][0]) make_table();
-    memset(ones, 0, 8 * w);
-    memset(twos, 0, 8 * w);
-    unpack(m, y, ones, twos);
-    return 0;
+static wave_checked c_check_packed(wave_held h, uint64_t number, const uint64_t *ones, size_t on, const uint64_t *twos,
+                                   size_t tn, const uint8_t *y, size_t yn, const uint8_t *s, size_t sn,
+                                   uint64_t *work_ones, size_t won, uint64_t *work_twos, size_t wtn) {
+    row sum, signature;
+    uint64_t r = call_refusal(h, number, on, tn, won, wtn);
+    size_t m = h.n - h.k;
+    if (r) return refused(r);
+    if (yn != WAVE_BYTES(m) || sn != WAVE_BYTES(h.k)) return refused(2);
+    r = bytes_refusal(m, y, yn);
+    if (!r) r = bytes_refusal(h.k, s, sn);
+    if (r) return refused(after_key(h, ones, twos, r));
+    need_tables();
+    unpack(m, y, sum.ones, sum.twos);
+    unpack(h.k, s, signature.ones, signature.twos);
+    return one_pass(h, ones, twos, signature.ones, signature.twos, &sum, work_ones, work_twos);
 }
 
 static wave_checked c_check_text(wave_held h, uint64_t number, const uint64_t *ones, size_t on, const uint64_t *twos,
@@ -175,16 +159,68 @@ static wave_checked c_check_text(wave_held h, uint64_t number, const uint64_t *o
                                  const uint8_t *s, size_t sn, uint64_t *work_ones, size_t won, uint64_t *work_twos,
                                  size_t wtn) {
     uint8_t y[WAVE_BYTES(16384)];
+    row sum, signature;
     uint64_t r = call_refusal(h, number, on, tn, won, wtn);
     size_t m = h.n - h.k;
-    if (!r && (salt_n != WAVE_SALT_BYTES || sn != WAVE_BYTES(h.k))) r = 2;
-    if (!r) r = planes_refusal(ones, twos, h.k, m);
-    if (!r) r = bytes_refusal(h.k, s, sn);
-    if (r) return (wave_checked){r, 0, 0, 0};
-    if (stream_bytes(m, salt, text, text_n, y)) {
-        clear(h, work_ones, work_twos);
-        return (wave_checked){6, 0, 0, 0};
+    if (r) return refused(r);
+    if (salt_n != WAVE_SALT_BYTES || sn != WAVE_BYTES(h.k)) return refused(2);
+    r = bytes_refusal(h.k, s, sn);
+    if (!r) r = syndrome_bytes(m, salt, text, text_n, y);
+    if (r) {
+        r = after_key(h, ones, twos, r);
+        if (r == 6) clear(h, work_ones, work_twos);
+        return refused(r);
     }
-    if (!table[1][0]) make_table();
-    return verdict(h, full_counts_packed(h, ones, twos, y, s, work_ones, work_twos), work_ones, work_twos);
+    need_tables();
+    unpack(m, y, sum.ones, sum.twos);
+    unpack(h.k, s, signature.ones, signature.twos);
+    return one_pass(h, ones, twos, signature.ones, signature.twos, &sum, work_ones, work_twos);
+}
+
+/* ---- the full word alone: all tests once, and the ones and twos so many times */
+
+static wave_checked c_weigh(wave_held h, uint64_t number, const uint64_t *ones, size_t on, const uint64_t *twos,
+                            size_t tn, const uint64_t *y_ones, size_t yon, const uint64_t *y_twos, size_t ytn,
+                            const uint64_t *s_ones, size_t son, const uint64_t *s_twos, size_t stn,
+                            uint64_t *work_ones, size_t won, uint64_t *work_twos, size_t wtn, size_t times) {
+    row sum;
+    uint64_t r = call_refusal(h, number, on, tn, won, wtn);
+    size_t m = h.n - h.k, w = WAVE_WORDS(m), v = WAVE_WORDS(h.k);
+    wave_checked c = {0, 0, 0, 0};
+    if (!r && (yon != w || ytn != w || son != v || stn != v)) r = 2;
+    if (!r) r = planes_refusal(ones, twos, h.k, m);
+    if (!r) r = planes_refusal(y_ones, y_twos, 1, m);
+    if (!r) r = planes_refusal(s_ones, s_twos, 1, h.k);
+    if (r) return refused(r);
+    for (size_t i = 0; i < times; i++) {
+        memcpy(sum.ones, y_ones, 8 * w);
+        memcpy(sum.twos, y_twos, 8 * w);
+        take(h, ones, twos, s_ones, s_twos, &sum);
+        c = verdict(h, &sum, s_ones, s_twos);
+    }
+    clear(h, work_ones, work_twos);
+    return c;
+}
+
+static wave_checked c_weigh_packed(wave_held h, uint64_t number, const uint64_t *ones, size_t on, const uint64_t *twos,
+                                   size_t tn, const uint8_t *y, size_t yn, const uint8_t *s, size_t sn,
+                                   uint64_t *work_ones, size_t won, uint64_t *work_twos, size_t wtn, size_t times) {
+    row sum, signature;
+    uint64_t r = call_refusal(h, number, on, tn, won, wtn);
+    size_t m = h.n - h.k;
+    wave_checked c = {0, 0, 0, 0};
+    if (!r && (yn != WAVE_BYTES(m) || sn != WAVE_BYTES(h.k))) r = 2;
+    if (!r) r = planes_refusal(ones, twos, h.k, m);
+    if (!r) r = bytes_refusal(m, y, yn);
+    if (!r) r = bytes_refusal(h.k, s, sn);
+    if (r) return refused(r);
+    need_tables();
+    for (size_t i = 0; i < times; i++) {
+        unpack(m, y, sum.ones, sum.twos);
+        unpack(h.k, s, signature.ones, signature.twos);
+        take(h, ones, twos, signature.ones, signature.twos, &sum);
+        c = verdict(h, &sum, signature.ones, signature.twos);
+    }
+    clear(h, work_ones, work_twos);
+    return c;
 }

@@ -32,7 +32,7 @@ static void clear_row(grid m, size_t f, size_t c, size_t j, size_t i) {
 static inline void sum(uint64_t *restrict o, uint64_t *restrict t, const uint64_t *restrict ao,
                        const uint64_t *restrict at2, const uint64_t *restrict bo, const uint64_t *restrict bt,
                        size_t w) {
-    for (size_t k = 0; k < w; k++) {
+    BY_FOUR for (size_t k = 0; k < w; k++) {
         uint64_t a = ao[k], b = at2[k], c = bo[k], d = bt[k], x = (a | d) ^ (b | c);
         o[k] = (b | d) ^ x;
         t[k] = (a | c) ^ x;
@@ -44,7 +44,7 @@ static __attribute__((noinline)) void sub_three(uint64_t *restrict o, uint64_t *
                                                 const uint64_t *restrict ao, const uint64_t *restrict at2,
                                                 const uint64_t *restrict bo, const uint64_t *restrict bt,
                                                 const uint64_t *restrict co, const uint64_t *restrict ct, size_t w) {
-    for (size_t k = 0; k < w; k++) {
+    BY_FOUR for (size_t k = 0; k < w; k++) {
         uint64_t x = o[k], y = t[k], s = (x | ao[k]) ^ (y | at2[k]), z = (y | ao[k]) ^ s;
         y = (x | at2[k]) ^ s;
         s = (z | bo[k]) ^ (y | bt[k]);

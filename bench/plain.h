@@ -22,6 +22,8 @@ typedef struct {
     __typeof__(bench_both_set) *both_set;
     __typeof__(bench_past_end) *past_end;
     __typeof__(wave_unpack) *unpack;
+    __typeof__(wave_pack) *pack;
+    __typeof__(wave_from_stream) *from_stream;
     __typeof__(bench_check) *check;
     __typeof__(wave_check) *check_packed;
     __typeof__(bench_weigh) *weigh;

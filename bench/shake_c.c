@@ -1,5 +1,6 @@
 /* SHAKE256 in plain C, for a machine that stores the low byte first: lanes are loaded and stored whole, the compiler
-   unrolls the loops over five, and a round goes from one array of lanes into another, so that none is copied. */
+   unrolls the loops over five, and a round goes from one array of lanes into another, so that none is copied. A block
+   that comes in parts is put together before it is added. */
 
 #define RATE 136
 #define EACH(i) _Pragma("GCC unroll 5") for (int i = 0; i < 5; i++)
@@ -45,15 +46,8 @@ static void permute(uint64_t *a) {
     }
 }
 
-/* the lanes, and how many bytes of a block have been added to them */
-typedef struct { uint64_t lanes[25]; size_t added; } sponge;
-
-static void add_byte(sponge *s, uint8_t byte) {
-    s->lanes[s->added / 8] ^= (uint64_t)byte << s->added % 8 * 8;
-    if (++s->added < RATE) return;
-    permute(s->lanes);
-    s->added = 0;
-}
+/* the lanes, and so many bytes of a block that has begun */
+typedef struct { uint64_t lanes[25]; uint8_t block[RATE]; size_t begun; } sponge;
 
 static void add_block(sponge *s, const uint8_t *block) {
     for (size_t i = 0; i < RATE / 8; i++) {
@@ -64,20 +58,25 @@ static void add_block(sponge *s, const uint8_t *block) {
     permute(s->lanes);
 }
 
-/* whole blocks where a block begins, and single bytes elsewhere */
+/* a whole block is added from where it stands, and one that comes in parts when it is full */
 static void absorb(sponge *s, const uint8_t *bytes, size_t n) {
-    for (size_t i = 0; i < n;)
-        if (s->added == 0 && n - i >= RATE) {
-            add_block(s, bytes + i);
-            i += RATE;
-        } else
-            add_byte(s, bytes[i++]);
+    while (n > 0) {
+        size_t part = RATE - s->begun < n ? RATE - s->begun : n;
+        if (part == RATE) add_block(s, bytes);
+        else {
+            memcpy(s->block + s->begun, bytes, part);
+            s->begun += part;
+            if (s->begun == RATE) add_block(s, s->block), s->begun = 0;
+        }
+        bytes += part, n -= part;
+    }
 }
 
 static void pad(sponge *s) {
-    s->lanes[s->added / 8] ^= (uint64_t)31 << s->added % 8 * 8;
-    s->lanes[RATE / 8 - 1] ^= (uint64_t)1 << 63;
-    permute(s->lanes);
+    memset(s->block + s->begun, 0, RATE - s->begun);
+    s->block[s->begun] ^= 31;
+    s->block[RATE - 1] ^= 128;
+    add_block(s, s->block);
 }
 
 static void squeeze(sponge *s, uint8_t *bytes, size_t n) {
@@ -89,27 +88,8 @@ static void squeeze(sponge *s, uint8_t *bytes, size_t n) {
 }
 
 static void c_shake256(const uint8_t *message, size_t n, uint8_t *output, size_t output_n) {
-    sponge s = {{0}, 0};
+    sponge s = {{0}, {0}, 0};
     absorb(&s, message, n);
     pad(&s);
     squeeze(&s, output, output_n);
-}
-
-/* the bytes that give the m trits of a text with its salt, as those of a packed row, block by block: 0, or 6 */
-static uint64_t stream_bytes(size_t m, const uint8_t *salt, const uint8_t *text, size_t n, uint8_t *bytes) {
-    sponge s = {{0}, 0};
-    size_t taken = 0;
-    absorb(&s, salt, WAVE_SALT_BYTES);
-    absorb(&s, text, n);
-    pad(&s);
-    for (size_t left = m + 136; taken < WAVE_BYTES(m) && left > 0;) {
-        uint8_t block[RATE];
-        size_t size = left < RATE ? left : RATE;
-        memcpy(block, s.lanes, size);
-        for (size_t i = 0; i < size && taken < WAVE_BYTES(m); i++)
-            if (block[i] < 243) bytes[taken++] = block[i];
-        left -= size;
-        if (taken < WAVE_BYTES(m)) permute(s.lanes);
-    }
-    return taken < WAVE_BYTES(m) ? 6 : 0;
 }

@@ -16,12 +16,13 @@
 #define TEXT 1000       /* bytes of the text that is checked */
 #define MESSAGE 1048576 /* bytes of the message that is hashed */
 #define OUTPUT 64       /* bytes that are taken of its hash */
+#define STREAM(m) (2 * WAVE_BYTES(m)) /* bytes of a stream that m trits are taken from: twice as many as a packed row */
 static int turns = 3;
 static double steps; /* of the time stamp counter in a nanosecond */
 
-static const side ours = {bench_sum, bench_weight, bench_both_set, bench_past_end, wave_unpack, bench_check, wave_check,
-                          bench_weigh, bench_weigh_packed, wave_shake256, wave_syndrome, wave_check_text,
-                          wave_build, wave_draw, wave_build_work, wave_draw_work, 0};
+static const side ours = {bench_sum, bench_weight, bench_both_set, bench_past_end, wave_unpack, wave_pack,
+                          wave_from_stream, bench_check, wave_check, bench_weigh, bench_weigh_packed, wave_shake256,
+                          wave_syndrome, wave_check_text, wave_build, wave_draw, wave_build_work, wave_draw_work, 0};
 #ifdef BEFORE
 /* the calls of an earlier revision, whose archive has its names changed so, and its lengths, by `before.c` */
 extern __typeof__(wave_build) before_wave_build;
@@ -46,7 +47,7 @@ typedef struct {
     wave_held held, text_held; /* of a check of y, and of one of salt and text, that says yes */
     size_t half, rows_u, rows_v, k, m;
     planes hu, hv, b, c, v, u, key, y, s;
-    uint8_t *key_bytes, *y_bytes, *s_bytes, *salt, *text;
+    uint8_t *key_bytes, *y_bytes, *s_bytes, *salt, *text, *stream;
     uint16_t *order, *v_order, *u_order;
 } input;
 
@@ -136,6 +137,12 @@ static void add_text(input *a) {
     free(work);
 }
 
+/* a stream of all byte values, the text's hash, so that nothing is drawn for it */
+static void add_stream(input *a) {
+    a->stream = room(STREAM(a->m), 1);
+    plain_o3.shake256(a->text, TEXT, a->stream, STREAM(a->m));
+}
+
 /* what a call leaves: its answer, 0 for as it should be, a number or two more, and from HEAD on its buffers */
 #define HEAD 8
 static planes next(uint64_t **at, size_t n) {
@@ -169,6 +176,7 @@ static input make(wave_sizes z) {
     sign(&a, z.w);
     a.key_bytes = packed(a.key, k, a.m), a.y_bytes = packed(a.y, 1, a.m), a.s_bytes = packed(a.s, 1, k);
     add_text(&a);
+    add_stream(&a);
     uint64_t *out = room(space(&a), 8);
     run_draw(&plain_o3, &a, out);
     a.z.w = *plain_o3.made;
@@ -205,6 +213,21 @@ static size_t run_unpack(const side *f, const input *a, uint64_t *out) {
     planes key = next(&at, a->key.n);
     size_t w = WAVE_WORDS(a->m), b = WAVE_BYTES(a->m);
     for (size_t i = 0; i < a->k; i++) *out |= f->unpack(a->m, a->key_bytes + i * b, b, key.ones + i * w, w, key.twos + i * w, w);
+    return at - out;
+}
+
+static size_t run_pack(const side *f, const input *a, uint64_t *out) {
+    size_t w = WAVE_WORDS(a->m), b = WAVE_BYTES(a->m);
+    uint8_t *bytes = (uint8_t *)(out + HEAD);
+    for (size_t i = 0; i < a->k; i++)
+        *out |= f->pack(a->m, a->key.ones + i * w, w, a->key.twos + i * w, w, bytes + i * b, b);
+    return HEAD + (a->k * b + 7) / 8;
+}
+
+static size_t run_from_stream(const side *f, const input *a, uint64_t *out) {
+    uint64_t *at = out + HEAD;
+    planes row = next(&at, a->y.n);
+    *out = f->from_stream(a->m, a->stream, STREAM(a->m), P(row));
     return at - out;
 }
 
@@ -269,12 +292,14 @@ static size_t run_build(const side *f, const input *a, uint64_t *out) {
 
 /* by_steps: the name of its row beside plain C that takes plain steps, if there is one */
 typedef struct { const char *name; size_t (*run)(const side *, const input *, uint64_t *); size_t times; const char *by_steps; } act;
-enum { SUM, WEIGHT, UNPACK, CHECK, WEIGH, CHECK_PACKED, WEIGH_PACKED, SYNDROME, CHECK_TEXT, BUILD, DRAW,
-       BOTH_SET, PAST_END, SHAKE, ACTS };
+enum { SUM, WEIGHT, UNPACK, PACK, FROM_STREAM, CHECK, WEIGH, CHECK_PACKED, WEIGH_PACKED, SYNDROME, CHECK_TEXT, BUILD,
+       DRAW, BOTH_SET, PAST_END, SHAKE, ACTS };
 static const act acts[ACTS] = {
     [SUM] = {"sum of two rows", run_sum, TIMES, 0},
     [WEIGHT] = {"weight of a row", run_weight, TIMES, 0},
     [UNPACK] = {"unpack of a whole key", run_unpack, 1, 0},
+    [PACK] = {"pack of a whole key", run_pack, 1, 0},
+    [FROM_STREAM] = {"row of a stream", run_from_stream, 1, 0},
     [CHECK] = {"check in planes", run_check, 1, 0},
     [WEIGH] = {"check in planes, counts only", run_weigh, WEIGHTS, 0},
     [CHECK_PACKED] = {"check packed", run_check_packed, 1, 0},

@@ -3,8 +3,8 @@ use mathlib.Core.Path.{_≡_, refl, sym, ap, _∙_}
 use mathlib.Core.Logic.{_≢_}
 use mathlib.Core.Bool.{Bool, true, false, not, _||_, cond}
 use mathlib.Core.List.{List, [], _∷_}
-use Prim.Native.Nat.{ℕ, zero, suc, _+_, _-_, _*_, _≤_, _<_, zero-le, suc-le-suc}
-use native.Mathlib.Nat.{not-suc-le-zero, le-of-suc-le-suc, zero-lt-suc}
+use Prim.Native.Nat.{ℕ, zero, suc, _+_, _-_, _*_, _≤_, _<_, zero-le}
+use native.Mathlib.Nat.{not-suc-le-zero, le-of-suc-le-suc}
 use native.Mathlib.Numerals.{add-one}
 use native.Mathlib.Decide.{decLt, ℕ-discrete}
 use native.Mathlib.Omega.{arith}
@@ -66,14 +66,7 @@ given-le (b ∷ bytes) (suc i) = omega (arith, counted (ltb b 243) b (kept (take
 pub given-all : (bytes : List ℕ) (i : ℕ) → length bytes ≤ i → given bytes i ≡ length (kept bytes)
 given-all bytes i h = ap (λ (l : List ℕ). length (kept l)) (take-all i bytes h)
 
--- ---- bytes of which none is skipped
-
-kept-each : (bytes : List ℕ) → ((i : ℕ) → i < length bytes → getD bytes i 0 < 243) → kept bytes ≡ bytes
-unfolding kept
-kept-each [] h = refl
-kept-each (b ∷ bytes) h =
-    ap (λ (t : Bool). cond t (b ∷ kept bytes) (kept bytes)) (lt-ltb b 243 (h 0 (zero-lt-suc (length bytes))))
-    ∙ ap (λ (l : List ℕ). b ∷ l) (kept-each bytes (λ i l. h (suc i) (suc-le-suc l)))
+-- ---- bytes of which none is above 242
 
 abbrev pub big : List ℕ → ℕ → Bool
 big bytes i = ltb 242 (getD bytes i 0)
@@ -81,13 +74,6 @@ big bytes i = ltb 242 (getD bytes i 0)
 pub bytes-small : (bytes : List ℕ) → badByte bytes ≡ false → (i : ℕ) → i < length bytes → getD bytes i 0 < 243
 unfolding badByte
 bytes-small bytes e i l = omega (arith, ltb-false 242 (getD bytes i 0) (any-none (length bytes) (big bytes) e i l))
-
-pub kept-all : (bytes : List ℕ) → badByte bytes ≡ false → kept bytes ≡ bytes
-kept-all bytes e = kept-each bytes (bytes-small bytes e)
-
--- so as many trits as all of them hold
-pub kept-enough : (m : ℕ) (bytes : List ℕ) → badByte bytes ≡ false → m ≤ 5 * length bytes → m ≤ 5 * length (kept bytes)
-kept-enough m bytes e h = omega (arith, ap length (kept-all bytes e))
 
 -- a turn of the search for a byte above 242, and its end
 module _ (bytes : List ℕ) (i : ℕ) where

@@ -15,9 +15,8 @@ use Rattle.trits.proofs.Tests.{any-none, none-any}
 use Rattle.trits.proofs.Ends.{upto-ended}
 use Rattle.trits.proofs.Refusals.{positive}
 use Rattle.packed.specs.Packed.{bytesFor, digitOf, packedRow, badByte, packedPastEnd}
-use Rattle.packed.specs.Stream.{streamRow}
 use Rattle.packed.proofs.Digits.{digit-lt, digit-none, digit-number, byte-digits, packed-place}
-use Rattle.packed.proofs.Keeping.{bytes-small, kept-all}
+use Rattle.packed.proofs.Keeping.{bytes-small}
 
 -- ---- a row that passes is 0 past its length
 
@@ -47,11 +46,6 @@ ended-passes m bytes z =
 -- so to cut such a row at its length changes nothing
 pub packed-upto : (m : ℕ) (bytes : List ℕ) → packedPastEnd m bytes ≡ false → upTo m (packedRow bytes) ≡ packedRow bytes
 packed-upto m bytes e = upto-ended (packedRow bytes) m (packed-ended m bytes e)
-
--- and where no byte of it is skipped, a stream of the same bytes has the same row
-pub kept-row : (m : ℕ) (bytes : List ℕ) → badByte bytes ≡ false → packedPastEnd m bytes ≡ false → streamRow m bytes ≡ packedRow bytes
-unfolding streamRow
-kept-row m bytes g e = ap (λ (l : List ℕ). upTo m (packedRow l)) (kept-all bytes g) ∙ packed-upto m bytes e
 
 -- ---- the last byte tells it: with q = m % 5 trits in it, it is below 3 ^ q
 

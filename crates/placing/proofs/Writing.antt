@@ -64,8 +64,10 @@ module _ (ones twos : List ℕ) (w : Writer) (last : 64 * length ones < w .at + 
   unfolding onesOf twosOf
   finished-full l = record {
     holds = λ v s z. record {
-      ones-are = plane-ended (λ p. one (v p)) (λ p. one-lt (v p)) (s .in-ones) (λ p h. ap one (z p h)) (omega (arith, last, s .in-ones .size)) (omega (arith, l, s .in-ones .size));
-      twos-are = plane-ended (λ p. two (v p)) (λ p. two-lt (v p)) (s .in-twos) (λ p h. ap two (z p h)) (omega (arith, last, s .in-ones .size)) (omega (arith, l, s .in-ones .size));
+      ones-are = plane-ended (λ p. one (v p)) (λ p. one-lt (v p)) (s .in-ones) (λ p h. ap one (z p h)) (omega (arith, last, s .in-ones .size))
+          (omega (arith, l, s .in-ones .size));
+      twos-are = plane-ended (λ p. two (v p)) (λ p. two-lt (v p)) (s .in-twos) (λ p h. ap two (z p h)) (omega (arith, last, s .in-ones .size))
+          (omega (arith, l, s .in-ones .size));
     };
   }
 
@@ -73,8 +75,10 @@ module _ (ones twos : List ℕ) (w : Writer) (last : 64 * length ones < w .at + 
   unfolding onesOf twosOf
   finished-begun l = record {
     holds = λ v s z. record {
-      ones-are = plane-rest (λ p. one (v p)) (λ p. one-lt (v p)) (s .in-ones) (λ p h. ap one (z p h)) (omega (arith, last, s .in-ones .size)) (omega (arith, l, s .in-ones .size));
-      twos-are = plane-rest (λ p. two (v p)) (λ p. two-lt (v p)) (s .in-twos) (λ p h. ap two (z p h)) (omega (arith, last, s .in-ones .size)) (omega (arith, l, s .in-ones .size));
+      ones-are = plane-rest (λ p. one (v p)) (λ p. one-lt (v p)) (s .in-ones) (λ p h. ap one (z p h)) (omega (arith, last, s .in-ones .size))
+          (omega (arith, l, s .in-ones .size));
+      twos-are = plane-rest (λ p. two (v p)) (λ p. two-lt (v p)) (s .in-twos) (λ p h. ap two (z p h)) (omega (arith, last, s .in-ones .size))
+          (omega (arith, l, s .in-ones .size));
     };
   }
 

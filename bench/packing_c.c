@@ -36,11 +36,12 @@ static inline void append(writer *to, uint64_t trits, size_t count) {
     to->two = twos >> (count - to->used);
 }
 
-/* a row of m trits from bytes below 243, six at a time; trits past m are cut off */
-static void unpack(size_t m, const uint8_t *bytes, uint64_t *ones, uint64_t *twos) {
+/* a row of m trits from bytes below 243, the first of them six at a time, from byte `single` on one by one; trits past m
+   are cut off */
+static inline void unpack_from(size_t m, const uint8_t *bytes, uint64_t *ones, uint64_t *twos, size_t single) {
     size_t n = WAVE_BYTES(m), w = WAVE_WORDS(m), i = 0;
     writer to = {ones, twos, 0, 0, 0};
-    while (n - i >= 6) {
+    while (i < single) {
         uint64_t trits = 0;
         for (int k = 0; k < 30; k += 5) trits |= trits_of[bytes[i++]] << k;
         append(&to, trits, 30);
@@ -51,6 +52,10 @@ static void unpack(size_t m, const uint8_t *bytes, uint64_t *ones, uint64_t *two
         ones[w - 1] &= ((uint64_t)1 << m % 64) - 1;
         twos[w - 1] &= ((uint64_t)1 << m % 64) - 1;
     }
+}
+
+static void unpack(size_t m, const uint8_t *bytes, uint64_t *ones, uint64_t *twos) {
+    unpack_from(m, bytes, ones, twos, WAVE_BYTES(m) / 6 * 6);
 }
 
 /* 5 if a byte is above 242, else 15 if a trit past m is not 0 */
@@ -110,14 +115,28 @@ static uint64_t c_pack(size_t m, const uint64_t *ones, size_t on, const uint64_t
     return 0;
 }
 
-static uint64_t c_unpack(size_t m, const uint8_t *bytes, size_t n, uint64_t *ones, size_t on, uint64_t *twos,
-                         size_t tn) {
+static uint64_t unpack_refusal(size_t m, const uint8_t *bytes, size_t n, size_t on, size_t tn) {
     if (m > 16384) return 1;
     if (n != WAVE_BYTES(m) || on != WAVE_WORDS(m) || tn != WAVE_WORDS(m)) return 2;
-    uint64_t r = bytes_refusal(m, bytes, n);
+    return bytes_refusal(m, bytes, n);
+}
+
+static uint64_t c_unpack(size_t m, const uint8_t *bytes, size_t n, uint64_t *ones, size_t on, uint64_t *twos,
+                         size_t tn) {
+    uint64_t r = unpack_refusal(m, bytes, n, on, tn);
     if (r) return r;
     need_tables();
     unpack(m, bytes, ones, twos);
+    return 0;
+}
+
+/* the same, a byte at a time */
+static uint64_t c_unpack_bytes(size_t m, const uint8_t *bytes, size_t n, uint64_t *ones, size_t on, uint64_t *twos,
+                               size_t tn) {
+    uint64_t r = unpack_refusal(m, bytes, n, on, tn);
+    if (r) return r;
+    need_tables();
+    unpack_from(m, bytes, ones, twos, 0);
     return 0;
 }
 

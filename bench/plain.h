@@ -39,5 +39,5 @@ typedef struct {
 
 extern const side plain_o3, plain_native;
 
-/* build and draw alone, by plain steps: one pivot at a time */
+/* build and draw by plain steps, one pivot at a time, and unpack a byte at a time; no other call */
 extern const side steps_o3, steps_native;

@@ -1,6 +1,6 @@
 /* Times our calls against the same in plain C at gcc -O3 and at gcc -O3 -march=native, in one run that takes turns, and
-   prints four tables: the two published sizes, growth with n, rows of other lengths, and the hash. Build and draw have
-   two more sides in plain C, those that take plain steps, with rows of their own. All sides' answers and buffers are
+   prints four tables: the two published sizes, growth with n, rows of other lengths, and the hash. Build, draw and
+   unpack have two more sides in plain C, those that go step by step, with rows of their own. All sides' answers and buffers are
    compared byte for byte in each turn. An argument is the least number of turns.
    With BEFORE defined, build and draw have one side more, those of an earlier revision, and a fifth table. */
 #include "clock.h"
@@ -290,14 +290,14 @@ static size_t run_build(const side *f, const input *a, uint64_t *out) {
     return at - out;
 }
 
-/* by_steps: the name of its row beside plain C that takes plain steps, if there is one */
+/* by_steps: the name of its row beside plain C that goes step by step, if there is one */
 typedef struct { const char *name; size_t (*run)(const side *, const input *, uint64_t *); size_t times; const char *by_steps; } act;
 enum { SUM, WEIGHT, UNPACK, PACK, FROM_STREAM, CHECK, WEIGH, CHECK_PACKED, WEIGH_PACKED, SYNDROME, CHECK_TEXT, BUILD,
        DRAW, BOTH_SET, PAST_END, SHAKE, ACTS };
 static const act acts[ACTS] = {
     [SUM] = {"sum of two rows", run_sum, TIMES, 0},
     [WEIGHT] = {"weight of a row", run_weight, TIMES, 0},
-    [UNPACK] = {"unpack of a whole key", run_unpack, 1, 0},
+    [UNPACK] = {"unpack of a whole key", run_unpack, 1, "unpack, byte by byte in C"},
     [PACK] = {"pack of a whole key", run_pack, 1, 0},
     [FROM_STREAM] = {"row of a stream", run_from_stream, 1, 0},
     [CHECK] = {"check in planes", run_check, 1, 0},
@@ -318,9 +318,9 @@ static const act acts[ACTS] = {
 /* of each side: the least own time, for one of the call's many */
 typedef struct { double ns[EARLIER + 1]; } figures;
 
-/* how many sides have the call: plain steps and an earlier revision have build and draw alone */
+/* how many sides have the call: an earlier revision has build and draw alone */
 static int having(const act *c) {
-    return c->run == run_build || c->run == run_draw ? SIDES : STEPS_O3;
+    return c->run == run_build || c->run == run_draw ? SIDES : c->by_steps ? EARLIER : STEPS_O3;
 }
 
 /* a side that leaves fewer words than another has zeros after them, as all working space is at the end */

@@ -2,16 +2,16 @@
 use mathlib.Core.Path.{_≡_, refl}
 use mathlib.Core.Bool.{Bool, false, not, _&&_}
 use mathlib.Core.List.{List, [], _∷_, _++_}
-use Prim.Native.Nat.{ℕ, _*_, _%_, _^_}
+use Prim.Native.Nat.{ℕ, _+_, _*_, _%_, _^_}
 use lib.Dec.{eqb, leb, ltb}
 use lib.ListN.{getD}
 use Rattle.trits.specs.Trit.{Trit, t0, t1, t2, anyTo, upTo}
 use Rattle.trits.specs.Planes.{bit, fromBits, bitAt, tritAt, tabulate, onesOf, twosOf, bothSet, pastEnd}
 use Rattle.trits.specs.Rows.{rowPart, rowsPastEnd}
 use Rattle.trits.specs.Refusal.{refuse, planesRefusal}
-use Rattle.packed.specs.Packed.{byteOf, digitOf, packedRow, packedBytes, badByte, packedPastEnd, packedRefusal}
+use Rattle.packed.specs.Packed.{byteOf, digitOf, byteTable, packedRow, packedBytes, badByte, packedPastEnd, packedRefusal}
 use Rattle.packed.specs.Stream.{kept, streamRow, tooShort}
-use Rattle.packed.specs.Steps.{fiveDigits, fiveTrits, byteFrom}
+use Rattle.packed.specs.Steps.{pieceOf, byteMasks, fiveDigits, fiveTrits, byteFrom}
 use Rattle.packed.specs.Calls.{packOf, packRefusal, packRefusalUnder, packExit, unpackOf, unpackRefusal, unpackOnes, unpackTwos}
 use Rattle.packed.specs.Calls.{streamOf, streamRefusal, streamOnes, streamTwos}
 
@@ -32,6 +32,11 @@ five-call = refl
 pub five-bits : (fiveTrits 17 2 ≡ 88) × (byteFrom 0 (31 * 2 ^ 5) 1 ≡ 242)
 unfolding byteFrom fiveTrits fiveDigits bit
 five-bits = (refl, refl)
+
+-- the mask of 88 has the same bits, those of the twos times 2 ^ 32
+pub five-mask : getD byteMasks 88 0 ≡ 17 + 2 ^ 32 * 2
+unfolding byteMasks pieceOf byteTable tabulate fromBits digitOf
+five-mask = refl
 
 -- ★ 242 reads 2,2,2,2,2
 pub five-read : (packedRow (242 ∷ []) 0 ≡ t2) × (packedRow (242 ∷ []) 1 ≡ t2) × (packedRow (242 ∷ []) 2 ≡ t2) × (packedRow (242 ∷ []) 3 ≡ t2)

@@ -7,6 +7,7 @@ ghost use Rattle.packed.specs.Stream.{streamRow};
 ghost use Rattle.placing.specs.Steps.{Written, BytePut, ForPutNext, ForPutStream, ForWriteStream};
 use super::masks::byte_masks;
 use super::masks::mask;
+use super::writer::HALF;
 use super::writer::Writer;
 use super::writer::append;
 use super::writer::finish;
@@ -17,7 +18,7 @@ fn first_trits(piece: u64, count: usize) -> u64
     ensures { λ r. ⌜ r ≡ piece % 2 ^ 32 % 2 ^ count + 2 ^ 32 * (piece / 2 ^ 32 % 2 ^ count) ⌝ }
 {
     let end = 1 << count;
-    piece % 4294967296 % end + 4294967296 * ((piece >> 32) % end)
+    piece % HALF % end + HALF * (piece / HALF % end)
 }
 
 // The trits that a byte gives come to the row, up to m of them in all.

@@ -1,6 +1,9 @@
 // A row that is being written, from its first place on.
 ghost use Rattle.placing.specs.Steps.{Appended, Finished, ForAppend, ForFinish};
 
+// What a piece counts its twos in: its ones stand in the low half of the word, its twos in the high half.
+pub const HALF: u64 = 4294967296;
+
 // The place that is reached, and of each plane the word that is begun there.
 pub struct Writer {
     pub at: usize,
@@ -15,8 +18,8 @@ pub fn append(ones: &mut [u64], twos: &mut [u64], w: Writer, piece: u64, count: 
 {
     let j = w.at / 64;
     let s = w.at % 64;
-    let in_ones = piece % 4294967296;
-    let in_twos = piece >> 32;
+    let in_ones = piece % HALF;
+    let in_twos = piece / HALF;
     let word_ones = in_ones << s | w.ones;
     let word_twos = in_twos << s | w.twos;
     let at = w.at + count;

@@ -16,8 +16,15 @@ pub const TRITS: [usize; 34] =
 pub const WIDE: [usize; 16] = [319, 320, 321, 384, 385, 447, 511, 512, 513, 575, 640, 641, 703, 1023, 1025, 2111];
 pub const PLACES: [usize; 11] = [4, 6, 62, 64, 66, 126, 128, 130, 254, 256, 258];
 
-/// The packing calls: every fault at every length, pairs at some.
+/// The packing calls: every length below 960, where the ends of words, of six bytes and of twelve have met in every way; every fault at some lengths,
+/// pairs at fewer.
 pub fn packing(c: &mut Comparer) {
+    for m in 0..960 {
+        for make in [make::pack, make::unpack, make::stream] {
+            let case = make(&mut c.rng, m);
+            c.compare(&case, &[]);
+        }
+    }
     for m in TRITS {
         for make in [make::pack, make::unpack, make::stream] {
             let case = make(&mut c.rng, m);

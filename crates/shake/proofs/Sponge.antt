@@ -3,22 +3,25 @@ use mathlib.Core.Path.{_≡_, refl, sym, ap, _∙_, fun-ext}
 use mathlib.Core.Logic.{_≢_}
 use mathlib.Core.Bool.{cond}
 use mathlib.Core.List.{List}
-use Prim.Native.Nat.{ℕ, zero, suc, _+_, _*_, _/_, _%_, _≤_, _<_}
+use Prim.Native.Nat.{ℕ, zero, suc, _+_, _-_, _*_, _/_, _%_, _^_, _≤_, _<_}
 use native.Mathlib.Decide.{decLt}
 use native.Mathlib.Nat.{mod-lt}
 use native.Mathlib.Numerals.{add-one}
 use native.Mathlib.Omega.{arith}
 use borrow.Author.Tests.{lt-ltb, le-ltb}
+use borrow.Rule.Slice.PartMut.{putMid}
 use lib.Bits.{bitXor}
 use lib.Dec.{ltb, lit<}
 use lib.ListN.{length, getD}
 use Rattle.trits.specs.Planes.{tabulate}
 use Rattle.trits.proofs.Lists.{length-tabulate, getD-tabulate}
+use Rattle.trits.proofs.Parts.{put-patched}
+use Rattle.trits.proofs.Patches.{Patched, patch-join}
 use Rattle.keccak.specs.Keccak.{State, permuted}
 use Rattle.keccak.specs.Lanes.{laneAt, lanesOf}
 use Rattle.keccak.proofs.Lanes.{Same, lane-of, same-lanes, same-permuted}
 use Rattle.shake.specs.Shake.{rate, paddedByte, wordOf, added, absorbed, stateByte, squeezed, squeezedByte, squeezedBytes}
-use Rattle.shake.specs.Steps.{absorbedBlock}
+use Rattle.shake.specs.Steps.{absorbedBlock, laneBytes, stateBytes}
 
 -- ---- the lanes of a block, worked out: bytes 8 to 15 come to lane (1, 0), the last eight to (1, 3), and none to (2, 3)
 
@@ -84,34 +87,68 @@ unfolding squeezed
 same-squeezed s zero = s
 same-squeezed s (suc j) = same-permuted (same-squeezed s j)
 
--- the arrays b from which byte i of the output of a state is taken
-pub record Gives (s : State) (i : ℕ) (b : List (List ℕ)) : Type 0 where
+-- a block written lane by lane: byte k of lane j is byte 8 j + k of the state
+lane-byte : (s : State) (j k : ℕ) → k < 8 → s (j % 5) (j / 5) / 2 ^ (8 * k) % 256 ≡ stateByte s (8 * j + k)
+unfolding stateByte
+lane-byte s j k h =
+    let x : (8 * j + k) / 8 % 5 ≡ j % 5 = omega arith in
+    let y : (8 * j + k) / 40 ≡ j / 5 = omega arith in
+    let z : (8 * j + k) % 8 ≡ k = omega arith in
+    rw (x, y, z)
+
+pub lane-put : (s : State) (j : ℕ) {l₀ l ys : List ℕ} → 8 * j + 8 ≤ length l → Patched (stateByte s) 0 (8 * j) l₀ l
+    → ys ≡ laneBytes (s (j % 5) (j / 5)) → Patched (stateByte s) 0 (8 * (j + 1)) l₀ (putMid (8 * j) (8 * j + 8 - 8 * j) l ys)
+unfolding laneBytes
+lane-put s j {l₀} {l} {ys} h p made =
+    let f : ℕ → ℕ = λ k. s (j % 5) (j / 5) / 2 ^ (8 * k) % 256 in
+    let n = 8 * j + 8 - 8 * j in
+    let size : 8 ≡ n = omega arith in
+    let end : 8 * j + n ≡ 8 * (j + 1) = omega arith in
+    let q = put-patched (8 * j) n l (omega arith) ys (ap length made ∙ length-tabulate 8 f ∙ size) in
+    rw end at (patch-join p q (omega arith) (λ k g.
+    ap (λ (z : List ℕ). getD z k 0) made ∙ getD-tabulate 8 f k 0 (omega arith) ∙ lane-byte s j k (omega arith)))
+
+-- byte i of the output of a state is at place p of a block, the bytes of the arrays b
+pub record Gives (s : State) (i : ℕ) (b : List (List ℕ)) (block : List ℕ) (p : ℕ) : Type 0 where
   pub reads : Same (laneAt b) (squeezed s (i / rate))
+  pub bytes : block ≡ stateBytes b
+  pub place : p ≡ i % rate
 
-pub gives-first : (s : State) (b : List (List ℕ)) → Same (laneAt b) s → Gives s 0 b
+pub gives-first : (s : State) (b : List (List ℕ)) {block : List ℕ} → Same (laneAt b) s → block ≡ stateBytes b → Gives s 0 b block 0
 unfolding squeezed
-gives-first s b h = record { reads = h }
+gives-first s b h e = record { reads = h; bytes = e; place = refl }
 
-pub gives-byte : {s : State} {i : ℕ} {b : List (List ℕ)} → Gives s i b → stateByte (laneAt b) (i % rate) ≡ squeezedByte s i
-unfolding squeezedByte
-gives-byte {s} {i} h = same-byte (h .reads) (i % rate) (mod-lt i (lit< tt))
+pub in-block : {s : State} {i p : ℕ} {b : List (List ℕ)} {block : List ℕ} → Gives s i b block p → p < rate
+in-block {i} h = rw (h .place) (mod-lt i (lit< tt))
+
+pub gives-byte : {s : State} {i p : ℕ} {b : List (List ℕ)} {block : List ℕ} → Gives s i b block p → getD block p 0 ≡ squeezedByte s i
+unfolding squeezedByte stateBytes
+gives-byte {s} {i} {p} {b} h =
+    ap (λ (z : List ℕ). getD z p 0) (h .bytes) ∙ getD-tabulate rate (stateByte (laneAt b)) p 0 (in-block h) ∙ same-byte (h .reads) p (in-block h)
+    ∙ ap (stateByte (squeezed s (i / rate))) (h .place)
 
 -- the state of the next byte is another where a block begins, and else the same
-module _ {s : State} {i : ℕ} {b : List (List ℕ)} (h : Gives s i b) where
-  pub gives-permuted : (i + 1) % rate ≡ 0 → {next : List (List ℕ)} → next ≡ lanesOf (permuted (laneAt b)) → Gives s (i + 1) next
+module _ {s : State} {i p : ℕ} {b : List (List ℕ)} {block : List ℕ} (h : Gives s i b block p) where
+  pub gives-permuted : p + 1 ≡ rate → {next : List (List ℕ)} {made : List ℕ} → next ≡ lanesOf (permuted (laneAt b)) → made ≡ stateBytes next
+      → Gives s (i + 1) next made 0
   unfolding squeezed
-  gives-permuted z e = record {
+  gives-permuted z e f = record {
     reads = λ x y hx hy.
-        let d : (i + 1) / rate ≡ suc (i / rate) = omega arith in
+        let d : (i + 1) / rate ≡ suc (i / rate) = omega (arith, h .place) in
         ap (λ (l : List (List ℕ)). laneAt l x y) e ∙ lane-of (permuted (laneAt b)) x y hx hy ∙ same-permuted (h .reads) x y hx hy
         ∙ ap (λ (k : ℕ). squeezed s k x y) (sym d);
+    bytes = f;
+    place = omega (arith, h .place);
   }
 
-  pub gives-same : ((i + 1) % rate ≡ 0 → ⊥) → Gives s (i + 1) b
+  pub gives-same : (p + 1 ≡ rate → ⊥) → Gives s (i + 1) b block (p + 1)
   gives-same n =
-      let g : (i + 1) % rate ≢ 0 = n in
-      let d : (i + 1) / rate ≡ i / rate = omega arith in
-      record { reads = λ x y hx hy. h .reads x y hx hy ∙ ap (λ (k : ℕ). squeezed s k x y) (sym d) }
+      let g : p + 1 ≢ rate = n in
+      let d : (i + 1) / rate ≡ i / rate = omega (arith, h .place) in record {
+        reads = λ x y hx hy. h .reads x y hx hy ∙ ap (λ (k : ℕ). squeezed s k x y) (sym d);
+        bytes = h .bytes;
+        place = omega (arith, h .place);
+      }
 
 -- the output of arrays is that of the state which they hold
 same-bytes : {a : List (List ℕ)} (s : State) → a ≡ lanesOf s → squeezedByte (laneAt a) ≡ squeezedByte s
@@ -128,7 +165,7 @@ pub length-squeezed : (s : State) (n : ℕ) → length (squeezedBytes s n) ≡ n
 unfolding squeezedBytes
 length-squeezed s n = length-tabulate n (squeezedByte s)
 
-pub gives-at : {s : State} {i : ℕ} {b : List (List ℕ)} → Gives s i b → (n : ℕ) → i < n
-    → stateByte (laneAt b) (i % rate) ≡ getD (squeezedBytes s n) i 0
+pub gives-at : {s : State} {i p : ℕ} {b : List (List ℕ)} {block : List ℕ} → Gives s i b block p → (n : ℕ) → i < n
+    → getD block p 0 ≡ getD (squeezedBytes s n) i 0
 unfolding squeezedBytes
 gives-at {s} {i} g n l = gives-byte g ∙ sym (getD-tabulate n (squeezedByte s) i 0 l)

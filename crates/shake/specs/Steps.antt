@@ -1,13 +1,13 @@
 -- What the inner functions ask and do. No rule of the standard: code is tied to it. Assumes nothing.
 use mathlib.Core.Bool.{cond}
 use mathlib.Core.List.{List, _++_}
-use Prim.Native.Nat.{ℕ, _+_, _*_, _/_, _≤_, _<_}
+use Prim.Native.Nat.{ℕ, _+_, _*_, _/_, _%_, _^_, _≤_, _<_}
 use lib.Dec.{eqb}
 use lib.ListN.{length, getD}
 use Rattle.trits.specs.Planes.{tabulate}
 use Rattle.keccak.specs.Keccak.{permuted}
 use Rattle.keccak.specs.Lanes.{laneAt, lanesOf}
-use Rattle.shake.specs.Shake.{rate, paddedByte, added}
+use Rattle.shake.specs.Shake.{rate, paddedByte, added, stateByte}
 
 -- two and four bytes from place p on as a number
 unfoldable pub twoBytes : List ℕ → ℕ → ℕ
@@ -27,6 +27,14 @@ blockFrom message start n = tabulate (λ i. paddedByte message (start + i)) n
 -- the arrays of a state after one block more, that from a place on
 unfoldable pub absorbedBlock : List ℕ → ℕ → List (List ℕ) → List (List ℕ)
 absorbedBlock message start a = lanesOf (permuted (added (λ i. paddedByte message (start + i)) (laneAt a)))
+
+-- the eight bytes of a lane, the lowest first
+unfoldable pub laneBytes : ℕ → List ℕ
+laneBytes lane = tabulate (λ k. lane / 2 ^ (8 * k) % 256) 8
+
+-- the bytes of a state that come out, from the arrays that hold it
+unfoldable pub stateBytes : List (List ℕ) → List ℕ
+stateBytes a = tabulate (stateByte (laneAt a)) rate
 
 -- a number of bytes, and a place, after which a block, and a byte, can still be counted in a word
 pub record ForPad (size i : ℕ) : Type 0 where

@@ -9,7 +9,7 @@ ghost use Rattle.placing.specs.Steps.{Written};
 ghost use Rattle.syndrome.specs.Steps.{outputFor, ForPutOutput, ForWriteOutput};
 use placing::stream::put_next;
 use placing::writer::Writer;
-use shake::squeezing::byte_of;
+use shake::squeezing::block_of;
 
 // Whether the output that is looked at gives fewer than m trits.
 pub fn too_short(m: usize, a: [[u64; 5]; 5]) -> bool
@@ -19,16 +19,22 @@ pub fn too_short(m: usize, a: [[u64; 5]; 5]) -> bool
     let end = m + 136;
     let mut left = m;
     let mut b = a;
+    let mut block = block_of(a);
+    let mut p = 0; // the place in the block
     let mut i = 0;
     while i < end {
         if left == 0 {
             return false;
         }
-        left = packing::faults::count_byte(left, byte_of(b, i % 136));
+        left = packing::faults::count_byte(left, block[p]);
         i += 1;
-        if i % 136 == 0 {
+        p += 1;
+        if p == 136 {
             let next = keccak::permute(b);
+            let bytes = block_of(next);
             b = next;
+            block = bytes;
+            p = 0;
         }
     }
     left != 0
@@ -47,19 +53,25 @@ fn put_output(
     ensures { λ r. ⌜ Written (streamRow m (outputFor m a)) (length (now (ones .entry))) (now (ones .exit)) (now (twos .exit)) r ⌝ }
 {
     let mut b = a;
+    let mut block = block_of(a);
     let mut w = Writer {
         at: 0,
         ones: 0,
         twos: 0,
     };
-    let mut i = 0;
+    let mut p = 0; // the place in the block
+    let mut i = 0usize; // bytes read
     while w.at < m {
-        let after = put_next(masks, m, byte_of(b, i % 136), ones, twos, w);
+        let after = put_next(masks, m, block[p], ones, twos, w);
         w = after;
         i += 1;
-        if i % 136 == 0 {
+        p += 1;
+        if p == 136 {
             let next = keccak::permute(b);
+            let bytes = block_of(next);
             b = next;
+            block = bytes;
+            p = 0;
         }
     }
     w

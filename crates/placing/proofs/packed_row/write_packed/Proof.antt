@@ -1,6 +1,6 @@
 -- All bytes are written, and past them, and past m, the row is 0 (`bytes-end`, `packed-out`).
 -- Assumes nothing.
-use mathlib.Core.Path.{_≡_, sym, _∙_}
+use mathlib.Core.Path.{sym, _∙_}
 use native.Mathlib.Omega.{arith}
 use borrow.Author.Needs.{needs}
 use denote.Ref.{now}
@@ -8,7 +8,6 @@ use Rattle.trits.proofs.Reading.{holds-reads}
 use Rattle.packed.specs.Packed.{packedRow}
 use Rattle.packed.proofs.Past.{bytes-end}
 use Rattle.packed.proofs.Turned.{bytes-passed, packed-out}
-use Rattle.placing.specs.Steps.{ForWriteBytes}
 use Rattle.placing.proofs.packed_row.write_packed.Statement.{statement}
 use Rattle.placing.proofs.packed_row.write_packed.Tie as tie
 

@@ -1,11 +1,9 @@
 -- A byte above 242 gives nothing; any other five trits, or as many as are missing (`byte-next`, `first-next`).
 -- Assumes nothing.
 use Prim.Native.Nat.{ℕ, _+_, _-_, _<_}
-use mathlib.Core.Path.{_≡_, sym, ap, _∙_}
+use mathlib.Core.Path.{sym, ap, _∙_}
 use native.Mathlib.Omega.{arith}
 use borrow.Author.Needs.{needs}
-use denote.Ref.{now}
-use lib.ListN.{length}
 use Rattle.packed.proofs.Pieces.{byte-next, first-next}
 use Rattle.packed.proofs.Putting.{gives-none, gives-few, gives-five}
 use Rattle.placing.proofs.stream.put_next.Statement.{statement}

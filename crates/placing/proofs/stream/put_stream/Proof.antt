@@ -1,9 +1,8 @@
 -- After each byte the row is written with the stream's first trits, as many as the bytes read so far give (`Stands`, `next-trits`).
 -- Assumes nothing.
 use Prim.Native.Nat.{_-_, _<_}
-use mathlib.Core.Path.{_≡_, sym, _∙_}
+use mathlib.Core.Path.{sym, _∙_}
 use native.Mathlib.Omega.{arith}
-use borrow.Author.Needs.{needs}
 use lib.ListN.{length}
 use denote.Ref.{now}
 use Rattle.packed.specs.Stream.{streamRow}

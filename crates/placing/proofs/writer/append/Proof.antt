@@ -1,6 +1,5 @@
 -- The piece fills what is left of the words that are begun, or less (`appended-full`, `appended-begun`).
 -- Assumes nothing.
-use native.Mathlib.Omega.{arith}
 use borrow.Author.Needs.{needs}
 use denote.Ref.{now}
 use Rattle.placing.proofs.Writing.{appended-begun, appended-full}

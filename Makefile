@@ -1,6 +1,5 @@
-# make run: a key and a signature from the editor's half, checked by the module's half, then the same with its last digit changed, then with the key
-# converted into its other form on the way; make test: the gate; make bench: the table of the benchmark; make install PREFIX=..: headers, archives and
-# pkg-config files of both halves under PREFIX.
+# make run: a key and a signature from the editor's half, checked by the module's half, then the same with its last digit changed; make test: the gate;
+# make bench: the table of the benchmark; make install PREFIX=..: headers, archives and pkg-config files of both halves under PREFIX.
 .PHONY: run test bench install
 
 PREFIX ?= /usr/local
@@ -8,10 +7,9 @@ HALVES := wave_checker wave_signer
 CODE := crates.txt $(shell find crates -name '*.rt')
 
 run:
-	rt check sign_lines convert_lines check_lines
+	rt check sign_lines check_lines
 	target/bin/sign_lines | target/bin/check_lines
 	target/bin/sign_lines | sed '$$s/1$$/2/' | target/bin/check_lines
-	target/bin/sign_lines | { target/bin/convert_lines; cat; } | target/bin/check_lines
 
 test:
 	.ci/run

@@ -1,4 +1,4 @@
-/* The syndrome of a text, the checks and the conversion in plain C, with the same tests in the same order. */
+/* The syndrome of a text and the checks in plain C, with the same tests in the same order. */
 
 /* room for any row, from the start of a line of the cache on */
 typedef struct { _Alignas(64) uint64_t ones[WAVE_WORDS(16384)], twos[WAVE_WORDS(16384)]; } row;
@@ -34,23 +34,6 @@ static uint64_t c_syndrome(size_t m, const uint8_t *salt, size_t salt_n, const u
 
 /* ---- the full word */
 
-/* the trits of s, or others that rows are taken by */
-typedef struct { const uint64_t *ones, *twos; } trits;
-
-/* the trits that rows are taken by: for R those of s; for M, whose rows are added, its changed trits negated. A pair is
-   in one word. Past an odd last trit, which is paired with a 0, there is no row */
-static trits taken_by(wave_held h, const uint64_t *s_ones, const uint64_t *s_twos, row *by) {
-    const uint64_t even = 0x5555555555555555;
-    if (h.form == WAVE_FORM_R) return (trits){s_ones, s_twos};
-    for (size_t k = 0; k < WAVE_WORDS(h.k); k++) {
-        uint64_t a = s_ones[k] & even, b = s_twos[k] & even, c = s_ones[k] >> 1 & even, d = s_twos[k] >> 1 & even;
-        uint64_t x = (a | d) ^ (b | c), y = (a | c) ^ (b | d);
-        by->ones[k] = ((a | c) ^ x) | ((a | d) ^ y) << 1;
-        by->twos[k] = ((b | d) ^ x) | ((b | c) ^ y) << 1;
-    }
-    return (trits){by->ones, by->twos};
-}
-
 /* a row is added, and its bits in both planes are the answer; not inlined, so that gcc sees that no rows overlap */
 static __attribute__((noinline)) uint64_t add_tested(uint64_t *restrict o, uint64_t *restrict t,
                                                      const uint64_t *restrict so, const uint64_t *restrict st,
@@ -65,13 +48,13 @@ static __attribute__((noinline)) uint64_t add_tested(uint64_t *restrict o, uint6
     return both;
 }
 
-/* the key times these trits is taken from y, which stands in the sums, and each row is tested in the same pass: 4, 3
-   or 0 */
-static uint64_t take_tested(wave_held h, const uint64_t *ones, const uint64_t *twos, trits by, row *sum) {
+/* s times the key is taken from y, which stands in the sums, and each row is tested in the same pass: 4, 3 or 0 */
+static uint64_t take_tested(wave_held h, const uint64_t *ones, const uint64_t *twos, const uint64_t *s_ones,
+                            const uint64_t *s_twos, row *sum) {
     size_t m = h.n - h.k, w = WAVE_WORDS(m);
     uint64_t both = 0, last = 0;
     for (size_t i = 0; i < h.k; i++, ones += w, twos += w) {
-        int x = at(by.ones, by.twos, i);
+        int x = at(s_ones, s_twos, i);
         if (x == 0) both |= both_set(ones, twos, w);
         else if (x == 1) both |= add_tested(sum->ones, sum->twos, twos, ones, w);
         else both |= add_tested(sum->ones, sum->twos, ones, twos, w);
@@ -82,10 +65,11 @@ static uint64_t take_tested(wave_held h, const uint64_t *ones, const uint64_t *t
 }
 
 /* the same of a key that was tested */
-static void take(wave_held h, const uint64_t *ones, const uint64_t *twos, trits by, row *sum) {
+static void take(wave_held h, const uint64_t *ones, const uint64_t *twos, const uint64_t *s_ones,
+                 const uint64_t *s_twos, row *sum) {
     size_t w = WAVE_WORDS(h.n - h.k);
     for (size_t i = 0; i < h.k; i++, ones += w, twos += w) {
-        int x = at(by.ones, by.twos, i);
+        int x = at(s_ones, s_twos, i);
         if (x == 1) add_row(sum->ones, sum->twos, twos, ones, w);
         if (x == 2) add_row(sum->ones, sum->twos, ones, twos, w);
     }
@@ -99,51 +83,6 @@ static wave_checked verdict(wave_held h, const row *sum, const uint64_t *s_ones,
     return (wave_checked){0, ones + twos == h.w, ones, twos};
 }
 
-/* ---- the conversion, and what it tests as a check does */
-
-/* of a whole key that is asked for by its number: its state, and its lengths */
-static uint64_t key_refusal(wave_held h, uint64_t number, size_t ones, size_t twos) {
-    if (h.begun == 0) return 20;
-    if (h.begun != 1 || h.number > 4294967295 || h.form > 1 || h.n < 4 || h.n > 16384 || h.n % 2) return 1;
-    if (h.k < 2 || h.k > h.n - 2 || h.w < 1 || h.w > h.n || h.rows > h.k) return 1;
-    if (h.rows != h.k) return 20;
-    if (number != h.number) return 22;
-    return ones != WAVE_KEY_WORDS(h.n, h.k) || twos != WAVE_KEY_WORDS(h.n, h.k) ? 2 : 0;
-}
-
-/* the sum and the difference of two rows of w words that follow each other; not inlined, so that gcc sees that no rows
-   overlap */
-static __attribute__((noinline)) void pair(const uint64_t *restrict ones, const uint64_t *restrict twos, size_t w,
-                                           uint64_t *restrict sum_ones, uint64_t *restrict sum_twos) {
-    BY_FOUR for (size_t k = 0; k < w; k++) {
-        uint64_t a = ones[k], b = twos[k], c = ones[w + k], d = twos[w + k];
-        uint64_t x = (a | d) ^ (b | c), y = (a | c) ^ (b | d);
-        sum_ones[k] = (b | d) ^ x;
-        sum_twos[k] = (a | c) ^ x;
-        sum_ones[w + k] = (b | c) ^ y;
-        sum_twos[w + k] = (a | d) ^ y;
-    }
-}
-
-/* back from M each row of a pair is the negative of what the way there makes: its planes are exchanged */
-static wave_stored c_convert(wave_held h, uint64_t number, const uint64_t *ones, size_t on, const uint64_t *twos,
-                             size_t tn, uint64_t *other_ones, size_t oon, uint64_t *other_twos, size_t otn) {
-    uint64_t r = key_refusal(h, number, on, tn);
-    size_t m = h.n - h.k, w = WAVE_WORDS(m), i = 0;
-    if (!r && (oon != on || otn != on)) r = 2;
-    if (!r) r = planes_refusal(ones, twos, h.k, m);
-    if (r) return (wave_stored){r, h};
-    for (; i + 1 < h.k; i += 2)
-        if (h.form == WAVE_FORM_R) pair(ones + i * w, twos + i * w, w, other_ones + i * w, other_twos + i * w);
-        else pair(ones + i * w, twos + i * w, w, other_twos + i * w, other_ones + i * w);
-    if (i < h.k) {
-        memcpy(other_ones + i * w, twos + i * w, 8 * w);
-        memcpy(other_twos + i * w, ones + i * w, 8 * w);
-    }
-    h.form = 1 - h.form;
-    return (wave_stored){0, h};
-}
-
 /* ---- the checks */
 
 static wave_checked refused(uint64_t r) {
@@ -152,9 +91,13 @@ static wave_checked refused(uint64_t r) {
 
 static uint64_t call_refusal(wave_held h, uint64_t number, size_t ones, size_t twos, size_t work_ones,
                              size_t work_twos) {
-    uint64_t r = key_refusal(h, number, ones, twos);
-    if (r) return r;
-    return work_ones != WAVE_WORDS(h.n - h.k) || work_twos != WAVE_WORDS(h.n - h.k) ? 2 : 0;
+    if (h.begun == 0) return 20;
+    if (h.begun != 1 || h.number > 4294967295 || h.n < 4 || h.n > 16384 || h.n % 2) return 1;
+    if (h.k < 2 || h.k > h.n - 2 || h.w < 1 || h.w > h.n || h.rows > h.k) return 1;
+    if (h.rows != h.k) return 20;
+    if (number != h.number) return 22;
+    size_t w = WAVE_WORDS(h.n - h.k);
+    return ones != h.k * w || twos != h.k * w || work_ones != w || work_twos != w ? 2 : 0;
 }
 
 static void clear(wave_held h, uint64_t *work_ones, uint64_t *work_twos) {
@@ -171,8 +114,7 @@ static uint64_t after_key(wave_held h, const uint64_t *ones, const uint64_t *two
 /* the check in one pass over the key, with y in the sums; a refusal leaves the working space as it was */
 static wave_checked one_pass(wave_held h, const uint64_t *ones, const uint64_t *twos, const uint64_t *s_ones,
                              const uint64_t *s_twos, row *sum, uint64_t *work_ones, uint64_t *work_twos) {
-    row by;
-    uint64_t r = take_tested(h, ones, twos, taken_by(h, s_ones, s_twos, &by), sum);
+    uint64_t r = take_tested(h, ones, twos, s_ones, s_twos, sum);
     if (r) return refused(r);
     clear(h, work_ones, work_twos);
     return verdict(h, sum, s_ones, s_twos);
@@ -241,7 +183,7 @@ static wave_checked c_weigh(wave_held h, uint64_t number, const uint64_t *ones, 
                             size_t tn, const uint64_t *y_ones, size_t yon, const uint64_t *y_twos, size_t ytn,
                             const uint64_t *s_ones, size_t son, const uint64_t *s_twos, size_t stn,
                             uint64_t *work_ones, size_t won, uint64_t *work_twos, size_t wtn, size_t times) {
-    row sum, by;
+    row sum;
     uint64_t r = call_refusal(h, number, on, tn, won, wtn);
     size_t m = h.n - h.k, w = WAVE_WORDS(m), v = WAVE_WORDS(h.k);
     wave_checked c = {0, 0, 0, 0};
@@ -253,7 +195,7 @@ static wave_checked c_weigh(wave_held h, uint64_t number, const uint64_t *ones, 
     for (size_t i = 0; i < times; i++) {
         memcpy(sum.ones, y_ones, 8 * w);
         memcpy(sum.twos, y_twos, 8 * w);
-        take(h, ones, twos, taken_by(h, s_ones, s_twos, &by), &sum);
+        take(h, ones, twos, s_ones, s_twos, &sum);
         c = verdict(h, &sum, s_ones, s_twos);
     }
     clear(h, work_ones, work_twos);
@@ -263,7 +205,7 @@ static wave_checked c_weigh(wave_held h, uint64_t number, const uint64_t *ones, 
 static wave_checked c_weigh_packed(wave_held h, uint64_t number, const uint64_t *ones, size_t on, const uint64_t *twos,
                                    size_t tn, const uint8_t *y, size_t yn, const uint8_t *s, size_t sn,
                                    uint64_t *work_ones, size_t won, uint64_t *work_twos, size_t wtn, size_t times) {
-    row sum, signature, by;
+    row sum, signature;
     uint64_t r = call_refusal(h, number, on, tn, won, wtn);
     size_t m = h.n - h.k;
     wave_checked c = {0, 0, 0, 0};
@@ -276,7 +218,7 @@ static wave_checked c_weigh_packed(wave_held h, uint64_t number, const uint64_t 
     for (size_t i = 0; i < times; i++) {
         unpack(m, y, sum.ones, sum.twos);
         unpack(h.k, s, signature.ones, signature.twos);
-        take(h, ones, twos, taken_by(h, signature.ones, signature.twos, &by), &sum);
+        take(h, ones, twos, signature.ones, signature.twos, &sum);
         c = verdict(h, &sum, signature.ones, signature.twos);
     }
     clear(h, work_ones, work_twos);

@@ -31,7 +31,6 @@ typedef struct {
     __typeof__(wave_shake256) *shake256;
     __typeof__(wave_syndrome) *syndrome;
     __typeof__(wave_check_text) *check_text;
-    __typeof__(wave_convert) *convert;
     __typeof__(wave_build) *build;
     __typeof__(wave_draw) *draw;
     size_t (*build_work)(wave_sizes), (*draw_work)(wave_sizes); /* the words of one working plane that these two are lent */

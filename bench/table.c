@@ -22,8 +22,7 @@ static double steps; /* of the time stamp counter in a nanosecond */
 
 static const side ours = {bench_sum, bench_weight, bench_both_set, bench_past_end, wave_unpack, wave_pack,
                           wave_from_stream, bench_check, wave_check, bench_weigh, bench_weigh_packed, wave_shake256,
-                          wave_syndrome, wave_check_text, wave_convert, wave_build, wave_draw, wave_build_work,
-                          wave_draw_work, 0};
+                          wave_syndrome, wave_check_text, wave_build, wave_draw, wave_build_work, wave_draw_work, 0};
 #ifdef BEFORE
 /* the calls of an earlier revision, whose archive has its names changed so, and its lengths, by `before.c` */
 extern __typeof__(wave_build) before_wave_build;
@@ -46,9 +45,8 @@ typedef struct { uint64_t *ones, *twos; size_t n; } planes;
 typedef struct {
     wave_sizes z;              /* of a build, and of a draw that releases its word */
     wave_held held, text_held; /* of a check of y, and of one of salt and text, that says yes */
-    wave_held held_m;          /* of the same check of y under the key as M */
     size_t half, rows_u, rows_v, k, m;
-    planes hu, hv, b, c, v, u, key, key_m, y, s;
+    planes hu, hv, b, c, v, u, key, y, s;
     uint8_t *key_bytes, *y_bytes, *s_bytes, *salt, *text, *stream;
     uint16_t *order, *v_order, *u_order;
 } input;
@@ -139,13 +137,6 @@ static void add_text(input *a) {
     free(work);
 }
 
-/* the key as M, for the same y and s */
-static void add_m(input *a) {
-    size_t n = a->key.n;
-    a->key_m = (planes){room(n, 8), room(n, 8), n};
-    a->held_m = plain_o3.convert(a->held, 7, P(a->key), P(a->key_m)).held;
-}
-
 /* a stream of all byte values, the text's hash, so that nothing is drawn for it */
 static void add_stream(input *a) {
     a->stream = room(STREAM(a->m), 1);
@@ -179,13 +170,12 @@ static size_t space(const input *a) {
 
 static input make(wave_sizes z) {
     size_t half = z.n / 2, k = z.ku + z.kv;
-    input a = {.z = z, .held = {1, 7, WAVE_FORM_R, z.n, k, z.w, k}, .half = half, .rows_u = half - z.ku, .rows_v = half - z.kv, .k = k, .m = z.n - k};
+    input a = {.z = z, .held = {1, 7, z.n, k, z.w, k}, .half = half, .rows_u = half - z.ku, .rows_v = half - z.kv, .k = k, .m = z.n - k};
     a.hu = rows(a.rows_u, half, 0), a.hv = rows(a.rows_v, half, 0), a.b = rows(1, half, 0), a.c = rows(1, half, 1), a.v = rows(1, z.kv, 0), a.u = rows(1, z.ku, 1);
     a.key = rows(k, a.m, 0), a.order = order(z.n), a.v_order = order(half), a.u_order = order(half);
     sign(&a, z.w);
     a.key_bytes = packed(a.key, k, a.m), a.y_bytes = packed(a.y, 1, a.m), a.s_bytes = packed(a.s, 1, k);
     add_text(&a);
-    add_m(&a);
     add_stream(&a);
     uint64_t *out = room(space(&a), 8);
     run_draw(&plain_o3, &a, out);
@@ -272,36 +262,6 @@ static size_t run_weigh_packed(const side *f, const input *a, uint64_t *out) {
     return told(f->weigh_packed(a->held, 7, P(a->key), a->y_bytes, WAVE_BYTES(a->m), a->s_bytes, WAVE_BYTES(a->k), P(work), WEIGHTS), out, at);
 }
 
-static size_t run_check_m(const side *f, const input *a, uint64_t *out) {
-    uint64_t *at = out + HEAD;
-    planes work = next(&at, a->y.n);
-    return told(f->check_packed(a->held_m, 7, P(a->key_m), a->y_bytes, WAVE_BYTES(a->m), a->s_bytes, WAVE_BYTES(a->k), P(work)), out, at);
-}
-
-static size_t run_weigh_m(const side *f, const input *a, uint64_t *out) {
-    uint64_t *at = out + HEAD;
-    planes work = next(&at, a->y.n);
-    return told(f->weigh_packed(a->held_m, 7, P(a->key_m), a->y_bytes, WAVE_BYTES(a->m), a->s_bytes, WAVE_BYTES(a->k), P(work), WEIGHTS), out, at);
-}
-
-/* of the key in this form, whose state this is, into the other one */
-static size_t turn(const side *f, wave_held held, planes key, uint64_t *out) {
-    uint64_t *at = out + HEAD;
-    planes other = next(&at, key.n);
-    wave_stored got = f->convert(held, 7, P(key), P(other));
-    out[0] = got.refusal;
-    out[1] = got.held.form;
-    return at - out;
-}
-
-static size_t run_to_m(const side *f, const input *a, uint64_t *out) {
-    return turn(f, a->held, a->key, out);
-}
-
-static size_t run_to_r(const side *f, const input *a, uint64_t *out) {
-    return turn(f, a->held_m, a->key_m, out);
-}
-
 static size_t run_shake(const side *f, const input *a, uint64_t *out) {
     f->shake256(a->text, MESSAGE, (uint8_t *)(out + HEAD), OUTPUT);
     return HEAD + OUTPUT / 8;
@@ -332,8 +292,8 @@ static size_t run_build(const side *f, const input *a, uint64_t *out) {
 
 /* by_steps: the name of its row beside plain C that goes step by step, if there is one */
 typedef struct { const char *name; size_t (*run)(const side *, const input *, uint64_t *); size_t times; const char *by_steps; } act;
-enum { SUM, WEIGHT, UNPACK, PACK, FROM_STREAM, CHECK, WEIGH, CHECK_PACKED, WEIGH_PACKED, CHECK_M, WEIGH_M, TO_M, TO_R,
-       SYNDROME, CHECK_TEXT, BUILD, DRAW, BOTH_SET, PAST_END, SHAKE, ACTS };
+enum { SUM, WEIGHT, UNPACK, PACK, FROM_STREAM, CHECK, WEIGH, CHECK_PACKED, WEIGH_PACKED, SYNDROME, CHECK_TEXT, BUILD,
+       DRAW, BOTH_SET, PAST_END, SHAKE, ACTS };
 static const act acts[ACTS] = {
     [SUM] = {"sum of two rows", run_sum, TIMES, 0},
     [WEIGHT] = {"weight of a row", run_weight, TIMES, 0},
@@ -344,10 +304,6 @@ static const act acts[ACTS] = {
     [WEIGH] = {"check in planes, counts only", run_weigh, WEIGHTS, 0},
     [CHECK_PACKED] = {"check packed", run_check_packed, 1, 0},
     [WEIGH_PACKED] = {"check packed, counts only", run_weigh_packed, WEIGHTS, 0},
-    [CHECK_M] = {"check packed, under M", run_check_m, 1, 0},
-    [WEIGH_M] = {"under M, counts only", run_weigh_m, WEIGHTS, 0},
-    [TO_M] = {"conversion of a key to M", run_to_m, 1, 0},
-    [TO_R] = {"conversion of a key to R", run_to_r, 1, 0},
     [SYNDROME] = {"syndrome of salt and text", run_syndrome, 1, 0},
     [CHECK_TEXT] = {"check of salt and text", run_check_text, 1, 0},
     [BUILD] = {"build", run_build, 1, "build, plain steps in C"},
@@ -503,9 +459,8 @@ static void earlier(const input *a, const figures *f) {
 int main(int count, char **argument) {
     static const char *const submission[ACTS] = {
         [UNPACK] = "205,829,565 (with a check)", [CHECK] = "1,230,598", [CHECK_PACKED] = "1,230,598",
-        [CHECK_M] = "1,230,598", [CHECK_TEXT] = "1,230,598", [BUILD] = "14,468,000,043", [DRAW] = "1,160,793,621"};
-    static const char *const wavelet[ACTS] = {[CHECK_PACKED] = "5,098,394", [CHECK_M] = "2,733,457",
-                                              [BUILD] = "7,403,069,461", [DRAW] = "1,644,281,062"};
+        [CHECK_TEXT] = "1,230,598", [BUILD] = "14,468,000,043", [DRAW] = "1,160,793,621"};
+    static const char *const wavelet[ACTS] = {[BUILD] = "7,403,069,461", [DRAW] = "1,644,281,062"};
     figures first[ACTS], second[ACTS];
     if (count > 1) turns = atoi(argument[1]);
     steps = rate();

@@ -8,21 +8,15 @@
  * read: where m is no multiple of 5, the last byte is below 3 to the power m % 5. So a row has one packed form, and
  * bytes that were read and are packed again come back.
  *
- * A key is held in one of two forms of the same sizes, and the state tells which. As R its k rows of n-k trits are the
- * columns of R. As M, the key form of Wavelet, rows 2i and 2i+1 are the sum and the difference of those two as R, and at
- * odd k the last row is negated. wave_convert makes either form of the other. Every check works on the form that is
- * held, and has the same answer under both.
- *
  * Every buffer is a pointer and its number of elements (words or bytes, not the size in bytes). Every length must be
  * exactly what the sizes say. No two buffers of one call may overlap where one of them is written. The caller owns
  * all memory; nothing is allocated or kept between calls.
  *
- * Refusals are numbers, 0 for none: 1 a size, a key number or a form outside its range, 2 a wrong length, 3 a bit set
- * in both planes, 4 a bit set past a row's length, 5 a packed byte above 242, 6 the stream ends too soon, 15 a nonzero
- * trit past the length in packed bytes, 20 no key begun, or rows missing at a check or a conversion, 21 a row offered to
- * a whole key, 22 another key number than the held one. A call tests in the order given with it and returns the first
- * refusal that applies; a refused call leaves the state and every buffer as they were, but for the working space of
- * wave_check_text after 6.
+ * Refusals are numbers, 0 for none: 1 a size outside its range, 2 a wrong length, 3 a bit set in both planes, 4 a bit
+ * set past a row's length, 5 a packed byte above 242, 6 the stream ends too soon, 15 a nonzero trit past the length in
+ * packed bytes, 20 no key begun or rows missing at a check, 21 a row offered to a whole key, 22 another key number than
+ * the held one. A call tests in the order given with it and returns the first refusal that applies; a refused call
+ * leaves the state and every buffer as they were, but for the working space of wave_check_text after 6.
  *
  * Which check: a module that doses by a text should call wave_check_text with the salt and that very text, so that what
  * is checked and what is dosed cannot come apart. wave_check is for a syndrome y that was made elsewhere, by
@@ -56,19 +50,13 @@ extern "C" {
 /* The bytes of a salt. */
 #define WAVE_SALT_BYTES 32
 
-/* The forms of a held key. */
-#define WAVE_FORM_R 0
-#define WAVE_FORM_M 1
-
 /*
- * The state of the module. All zero: no key begun. begun is 0 or 1; number, form, n, k and w are those of the key begun
- * (where none is begun they are not looked at), and rows counts the rows stored. The state goes in by value and comes
- * back by value: keep the one that comes back.
+ * The state of the module. All zero: no key begun. begun is 0 or 1; number, n, k and w are those of the key begun, and
+ * rows counts the rows stored. The state goes in by value and comes back by value: keep the one that comes back.
  */
-typedef struct { uint64_t begun, number, form, n, k, w, rows; } wave_held;
+typedef struct { uint64_t begun, number, n, k, w, rows; } wave_held;
 
-/* What a beginning, a row or a conversion comes to: the refusal or 0, and the state after the call (the same one after
- * a refusal). */
+/* What a beginning or a row comes to: the refusal or 0, and the state after the call (the same one after a refusal). */
 typedef struct { uint64_t refusal; wave_held held; } wave_stored;
 
 /* What a check comes to: the refusal or 0; yes is 1 for yes and 0 for all else; how many trits of the full word are 1,
@@ -76,47 +64,27 @@ typedef struct { uint64_t refusal; wave_held held; } wave_stored;
 typedef struct { uint64_t refusal, yes, ones, twos; } wave_checked;
 
 /*
- * Begins a key, which replaces the held one whatever the old state is. number is 0 to 4,294,967,295, form is that of the
- * rows to come, WAVE_FORM_R or WAVE_FORM_M, n is even from 4 to 16,384, k is 2 to n-2, w is 1 to n; otherwise 1, and the
- * old key stays. No row is stored yet, and no word of a buffer is touched: what the planes of the key hold means nothing
- * until rows are stored.
+ * Begins a key, which replaces the held one whatever the old state is. number is 0 to 4,294,967,295, n is even from 4 to
+ * 16,384, k is 2 to n-2, w is 1 to n; otherwise 1, and the old key stays. No row is stored yet, and no word of a buffer
+ * is touched: what the planes of the key hold means nothing until rows are stored.
  */
-wave_stored wave_begin(wave_held held, uint64_t number, uint64_t form, uint64_t n, uint64_t k, uint64_t w);
+wave_stored wave_begin(wave_held held, uint64_t number, uint64_t n, uint64_t k, uint64_t w);
 
 /*
- * Stores a packed row of n-k trits as the next row of the key, in the form that was begun: a row is stored as it comes.
- * ones and twos are the planes of the whole key, each of WAVE_KEY_WORDS(n, k) words; row has WAVE_BYTES(n-k) bytes. The
- * words of that row are filled in both planes, bits past its length 0, and no other word changes.
+ * Stores a packed row of n-k trits as the next row of the key. ones and twos are the planes of the whole key, each of
+ * WAVE_KEY_WORDS(n, k) words; row has WAVE_BYTES(n-k) bytes. The words of that row are filled in both planes, bits past
+ * its length 0, and no other word changes.
  * Order of refusals: 20 (no key begun), 1 (a state out of its ranges), 21, 2, 5, 15 (5 over all of row first).
  */
 wave_stored wave_store_row(wave_held held, uint64_t *ones, size_t ones_words, uint64_t *twos, size_t twos_words,
                            const uint8_t *row, size_t row_bytes);
 
 /*
- * Converts the whole key from the form that the state tells into the other one. From R, rows 2i and 2i+1 become their
- * sum and the first less the second; from M, their sum negated and the second less the first; at odd k the last row is
- * negated, either way. A key that is converted there and back is the key that it was.
- * ones and twos are the planes of the held key, and stay; other_ones and other_twos take the converted one. All four
- * have WAVE_KEY_WORDS(n, k) words. The other planes may hold anything: every word of them is written, bits past a row's
- * length 0, and after a refusal they are untouched. number is the key number asked for, as for wave_check. The state
- * that comes back tells the other form, is otherwise the same, and goes with the other planes from then on; the one that
- * was given still goes with the held ones.
- * Order of refusals: 20 (no key begun), 1 (a state out of its ranges), 20 (rows missing), 22, 2, then the contents of
- * the key (4, then 3, each over all of it).
- */
-wave_stored wave_convert(wave_held held, uint64_t number, const uint64_t *ones, size_t ones_words,
-                         const uint64_t *twos, size_t twos_words, uint64_t *other_ones, size_t other_ones_words,
-                         uint64_t *other_twos, size_t other_twos_words);
-
-/*
- * Checks the signature s on the syndrome y under the held key: the answer is the ones and the twos of the full word, and
- * yes exactly when their sum is w. Under a key held as R the full word is y less each row times its trit of s, then s.
- * Under one held as M it is y plus each row times its changed trit, then s itself: trits 2i and 2i+1 of s change to
- * their sum and the first less the second, and at odd k the last one does not change. Both come to the same word.
- * y has WAVE_BYTES(n-k) bytes, s has WAVE_BYTES(k) bytes, and ones and twos are the planes of the whole key, as for
- * wave_store_row. number is the key number asked for; one that is not the held key's is 22, however large. work_ones
- * and work_twos are working space of WAVE_WORDS(n-k) words each; they may hold anything, are untouched after a refusal,
- * and are all zero after every verdict.
+ * Checks the signature s on the syndrome y under the held key: the full word is (y - s times the key, s), the answer
+ * its ones and its twos, and yes exactly when their sum is w. y has WAVE_BYTES(n-k) bytes, s has WAVE_BYTES(k) bytes,
+ * and ones and twos are the planes of the whole key, as for wave_store_row. number is the key number asked for; one that
+ * is not the held key's is 22, however large. work_ones and work_twos are working space of WAVE_WORDS(n-k) words each;
+ * they may hold anything, are untouched after a refusal, and are all zero after every verdict.
  * Order of refusals: 20 (no key begun), 1 (a state out of its ranges), 20 (rows missing), 22, 2, then the contents of
  * the key (4, then 3, each over all of it), of y (5, then 15) and of s (5, then 15).
  */

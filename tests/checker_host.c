@@ -60,27 +60,18 @@ static int hold(const lent *ones, const lent *twos, const unsigned char *trits, 
 
 /* ---- a module: its state and everything that it lends */
 
-/* the other planes are for a conversion */
-typedef struct { wave_held held; lent ones, twos, other_ones, other_twos, row, y, salt, text, s, wo, wt; } module;
+typedef struct { wave_held held; lent ones, twos, row, y, salt, text, s, wo, wt; } module;
 
-static int same_held(wave_held a, wave_held b)
-{
-    return a.begun == b.begun && a.number == b.number && a.form == b.form && a.n == b.n && a.k == b.k && a.w == b.w &&
-           a.rows == b.rows;
-}
-
-static void open_module(module *m, uint64_t number, uint64_t form, uint64_t n, uint64_t k, uint64_t w)
+static void open_module(module *m, uint64_t number, uint64_t n, uint64_t k, uint64_t w)
 {
     size_t row = WAVE_WORDS(n - k);
-    wave_held none = { 0, 0, 0, 0, 0, 0, 0 }, want = { 1, number, form, n, k, w, 0 };
-    wave_stored got = wave_begin(none, number, form, n, k, w);
+    wave_held none = { 0, 0, 0, 0, 0, 0 };
+    wave_stored got = wave_begin(none, number, n, k, w);
     EXPECT(got.refusal == 0);
-    EXPECT(same_held(got.held, want));
+    EXPECT(got.held.begun == 1 && got.held.number == number && got.held.n == n && got.held.k == k && got.held.w == w && got.held.rows == 0);
     m->held = got.held;
     lend(&m->ones, k * row, 8, 0x5C);
     lend(&m->twos, k * row, 8, 0xC5);
-    lend(&m->other_ones, k * row, 8, 0x3A);
-    lend(&m->other_twos, k * row, 8, 0xA3);
     lend(&m->row, WAVE_BYTES(n - k), 1, 0);
     lend(&m->y, WAVE_BYTES(n - k), 1, 0);
     lend(&m->salt, WAVE_SALT_BYTES, 1, 0x53);
@@ -91,26 +82,18 @@ static void open_module(module *m, uint64_t number, uint64_t form, uint64_t n, u
 }
 
 /* lengths are given apart from the buffers, so that they can be off by one */
-typedef struct { size_t ones, twos, other_ones, other_twos, row, y, salt, text, s, wo, wt; } counts;
+typedef struct { size_t ones, twos, row, y, salt, text, s, wo, wt; } counts;
 
 static counts right(const module *m)
 {
-    counts c = { m->ones.count, m->twos.count, m->other_ones.count, m->other_twos.count, m->row.count, m->y.count,
-                 m->salt.count, m->text.count, m->s.count, m->wo.count, m->wt.count };
+    counts c = { m->ones.count, m->twos.count, m->row.count, m->y.count, m->salt.count, m->text.count, m->s.count,
+                 m->wo.count, m->wt.count };
     return c;
 }
 
 static wave_stored offer(const module *m, wave_held held, counts c)
 {
     wave_stored got = wave_store_row(held, words(&m->ones), c.ones, words(&m->twos), c.twos, bytes(&m->row), c.row);
-    EXPECT(all_guarded());
-    return got;
-}
-
-static wave_stored turn(const module *m, wave_held held, uint64_t number, counts c)
-{
-    wave_stored got = wave_convert(held, number, words(&m->ones), c.ones, words(&m->twos), c.twos,
-                                   words(&m->other_ones), c.other_ones, words(&m->other_twos), c.other_twos);
     EXPECT(all_guarded());
     return got;
 }
@@ -135,7 +118,12 @@ static wave_checked ask_text(const module *m, wave_held held, uint64_t number, c
     return got;
 }
 
-/* a row that must be stored; the state counts it, and keeps its form */
+static int same_held(wave_held a, wave_held b)
+{
+    return a.begun == b.begun && a.number == b.number && a.n == b.n && a.k == b.k && a.w == b.w && a.rows == b.rows;
+}
+
+/* a row that must be stored */
 static void store(module *m)
 {
     uint64_t before = m->held.rows;
@@ -163,41 +151,6 @@ static void refused_row(const module *m, wave_held held, counts c, uint64_t numb
     EXPECT(all_same());
 }
 
-static void exchange(lent *a, lent *b)
-{
-    lent x = *a;
-    *a = *b;
-    *b = x;
-}
-
-/* a conversion that must be made: the state tells the other form, and no buffer but the other planes changes; the module
-   then holds the key by these */
-static void convert(module *m)
-{
-    wave_held want = m->held;
-    want.form = 1 - want.form;
-    memset(words(&m->other_ones), 0x3A, m->other_ones.count * 8);
-    memset(words(&m->other_twos), 0xA3, m->other_twos.count * 8);
-    note_all();
-    wave_stored got = turn(m, m->held, m->held.number, right(m));
-    EXPECT(got.refusal == 0);
-    EXPECT(same_held(got.held, want));
-    for (size_t i = 0; i < lents; i++) EXPECT(same(all[i]) || all[i] == &m->other_ones || all[i] == &m->other_twos);
-    m->held = got.held;
-    exchange(&m->ones, &m->other_ones);
-    exchange(&m->twos, &m->other_twos);
-}
-
-/* a conversion that must be refused: the state and every buffer stay, the other planes too */
-static void refused_conversion(const module *m, wave_held held, uint64_t number, counts c, uint64_t refusal)
-{
-    note_all();
-    wave_stored got = turn(m, held, number, c);
-    EXPECT(got.refusal == refusal);
-    EXPECT(same_held(got.held, held));
-    EXPECT(all_same());
-}
-
 /* a check that must be refused: yes, ones and twos are 0 and every buffer stays, the working space too */
 static void refused_by(asking *ask, const module *m, wave_held held, uint64_t number, counts c, uint64_t refusal)
 {
@@ -215,13 +168,6 @@ static void refused_check(const module *m, wave_held held, uint64_t number, coun
 {
     refused_by(ask_y, m, held, number, c, refusal);
     refused_by(ask_text, m, held, number, c, refusal);
-}
-
-/* for a state, a number and a key, of which a conversion makes the same tests */
-static void refused_key(const module *m, wave_held held, uint64_t number, counts c, uint64_t refusal)
-{
-    refused_check(m, held, number, c, refusal);
-    refused_conversion(m, held, number, c, refusal);
 }
 
 /* for the length or the contents of y */
@@ -259,52 +205,34 @@ static void verdict_text(const module *m, size_t text_bytes, uint64_t ones, uint
 
 /* ---- the tests */
 
-/* sizes, key numbers and forms: the edges of each range */
+/* sizes: the edges of each range */
 static void beginnings(void)
 {
-    static const struct { uint64_t number, form, n, k, w, refusal; } cases[] = {
-        { 0, 0, 4, 2, 1, 0 }, { 255, 0, 4, 2, 4, 0 }, { 256, 0, 4, 2, 4, 0 }, { 65535, 1, 4, 2, 4, 0 },
-        { 65536, 0, 4, 2, 4, 0 }, { UINT32_MAX, 0, 4, 2, 4, 0 }, { UINT32_MAX, 1, 4, 2, 4, 0 },
-        { 7, 0, 16384, 2, 16384, 0 }, { 7, 1, 16384, 16382, 1, 0 }, { 7, 0, 8576, 4288, 7668, 0 },
-        { 7, 1, 8492, 5605, 7980, 0 },
-        { 7, 0, 2, 2, 1, 1 }, { 7, 0, 2, 1, 1, 1 }, { 7, 1, 0, 2, 1, 1 }, { 7, 0, 5, 2, 1, 1 }, { 7, 1, 16386, 2, 1, 1 },
-        { 7, 0, 16383, 2, 1, 1 },
-        { UINT32_MAX + UINT64_C(1), 0, 4, 2, 1, 1 }, { UINT32_MAX + UINT64_C(8), 1, 4, 2, 1, 1 },
-        { UINT64_C(1) << 63, 0, 4, 2, 1, 1 },
-        { 7, 2, 4, 2, 4, 1 }, { 7, 3, 4, 2, 4, 1 }, { 7, 256, 4, 2, 4, 1 }, { 7, 257, 4, 2, 4, 1 },
-        { 7, UINT64_C(1) << 32, 4, 2, 4, 1 }, { 7, (UINT64_C(1) << 32) + 1, 4, 2, 4, 1 }, { 7, UINT64_MAX, 4, 2, 4, 1 },
-        { 7, 0, 4, 1, 1, 1 }, { 7, 1, 4, 0, 1, 1 }, { 7, 0, 4, 3, 1, 1 }, { 7, 1, 6, 5, 1, 1 }, { 7, 0, 4, 2, 0, 1 },
-        { 7, 1, 4, 2, 5, 1 },
-        { UINT64_MAX, 0, 4, 2, 1, 1 }, { 7, 0, UINT64_MAX, 2, 1, 1 }, { 7, 1, 4, UINT64_MAX, 1, 1 },
-        { 7, 0, 4, 2, UINT64_MAX, 1 },
+    static const struct { uint64_t number, n, k, w, refusal; } cases[] = {
+        { 0, 4, 2, 1, 0 }, { 255, 4, 2, 4, 0 }, { 256, 4, 2, 4, 0 }, { 65535, 4, 2, 4, 0 }, { 65536, 4, 2, 4, 0 }, { UINT32_MAX, 4, 2, 4, 0 },
+        { 7, 16384, 2, 16384, 0 }, { 7, 16384, 16382, 1, 0 }, { 7, 8576, 4288, 7668, 0 },
+        { 7, 2, 2, 1, 1 }, { 7, 2, 1, 1, 1 }, { 7, 0, 2, 1, 1 }, { 7, 5, 2, 1, 1 }, { 7, 16386, 2, 1, 1 }, { 7, 16383, 2, 1, 1 },
+        { UINT32_MAX + UINT64_C(1), 4, 2, 1, 1 }, { UINT32_MAX + UINT64_C(8), 4, 2, 1, 1 }, { UINT64_C(1) << 63, 4, 2, 1, 1 },
+        { 7, 4, 1, 1, 1 }, { 7, 4, 0, 1, 1 }, { 7, 4, 3, 1, 1 }, { 7, 6, 5, 1, 1 }, { 7, 4, 2, 0, 1 }, { 7, 4, 2, 5, 1 },
+        { UINT64_MAX, 4, 2, 1, 1 }, { 7, UINT64_MAX, 2, 1, 1 }, { 7, 4, UINT64_MAX, 1, 1 }, { 7, 4, 2, UINT64_MAX, 1 },
     };
     static const wave_held old[] = {
-        { 0, 0, 0, 0, 0, 0, 0 }, { 1, 9, 0, 6, 2, 3, 1 }, { 1, 9, 1, 6, 2, 3, 2 }, { 5, 999, 9, 7, 77, 777, 7777 },
+        { 0, 0, 0, 0, 0, 0 }, { 1, 9, 6, 2, 3, 1 }, { 5, 999, 7, 77, 777, 7777 },
     };
     for (size_t i = 0; i < sizeof cases / sizeof cases[0]; i++)
         for (size_t j = 0; j < sizeof old / sizeof old[0]; j++) {
-            wave_stored got = wave_begin(old[j], cases[i].number, cases[i].form, cases[i].n, cases[i].k, cases[i].w);
-            wave_held want = { 1, cases[i].number, cases[i].form, cases[i].n, cases[i].k, cases[i].w, 0 };
+            wave_stored got = wave_begin(old[j], cases[i].number, cases[i].n, cases[i].k, cases[i].w);
+            wave_held want = { 1, cases[i].number, cases[i].n, cases[i].k, cases[i].w, 0 };
             EXPECT(got.refusal == cases[i].refusal);
             EXPECT(same_held(got.held, cases[i].refusal == 0 ? want : old[j]));
         }
-}
-
-/* the paper's first key in each form, and the sizes of its example */
-static const char *const paper_rows[2][2] = { { "02", "22" }, { "21", "10" } };
-
-static void open_paper(module *m, uint64_t number, uint64_t form)
-{
-    open_module(m, number, form, 4, 2, 4);
-    store_digits(m, paper_rows[form][0]);
-    store_digits(m, paper_rows[form][1]);
 }
 
 /* the paper's example: key 7, rows 02 and 22, y = 12 */
 static void example(void)
 {
     module m;
-    open_module(&m, 7, WAVE_FORM_R, 4, 2, 4);
+    open_module(&m, 7, 4, 2, 4);
     store_digits(&m, "02");
     EXPECT(words(&m.ones)[0] == 0 && words(&m.twos)[0] == 2);
     EXPECT(words(&m.ones)[1] == 0x5C5C5C5C5C5C5C5C && words(&m.twos)[1] == 0xC5C5C5C5C5C5C5C5);
@@ -333,129 +261,40 @@ static void example(void)
     take_back_all();
 }
 
-/* the same key as M, rows 21 and 10: s = 11 changes to 20, s = 12 to 02, s = 00 stays, s = 22 changes to 10 */
-static void example_as_m(void)
-{
-    module m;
-    open_module(&m, 7, WAVE_FORM_M, 4, 2, 4);
-    store_digits(&m, "21");
-    EXPECT(words(&m.ones)[0] == 2 && words(&m.twos)[0] == 1);
-    EXPECT(words(&m.ones)[1] == 0x5C5C5C5C5C5C5C5C && words(&m.twos)[1] == 0xC5C5C5C5C5C5C5C5);
-    store_digits(&m, "10");
-    EXPECT(words(&m.ones)[0] == 2 && words(&m.twos)[0] == 1);
-    EXPECT(words(&m.ones)[1] == 1 && words(&m.twos)[1] == 0);
-    pack_digits("12", bytes(&m.y));
-    pack_digits("11", bytes(&m.s));
-    verdict(&m, 3, 1, 1);
-    /* read as R it is another key, and s = 11 makes 1111: the same weight, other ones and twos */
-    m.held.form = WAVE_FORM_R;
-    verdict(&m, 4, 0, 1);
-    m.held.form = WAVE_FORM_M;
-    pack_digits("12", bytes(&m.s));
-    verdict(&m, 1, 2, 0);
-    refused_key(&m, m.held, 8, right(&m), 22);
-    m.held.w = 2;
-    pack_digits("00", bytes(&m.s));
-    verdict(&m, 1, 1, 1);
-    pack_digits("22", bytes(&m.s));
-    verdict(&m, 0, 2, 1);
-    take_back_all();
-}
-
-/* row i of the key has these digits, and nothing past them */
-static int row_is(const module *m, size_t i, const char *digits)
-{
-    size_t r = strlen(digits), w = WAVE_WORDS(r);
-    for (size_t j = 0; j < 64 * w; j++) {
-        uint64_t one = words(&m->ones)[i * w + j / 64] >> j % 64 & 1;
-        uint64_t two = words(&m->twos)[i * w + j / 64] >> j % 64 & 1;
-        if (one + 2 * two != (j < r ? (uint64_t)(digits[j] - '0') : 0) || (one && two)) return 0;
-    }
-    return 1;
-}
-
-/* keys worked out by hand in both forms, with even and odd k: each is made of the other, and made again */
-static void converted_by_hand(void)
-{
-    static const struct { uint64_t n, k; const char *rows[2][5]; } keys[] = {
-        { 4, 2, { { "02", "22" }, { "21", "10" } } },
-        /* 012 + 211, 012 - 211, and 120 negated */
-        { 6, 3, { { "012", "211", "120" }, { "220", "101", "210" } } },
-        { 8, 5, { { "120", "201", "222", "211", "012" }, { "021", "222", "100", "011", "021" } } },
-        { 6, 4, { { "00", "00", "12", "12" }, { "00", "00", "21", "00" } } },
-    };
-    for (size_t i = 0; i < sizeof keys / sizeof keys[0]; i++)
-        for (uint64_t form = 0; form < 2; form++) {
-            module m;
-            open_module(&m, 7, form, keys[i].n, keys[i].k, 1);
-            for (size_t j = 0; j < keys[i].k; j++) store_digits(&m, keys[i].rows[form][j]);
-            convert(&m);
-            for (size_t j = 0; j < keys[i].k; j++) EXPECT(row_is(&m, j, keys[i].rows[1 - form][j]));
-            convert(&m);
-            for (size_t j = 0; j < keys[i].k; j++) EXPECT(row_is(&m, j, keys[i].rows[form][j]));
-            take_back_all();
-        }
-}
-
-/* y = 201 and s = 122 under the second of these keys: s changes to 022, and 201 with twice 101 and twice 210 is 220 */
-static void odd_check(void)
-{
-    module m;
-    open_module(&m, 7, WAVE_FORM_R, 6, 3, 5);
-    store_digits(&m, "012");
-    store_digits(&m, "211");
-    store_digits(&m, "120");
-    pack_digits("201", bytes(&m.y));
-    pack_digits("122", bytes(&m.s));
-    verdict(&m, 1, 4, 1);
-    convert(&m);
-    verdict(&m, 1, 4, 1);
-    take_back_all();
-}
-
-/* the example under each of these key numbers: stored, checked, converted, and refused under the others */
-static void numbers(uint64_t form)
+/* the example under each of these key numbers: stored, checked, and refused under the others */
+static void numbers(void)
 {
     static const uint64_t taken[] = { 0, 7, 255, 256, 65535, 65536, UINT32_MAX - UINT32_C(1), UINT32_MAX };
     enum { count = sizeof taken / sizeof taken[0] };
     for (size_t i = 0; i < count; i++) {
         module m;
-        open_paper(&m, taken[i], form);
+        open_module(&m, taken[i], 4, 2, 4);
+        store_digits(&m, "02");
+        store_digits(&m, "22");
         pack_digits("12", bytes(&m.y));
         pack_digits("11", bytes(&m.s));
         for (size_t j = 0; j < count; j++)
-            if (j != i) refused_key(&m, m.held, taken[j], right(&m), 22);
-        refused_key(&m, m.held, taken[i] + (UINT64_C(1) << 32), right(&m), 22);
-        refused_key(&m, m.held, UINT64_MAX, right(&m), 22);
-        verdict(&m, 3, 1, 1);
-        convert(&m);
+            if (j != i) refused_check(&m, m.held, taken[j], right(&m), 22);
+        refused_check(&m, m.held, taken[i] + (UINT64_C(1) << 32), right(&m), 22);
+        refused_check(&m, m.held, UINT64_MAX, right(&m), 22);
         verdict(&m, 3, 1, 1);
         take_back_all();
     }
 }
 
-/* numbers that are no form */
-static const uint64_t no_forms[] = { 2, 3, 256, 257, UINT64_C(1) << 32, (UINT64_C(1) << 32) + 1, UINT64_MAX };
-enum { NO_FORMS = sizeof no_forms / sizeof no_forms[0] };
-
-/* the refusals of a row, of a key in this form */
-static void rows_refused(uint64_t form)
+/* the refusals of a row */
+static void rows_refused(void)
 {
     module m;
-    wave_held held, none = { 0, 0, 0, 0, 0, 0, 0 };
+    wave_held held, none = { 0, 0, 0, 0, 0, 0 };
     counts c;
-    open_module(&m, 7, form, 200, 70, 100);
+    open_module(&m, 7, 200, 70, 100);
     c = right(&m);
     EXPECT(c.ones == 70 * 3 && c.row == 26 && c.s == 14 && c.wo == 3);
 
     refused_row(&m, none, c, 20);
     held = m.held; held.begun = 0; refused_row(&m, held, c, 20);
     held = m.held; held.begun = 0; held.n = 5; held.rows = 71; refused_row(&m, held, c, 20);
-    held = m.held; held.begun = 0; held.form = 2; refused_row(&m, held, c, 20);
-    for (size_t i = 0; i < NO_FORMS; i++) {
-        held = m.held; held.form = no_forms[i]; refused_row(&m, held, c, 1);
-        held.rows = 70; c.row++; refused_row(&m, held, c, 1); c.row--;
-    }
     held = m.held; held.begun = 2; refused_row(&m, held, c, 1);
     held = m.held; held.number = UINT32_MAX + UINT64_C(1); refused_row(&m, held, c, 1);
     held = m.held; held.number = UINT32_MAX + UINT64_C(8); refused_row(&m, held, c, 1);
@@ -488,54 +327,49 @@ static void rows_refused(uint64_t form)
     take_back_all();
 }
 
-/* the refusals of a check, and of a conversion, which makes the same tests of the key in this form */
-static void checks_refused(uint64_t form)
+/* the refusals of a check */
+static void checks_refused(void)
 {
     module m;
-    wave_held held, none = { 0, 0, 0, 0, 0, 0, 0 };
+    wave_held held, none = { 0, 0, 0, 0, 0, 0 };
     counts c;
-    open_module(&m, 7, form, 200, 70, 100);
+    open_module(&m, 7, 200, 70, 100);
     c = right(&m);
     for (int i = 0; i < 69; i++) store(&m);
-    refused_key(&m, m.held, 7, c, 20);
-    refused_key(&m, m.held, 8, c, 20);
+    refused_check(&m, m.held, 7, c, 20);
+    refused_check(&m, m.held, 8, c, 20);
     store(&m);
     refused_row(&m, m.held, c, 21);
     verdict(&m, 0, 0, 0);
 
-    refused_key(&m, none, 7, c, 20);
-    refused_key(&m, none, 0, c, 20);
-    held = m.held; held.begun = 0; held.w = 0; refused_key(&m, held, 8, c, 20);
-    held = m.held; held.begun = 0; held.form = 2; refused_key(&m, held, 8, c, 20);
-    for (size_t i = 0; i < NO_FORMS; i++) {
-        held = m.held; held.form = no_forms[i]; refused_key(&m, held, 7, c, 1);
-        held.rows = 69; c.ones++; refused_key(&m, held, 8, c, 1); c.ones--;
-    }
-    held = m.held; held.begun = 2; refused_key(&m, held, 7, c, 1);
-    held = m.held; held.begun = UINT64_MAX; refused_key(&m, held, 7, c, 1);
-    held = m.held; held.number = UINT32_MAX + UINT64_C(1); refused_key(&m, held, held.number, c, 1);
-    held = m.held; held.number = UINT32_MAX; refused_key(&m, held, 7, c, 22);
-    held = m.held; held.n = 2; refused_key(&m, held, 7, c, 1);
-    held = m.held; held.n = 201; refused_key(&m, held, 7, c, 1);
-    held = m.held; held.n = 16386; refused_key(&m, held, 7, c, 1);
-    held = m.held; held.k = 1; held.rows = 1; refused_key(&m, held, 7, c, 1);
-    held = m.held; held.k = 199; held.rows = 199; refused_key(&m, held, 7, c, 1);
-    held = m.held; held.w = 0; refused_key(&m, held, 7, c, 1);
-    held = m.held; held.w = 201; refused_key(&m, held, 7, c, 1);
-    held = m.held; held.rows = 71; refused_key(&m, held, 7, c, 1);
-    held = m.held; held.rows = 69; refused_key(&m, held, 8, c, 20);
-    held = m.held; held.rows = 0; refused_key(&m, held, 7, c, 20);
-    refused_key(&m, m.held, 8, c, 22);
-    refused_key(&m, m.held, 256, c, 22);
-    refused_key(&m, m.held, 7 + 256, c, 22);
-    refused_key(&m, m.held, UINT32_MAX, c, 22);
-    refused_key(&m, m.held, UINT32_MAX + UINT64_C(8), c, 22);
-    refused_key(&m, m.held, UINT64_MAX, c, 22);
+    refused_check(&m, none, 7, c, 20);
+    refused_check(&m, none, 0, c, 20);
+    held = m.held; held.begun = 0; held.w = 0; refused_check(&m, held, 8, c, 20);
+    held = m.held; held.begun = 2; refused_check(&m, held, 7, c, 1);
+    held = m.held; held.begun = UINT64_MAX; refused_check(&m, held, 7, c, 1);
+    held = m.held; held.number = UINT32_MAX + UINT64_C(1); refused_check(&m, held, held.number, c, 1);
+    held = m.held; held.number = UINT32_MAX; refused_check(&m, held, 7, c, 22);
+    held = m.held; held.n = 2; refused_check(&m, held, 7, c, 1);
+    held = m.held; held.n = 201; refused_check(&m, held, 7, c, 1);
+    held = m.held; held.n = 16386; refused_check(&m, held, 7, c, 1);
+    held = m.held; held.k = 1; held.rows = 1; refused_check(&m, held, 7, c, 1);
+    held = m.held; held.k = 199; held.rows = 199; refused_check(&m, held, 7, c, 1);
+    held = m.held; held.w = 0; refused_check(&m, held, 7, c, 1);
+    held = m.held; held.w = 201; refused_check(&m, held, 7, c, 1);
+    held = m.held; held.rows = 71; refused_check(&m, held, 7, c, 1);
+    held = m.held; held.rows = 69; refused_check(&m, held, 8, c, 20);
+    held = m.held; held.rows = 0; refused_check(&m, held, 7, c, 20);
+    refused_check(&m, m.held, 8, c, 22);
+    refused_check(&m, m.held, 256, c, 22);
+    refused_check(&m, m.held, 7 + 256, c, 22);
+    refused_check(&m, m.held, UINT32_MAX, c, 22);
+    refused_check(&m, m.held, UINT32_MAX + UINT64_C(8), c, 22);
+    refused_check(&m, m.held, UINT64_MAX, c, 22);
 
-    c = right(&m); c.ones++; refused_key(&m, m.held, 7, c, 2); refused_key(&m, m.held, 8, c, 22);
-    c = right(&m); c.ones--; refused_key(&m, m.held, 7, c, 2);
-    c = right(&m); c.twos++; refused_key(&m, m.held, 7, c, 2);
-    c = right(&m); c.twos--; refused_key(&m, m.held, 7, c, 2);
+    c = right(&m); c.ones++; refused_check(&m, m.held, 7, c, 2); refused_check(&m, m.held, 8, c, 22);
+    c = right(&m); c.ones--; refused_check(&m, m.held, 7, c, 2);
+    c = right(&m); c.twos++; refused_check(&m, m.held, 7, c, 2);
+    c = right(&m); c.twos--; refused_check(&m, m.held, 7, c, 2);
     c = right(&m); c.y++; refused_y(&m, c, 2);
     c = right(&m); c.y--; refused_y(&m, c, 2);
     c = right(&m); c.s++; refused_check(&m, m.held, 7, c, 2);
@@ -550,31 +384,31 @@ static void checks_refused(uint64_t form)
     for (size_t q = 0; q < m.ones.count; q += 11) {
         uint64_t bit = (uint64_t)1 << (q % 64);
         words(&m.ones)[q] |= bit; words(&m.twos)[q] |= bit;
-        refused_key(&m, m.held, 7, c, q % 3 == 2 && q % 64 >= 2 ? 4 : 3);
+        refused_check(&m, m.held, 7, c, q % 3 == 2 && q % 64 >= 2 ? 4 : 3);
         words(&m.ones)[q] ^= bit; words(&m.twos)[q] ^= bit;
     }
     /* 4 in one row, of the first, two others and the last, beside 3 in another row */
     for (size_t q = 2; q < m.ones.count; q += 69) {
         size_t other = q == 2 ? 209 : 0;
         words(&m.ones)[q] |= (uint64_t)1 << 63;
-        refused_key(&m, m.held, 7, c, 4);
+        refused_check(&m, m.held, 7, c, 4);
         words(&m.ones)[other] |= 1; words(&m.twos)[other] |= 1;
-        refused_key(&m, m.held, 7, c, 4);
+        refused_check(&m, m.held, 7, c, 4);
         words(&m.ones)[q] = 0;
-        refused_key(&m, m.held, 7, c, 3);
+        refused_check(&m, m.held, 7, c, 3);
         words(&m.ones)[other] = 0; words(&m.twos)[other] = 0;
     }
     verdict(&m, 0, 0, 0);
     /* 4 in each plane: a row of 130 trits uses two bits of its third word */
     for (size_t i = 0; i < 70; i += 23) {
         words(&m.twos)[3 * i + 2] = 4;
-        refused_key(&m, m.held, 7, c, 4);
+        refused_check(&m, m.held, 7, c, 4);
         words(&m.twos)[3 * i + 2] = 0;
         words(&m.ones)[3 * i + 2] = 4;
-        refused_key(&m, m.held, 7, c, 4);
+        refused_check(&m, m.held, 7, c, 4);
         /* before y and s, after every length */
         bytes(&m.y)[0] = 243; bytes(&m.s)[0] = 243;
-        refused_key(&m, m.held, 7, c, 4);
+        refused_check(&m, m.held, 7, c, 4);
         c.wt++; refused_check(&m, m.held, 7, c, 2); c.wt--;
         bytes(&m.y)[0] = 0; bytes(&m.s)[0] = 0;
         words(&m.ones)[3 * i + 2] = 0;
@@ -587,44 +421,12 @@ static void checks_refused(uint64_t form)
     take_back_all();
 }
 
-/* the refusals of a conversion in the order of the header: all is wrong at once, and is put right one by one; then the
-   lengths of the other planes alone */
-static void conversions_refused(uint64_t form)
-{
-    module m;
-    counts c;
-    open_module(&m, 7, form, 200, 69, 100);
-    for (int i = 0; i < 69; i++) store(&m);
-    wave_held held = m.held;
-    c = right(&m);
-    held.begun = 0; held.form = 2; held.rows = 68;
-    words(&m.ones)[5] = (uint64_t)1 << 63;
-    words(&m.ones)[9] = words(&m.twos)[9] = 1;
-    c.other_twos--;
-    refused_conversion(&m, held, 8, c, 20); held.begun = 1;
-    refused_conversion(&m, held, 8, c, 1); held.form = form;
-    refused_conversion(&m, held, 8, c, 20); held.rows = 69;
-    refused_conversion(&m, held, 8, c, 22);
-    refused_conversion(&m, held, 7, c, 2); c.other_twos++;
-    refused_conversion(&m, held, 7, c, 4); words(&m.ones)[5] = 0;
-    refused_conversion(&m, held, 7, c, 3); words(&m.ones)[9] = words(&m.twos)[9] = 0;
-    c = right(&m); c.other_ones++; refused_conversion(&m, held, 7, c, 2);
-    c = right(&m); c.other_ones--; refused_conversion(&m, held, 7, c, 2);
-    c = right(&m); c.other_twos++; refused_conversion(&m, held, 7, c, 2);
-    c = right(&m); c.other_twos--; refused_conversion(&m, held, 7, c, 2);
-    c = right(&m); c.other_ones = c.other_twos = 0; refused_conversion(&m, held, 7, c, 2);
-    c = right(&m); c.ones = c.twos = c.other_ones = c.other_twos = 0; refused_conversion(&m, held, 7, c, 2);
-    convert(&m);
-    EXPECT(all_zero(&m.ones) && all_zero(&m.twos));
-    take_back_all();
-}
-
 /* a nonzero trit past the length: two trits are in the last byte of a row and of y, three in that of s */
-static void past_the_length(uint64_t form)
+static void past_the_length(void)
 {
     module m;
     counts c;
-    open_module(&m, 7, form, 200, 68, 100);
+    open_module(&m, 7, 200, 68, 100);
     c = right(&m);
     EXPECT(c.row == 27 && c.s == 14);
     for (unsigned b = 9; b < 256; b++) {
@@ -653,16 +455,13 @@ static void past_the_length(uint64_t form)
         bytes(&m.s)[13] = (uint8_t)b;
         refused_check(&m, m.held, 7, c, b > 242 ? 5 : 15);
     }
-    /* the largest last bytes that pass: y ends with 22, s with 222. As R three rows twice over take nothing from y; as M
-       02 and 22 at the end of s change to 21 and 10, so that rows ending with 22 come to y once: 11 */
+    /* the largest last bytes that pass: y ends with 22, s with 222, and three rows twice over take nothing from y */
     bytes(&m.s)[13] = 26;
-    if (form == WAVE_FORM_R) verdict(&m, 0, 5, 0);
-    else verdict(&m, 2, 3, 0);
+    verdict(&m, 0, 5, 0);
     take_back_all();
 }
 
-/* the paper's verdict on random keys, trit by trit: as R y less s times the key, as M y plus its changed trits times the
-   key; then s */
+/* the paper's verdict on random keys, trit by trit: y - s times the key, then s */
 static unsigned trit_of(uint64_t *seed)
 {
     *seed = *seed * 6364136223846793005u + 1442695040888963407u;
@@ -680,93 +479,37 @@ static void random_key(module *m, unsigned char *key, uint64_t *seed)
     }
 }
 
-/* how often row i of a key in this form is added to y */
-static unsigned times_added(uint64_t form, size_t k, const unsigned char *s, size_t i)
-{
-    if (form == WAVE_FORM_R) return 2u * s[i];
-    if (i % 2 == 1) return s[i - 1] + 2u * s[i];
-    return i + 1 < k ? s[i] + s[i + 1] : s[i];
-}
-
 /* the trits of the full word by their value */
-static void count_trits(uint64_t form, size_t r, size_t k, const unsigned char *key, const unsigned char *y,
-                        const unsigned char *s, uint64_t *counts)
+static void count_trits(size_t r, size_t k, const unsigned char *key, const unsigned char *y, const unsigned char *s,
+                        uint64_t *counts)
 {
     memset(counts, 0, 3 * sizeof *counts);
     for (size_t j = 0; j < r; j++) {
         unsigned t = y[j];
-        for (size_t i = 0; i < k; i++) t += times_added(form, k, s, i) * key[i * r + j];
+        for (size_t i = 0; i < k; i++) t += 2u * s[i] * key[i * r + j];
         counts[t % 3]++;
     }
     for (size_t i = 0; i < k; i++) counts[s[i]]++;
 }
 
-/* trit j of row i of a key in this form, when it is converted: the trits of the pair are a and b */
-static unsigned converted_trit(uint64_t form, size_t r, size_t k, const unsigned char *key, size_t i, size_t j)
-{
-    if (i % 2 == 0 && i + 1 == k) return 2u * key[i * r + j] % 3;
-    unsigned a = key[(i - i % 2) * r + j], b = key[(i - i % 2 + 1) * r + j];
-    if (form == WAVE_FORM_R) return (i % 2 == 0 ? a + b : a + 2 * b) % 3;
-    return (i % 2 == 0 ? 2 * (a + b) : 2 * a + b) % 3;
-}
-
-/* the key that the module held in this form is now held converted, trit by trit, with nothing past a row */
-static void is_converted(const module *m, uint64_t form, const unsigned char *key)
-{
-    size_t k = m->held.k, r = m->held.n - k, w = WAVE_WORDS(r);
-    unsigned long as_due = 0;
-    for (size_t i = 0; i < k; i++)
-        for (size_t j = 0; j < 64 * w; j++) {
-            unsigned t = j < r ? converted_trit(form, r, k, key, i, j) : 0;
-            uint64_t one = words(&m->ones)[i * w + j / 64] >> j % 64 & 1;
-            uint64_t two = words(&m->twos)[i * w + j / 64] >> j % 64 & 1;
-            as_due += one == (t == 1) && two == (t == 2);
-        }
-    EXPECT(as_due == 64 * k * w);
-}
-
-/* the held planes are these words */
-static int planes_are(const module *m, const uint64_t *ones, const uint64_t *twos)
-{
-    size_t size = m->ones.count * 8;
-    return memcmp(words(&m->ones), ones, size) == 0 && memcmp(words(&m->twos), twos, size) == 0;
-}
-
-/* the key is converted and back, with the same verdict on the way */
-static void converted_and_back(module *m, const unsigned char *key, uint64_t ones, uint64_t twos, uint64_t yes)
-{
-    uint64_t form = m->held.form, *held_ones = malloc(m->ones.count * 8), *held_twos = malloc(m->twos.count * 8);
-    if (!held_ones || !held_twos) exit(2);
-    memcpy(held_ones, words(&m->ones), m->ones.count * 8);
-    memcpy(held_twos, words(&m->twos), m->twos.count * 8);
-    convert(m);
-    is_converted(m, form, key);
-    verdict(m, ones, twos, yes);
-    convert(m);
-    EXPECT(m->held.form == form && planes_are(m, held_ones, held_twos));
-    free(held_ones);
-    free(held_twos);
-}
-
-static void against_trits(uint64_t form, uint64_t n, uint64_t k, uint64_t seed)
+static void against_trits(uint64_t n, uint64_t k, uint64_t seed)
 {
     module m;
     size_t r = n - k;
     unsigned char *key = malloc(k * r), *y = malloc(r), *s = malloc(k);
     if (!key || !y || !s) exit(2);
-    open_module(&m, 200, form, n, k, n / 2);
+    open_module(&m, 200, n, k, n / 2);
     random_key(&m, key, &seed);
     for (int round = 0; round < 3; round++) {
         uint64_t counts[3];
         for (size_t j = 0; j < r; j++) y[j] = (unsigned char)trit_of(&seed);
         for (size_t i = 0; i < k; i++) s[i] = (unsigned char)(round == 2 ? 0 : trit_of(&seed));
-        count_trits(form, r, k, key, y, s, counts);
+        count_trits(r, k, key, y, s, counts);
         pack_trits(y, r, bytes(&m.y));
         pack_trits(s, k, bytes(&m.s));
         uint64_t weight = counts[1] + counts[2];
         m.held.w = weight == 0 ? 1 : weight;
         verdict(&m, counts[1], counts[2], weight != 0);
-        converted_and_back(&m, key, counts[1], counts[2], weight != 0);
         m.held.w = weight == n ? n - 1 : weight + 1;
         verdict(&m, counts[1], counts[2], 0);
         /* the ones alone, or the twos alone, are no yes where the sum is another number */
@@ -1088,11 +831,13 @@ static unsigned try_all(const module *m, size_t text_bytes)
 }
 
 /* random texts under the paper's key: some signature is right, and only the four without a 0 can be */
-static void texts(uint64_t form)
+static void texts(void)
 {
     uint64_t seed = 7;
     module m;
-    open_paper(&m, 7, form);
+    open_module(&m, 7, 4, 2, 4);
+    store_digits(&m, "02");
+    store_digits(&m, "22");
     for (size_t n = 0; n <= TEXT_MOST; n += 20) {
         random_bytes(&m.salt, &seed);
         random_bytes(&m.text, &seed);
@@ -1106,7 +851,7 @@ static void texts(uint64_t form)
 }
 
 /* the signature 11 on a text, and on the same changed, longer, cut, and with one bit of the salt changed */
-static void changed_texts(uint64_t form)
+static void changed_texts(void)
 {
     static const struct { const char *text; size_t at; uint8_t bit; uint64_t ones, twos, yes; } cases[] = {
         { "formula 12: white 250, red 12, blue 3", 0, 0, 3, 1, 1 },
@@ -1118,7 +863,9 @@ static void changed_texts(uint64_t form)
         { "formula 12: white 250, red 12, blue 3", 31, 16, 2, 1, 0 },
     };
     module m;
-    open_paper(&m, 7, form);
+    open_module(&m, 7, 4, 2, 4);
+    store_digits(&m, "02");
+    store_digits(&m, "22");
     pack_digits("11", bytes(&m.s));
     from_hex("4ce5e736bb261c9c1bce84fdfe7f142b6748f2aa723176c5926477e4d98df007", bytes(&m.salt));
     for (size_t i = 0; i < sizeof cases / sizeof cases[0]; i++) {
@@ -1132,13 +879,13 @@ static void changed_texts(uint64_t form)
 }
 
 /* random keys: y is the syndrome of a random text, and the verdict is the one trit by trit */
-static void texts_against_trits(uint64_t form, uint64_t n, uint64_t k, size_t text_bytes, uint64_t seed)
+static void texts_against_trits(uint64_t n, uint64_t k, size_t text_bytes, uint64_t seed)
 {
     module m;
     size_t r = n - k;
     unsigned char *key = malloc(k * r), *y = malloc(r), *s = malloc(k);
     if (!key || !y || !s) exit(2);
-    open_module(&m, 200, form, n, k, n / 2);
+    open_module(&m, 200, n, k, n / 2);
     random_key(&m, key, &seed);
     for (int round = 0; round < 3; round++) {
         uint64_t counts[3];
@@ -1146,14 +893,11 @@ static void texts_against_trits(uint64_t form, uint64_t n, uint64_t k, size_t te
         random_bytes(&m.text, &seed);
         syndrome_trits(bytes(&m.salt), bytes(&m.text), text_bytes, r, y);
         for (size_t i = 0; i < k; i++) s[i] = (unsigned char)(round == 2 ? 0 : trit_of(&seed));
-        count_trits(form, r, k, key, y, s, counts);
+        count_trits(r, k, key, y, s, counts);
         pack_trits(s, k, bytes(&m.s));
         m.held.w = counts[1] + counts[2] == 0 ? 1 : counts[1] + counts[2];
         verdict_text(&m, text_bytes, counts[1], counts[2], counts[1] + counts[2] != 0);
         EXPECT(text_as_y(&m, text_bytes).yes == (counts[1] + counts[2] != 0));
-        convert(&m);
-        verdict_text(&m, text_bytes, counts[1], counts[2], counts[1] + counts[2] != 0);
-        convert(&m);
         m.held.w = m.held.w == n ? n - 1 : m.held.w + 1;
         verdict_text(&m, text_bytes, counts[1], counts[2], 0);
     }
@@ -1162,14 +906,14 @@ static void texts_against_trits(uint64_t form, uint64_t n, uint64_t k, size_t te
 }
 
 /* the refusals of a text in the order of the header, but for 6: all is wrong at once, and is put right one by one */
-static void texts_refused(uint64_t form)
+static void texts_refused(void)
 {
     module m;
-    open_module(&m, 7, form, 200, 68, 100);
+    open_module(&m, 7, 200, 68, 100);
     for (int i = 0; i < 68; i++) store(&m);
     wave_held held = m.held;
     counts c = right(&m);
-    held.begun = 0; held.form = 2; held.rows = 67;
+    held.begun = 0; held.n = 201; held.rows = 67;
     words(&m.ones)[5] = (uint64_t)1 << 63;
     words(&m.ones)[9] = words(&m.twos)[9] = 1;
     bytes(&m.s)[0] = 243;
@@ -1177,7 +921,7 @@ static void texts_refused(uint64_t form)
 
     c.salt = 31;
     refused_by(ask_text, &m, held, 8, c, 20); held.begun = 1;
-    refused_by(ask_text, &m, held, 8, c, 1); held.form = form;
+    refused_by(ask_text, &m, held, 8, c, 1); held.n = 200;
     refused_by(ask_text, &m, held, 8, c, 20); held.rows = 68;
     refused_by(ask_text, &m, held, 8, c, 22);
     refused_by(ask_text, &m, held, 7, c, 2); c.salt = 32;
@@ -1200,7 +944,7 @@ static void text_lengths(void)
 {
     uint64_t seed = 12;
     module m;
-    open_module(&m, 7, WAVE_FORM_M, 200, 70, 100);
+    open_module(&m, 7, 200, 70, 100);
     for (int i = 0; i < 70; i++) store(&m);
     random_bytes(&m.salt, &seed);
     random_bytes(&m.text, &seed);
@@ -1211,52 +955,40 @@ static void text_lengths(void)
     take_back_all();
 }
 
-/* what is tested of a key in each form */
-static void in_form(uint64_t form)
-{
-    numbers(form);
-    rows_refused(form);
-    checks_refused(form);
-    conversions_refused(form);
-    past_the_length(form);
-    against_trits(form, 4, 2, 1);
-    against_trits(form, 6, 4, 2);
-    against_trits(form, 6, 3, 10);
-    against_trits(form, 130, 2, 3);
-    against_trits(form, 256, 128, 4);
-    against_trits(form, 256, 192, 5);
-    against_trits(form, 300, 99, 6);
-    against_trits(form, 514, 385, 7);
-    against_trits(form, 16384, 16382, 8);
-    against_trits(form, 16384, 3, 9);
-    texts(form);
-    changed_texts(form);
-    texts_refused(form);
-    texts_against_trits(form, 4, 2, 0, 1);
-    texts_against_trits(form, 130, 2, 37, 2);
-    texts_against_trits(form, 256, 128, 104, 3);
-    texts_against_trits(form, 300, 99, 105, 4);
-    texts_against_trits(form, 514, 385, 240, 5);
-    texts_against_trits(form, 16384, 16382, 1, 6);
-    texts_against_trits(form, 16384, 3, 300, 7);
-}
-
 int main(void)
 {
     beginnings();
     example();
-    example_as_m();
-    converted_by_hand();
-    odd_check();
+    numbers();
+    rows_refused();
+    checks_refused();
+    past_the_length();
     packings();
+    against_trits(4, 2, 1);
+    against_trits(6, 4, 2);
+    against_trits(130, 2, 3);
+    against_trits(256, 128, 4);
+    against_trits(256, 192, 5);
+    against_trits(300, 99, 6);
+    against_trits(514, 385, 7);
+    against_trits(16384, 16382, 8);
+    against_trits(16384, 3, 9);
     published();
     long_values();
     written_syndromes();
     plain_syndromes();
     syndromes_refused();
+    texts();
+    changed_texts();
     text_lengths();
-    in_form(WAVE_FORM_R);
-    in_form(WAVE_FORM_M);
+    texts_refused();
+    texts_against_trits(4, 2, 0, 1);
+    texts_against_trits(130, 2, 37, 2);
+    texts_against_trits(256, 128, 104, 3);
+    texts_against_trits(300, 99, 105, 4);
+    texts_against_trits(514, 385, 240, 5);
+    texts_against_trits(16384, 16382, 1, 6);
+    texts_against_trits(16384, 3, 300, 7);
     printf("checker host: %lu tests passed\n", passed);
     return 0;
 }

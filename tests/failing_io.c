@@ -1,4 +1,4 @@
-/* Loaded before the C library under a line program: reads of standard input and writes of standard output that are short, or fail.
+/* Loaded before the C library under check_lines: reads of standard input and writes of standard output that are short, or fail.
    The environment says how: READ_MOST, WRITE_MOST the most bytes of a call; READ_FAILS, WRITE_FAILS the number of the call, from 1, that fails,
    with READ_ERROR, WRITE_ERROR as its errno. What is not named is as ever. */
 #define _GNU_SOURCE

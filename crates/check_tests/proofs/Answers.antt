@@ -12,15 +12,14 @@ use Rattle.trits.specs.Planes.{words_for, zero_words}
 use Rattle.trits.specs.declared.Counts.{Counts}
 use Rattle.trits.specs.Refusal.{number_of, space_stays, space_exit}
 use Rattle.trits.specs.declared.refusal.Refusal.{Refusal}
-use Rattle.trits.proofs.Refusals.{number_positive, space_zero, refuse_all, demand_all, first_all}
+use Rattle.trits.proofs.Refusals.{number_positive, space_zero, refuse_all, demand_all}
 use Rattle.trits.proofs.Refusals.{Leaves, leaves_none, leaves_demand, leaves_first, leaves_planes}
 use Rattle.packed.specs.Packed.{bytes_for}
 use Rattle.packed.proofs.Turned.{leaves_packed}
 use Rattle.held_key.specs.declared.state.Held.{Held}
 use Rattle.held_key.specs.Held.{sound, row_trits, row_words, key_words}
 use Rattle.check_tests.specs.declared.Checked.{Checked}
-use Rattle.check_tests.specs.Check.{Check, PackedCheck, whole_refusal, whole_refusal_under, call_refusal, call_refusal_under, planes_lengths}
-use Rattle.check_tests.specs.Check.{planes_contents_under, packed_lengths}
+use Rattle.check_tests.specs.Check.{Check, PackedCheck, call_refusal, call_refusal_under, planes_lengths, planes_contents_under, packed_lengths}
 use Rattle.check_tests.specs.Check.{packed_contents_under}
 use Rattle.check_tests.specs.Check.{check_refusal, check_refusal_under, check_packed_refusal, check_packed_refusal_under, answered}
 
@@ -55,24 +54,18 @@ refused_alike {r} a b w l = rw (ne_eqb r 0 (λ z. omega arith))
 -- ---- the working space
 
 -- what is true of 0, 1, 2, 20 and 22 is true of what the state, the key number and the lengths of planes make
-pub whole_all : (P : ℕ → Type 0) → P 0 → P 1 → P 2 → P 20 → P 22 → (h : Held) (number a b : ℕ) → P (whole_refusal h number a b)
-unfolding whole_refusal_under
-whole_all P none size length no_key other h number a b =
+pub call_all : (P : ℕ → Type 0) → P 0 → P 1 → P 2 → P 20 → P 22 → (h : Held) (number a b d e : ℕ) → P (call_refusal h number a b d e)
+unfolding call_refusal_under
+call_all P none size length no_key other h number a b d e =
     refuse_all P (eqb h.begun 0) 20 _ no_key
     (demand_all P (sound h) 1 _ size
     (demand_all P (eqb h.rows h.k) 20 _ no_key
     (demand_all P (eqb number h.number) 22 _ other
     (demand_all P (eqb a (key_words h)) 2 _ length
-    (demand_all P (eqb b (key_words h)) 2 0 length
-    none)))))
-
-pub call_all : (P : ℕ → Type 0) → P 0 → P 1 → P 2 → P 20 → P 22 → (h : Held) (number a b d e : ℕ) → P (call_refusal h number a b d e)
-unfolding call_refusal_under
-call_all P none size length no_key other h number a b d e =
-    first_all P (whole_refusal h number a b) _ (whole_all P none size length no_key other h number a b)
+    (demand_all P (eqb b (key_words h)) 2 _ length
     (demand_all P (eqb d (row_words h)) 2 _ length
     (demand_all P (eqb e (row_words h)) 2 0 length
-    none))
+    none)))))))
 
 -- every refusal of a check leaves it
 leaves_call : (h : Held) (number a b d e : ℕ) → Leaves (call_refusal h number a b d e)

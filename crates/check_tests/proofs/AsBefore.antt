@@ -7,7 +7,7 @@ use borrow.Author.Tests.{ne_eqb}
 use Rattle.trits.specs.Trit.{Trit, weight_v, counts_v, sum_of}
 use Rattle.trits.specs.declared.Counts.{Counts}
 use Rattle.trits.proofs.Counting.{counts_weight}
-use Rattle.verdict.specs.Wavelet.{full_counts_in}
+use Rattle.verdict.specs.Verdict.{full_counts}
 use Rattle.held_key.specs.Held.{row_trits}
 use Rattle.check_tests.specs.Check.{Check, PackedCheck, check_refusal, check_packed_refusal, held_counts_under, answered, check_answer, check_answer_under}
 use Rattle.check_tests.specs.Check.{check_packed_answer, check_packed_answer_under}
@@ -21,11 +21,11 @@ by_sum (suc r) a b w e = let refused = ne_eqb (suc r) 0 (λ z. omega arith) in r
 
 -- the answer is that by `counts_v`
 pub check_counts_apart : (c : Check) → check_answer c ≡ check_by counts_v c
-unfolding check_answer_under held_counts_under full_counts_in
+unfolding check_answer_under held_counts_under full_counts
 check_counts_apart c = refl
 
 pub check_packed_counts_apart : (c : PackedCheck) → check_packed_answer c ≡ check_packed_by counts_v c
-unfolding check_packed_answer_under held_counts_under full_counts_in
+unfolding check_packed_answer_under held_counts_under full_counts
 check_packed_counts_apart c = refl
 
 -- and as it was by the weight

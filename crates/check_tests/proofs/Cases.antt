@@ -12,7 +12,7 @@ use Rattle.check_tests.specs.Check.{planes_contents, planes_contents_under, pack
 
 -- a whole key of two rows of two trits each
 abbrev whole : Held
-whole = record { begun = 1; number = 7; form = 0; n = 4; k = 2; w = 4; rows = 2 }
+whole = record { begun = 1; number = 7; n = 4; k = 2; w = 4; rows = 2 }
 
 -- in planes: the words of the two rows, of y and of s, each in ones and twos
 abbrev in_planes : ℕ → ℕ → ℕ → ℕ → ℕ → ℕ → ℕ → ℕ → ℕ

@@ -1,7 +1,6 @@
--- The laws of a check's tests and of its answer; either form of a key; what requests C-13 and C-15 leave as it was, what C-20 changes; computed cases.
+-- The laws of a check's tests and of its answer; what requests C-13 and C-15 leave as it was, what C-20 changes; computed cases.
 pub mod Passed
 pub mod Answers
-pub mod AsR
 pub mod AsBefore
 pub mod Bounds
 pub mod Stages

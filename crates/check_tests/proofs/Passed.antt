@@ -14,8 +14,7 @@ use Rattle.packed.proofs.RoundTrip.{one_form}
 use Rattle.held_key.specs.declared.state.Held.{Held}
 use Rattle.held_key.specs.Held.{sound, row_trits, row_words, key_words}
 use Rattle.check_tests.specs.Check.{Check, check_refusal, check_refusal_under, PackedCheck, check_packed_refusal, check_packed_refusal_under}
-use Rattle.check_tests.specs.Check.{whole_refusal, whole_refusal_under, call_refusal, call_refusal_under, planes_lengths, planes_contents, planes_contents_under}
-use Rattle.check_tests.specs.Check.{packed_lengths, packed_contents}
+use Rattle.check_tests.specs.Check.{call_refusal, call_refusal_under, planes_lengths, planes_contents, planes_contents_under, packed_lengths, packed_contents}
 use Rattle.check_tests.specs.Check.{packed_contents_under}
 use Rattle.held_key.specs.Steps.{Whole}
 
@@ -28,45 +27,24 @@ pub record Called (h : Held) (number ones twos work_ones work_twos : ℕ) : Type
   pub work_ones : work_ones ≡ row_words h
   pub work_twos : work_twos ≡ row_words h
 
--- a whole key, the one named, in planes of its size
-pub record Named (h : Held) (number ones twos : ℕ) : Type 0 where
-  pub is_sound : sound h ≡ true
-  pub all_rows : h.rows ≡ h.k
-  pub named : number ≡ h.number
-  pub ones_are : ones ≡ key_words h
-  pub twos_are : twos ≡ key_words h
-
-pub named_key : (h : Held) (number ones twos : ℕ) → whole_refusal h number ones twos ≡ 0 → Named h number ones twos
-unfolding whole_refusal_under
-named_key h number ones twos e =
+pub called : (h : Held) (number ones twos work_ones work_twos : ℕ) → call_refusal h number ones twos work_ones work_twos ≡ 0
+    → Called h number ones twos work_ones work_twos
+unfolding call_refusal_under
+called h number ones twos wo wt e =
     let a = passed_refuse (eqb h.begun 0) 20 _ (lit< tt) e in
     let b = passed_demand (sound h) 1 _ (lit< tt) a.1 in
     let c = passed_demand (eqb h.rows h.k) 20 _ (lit< tt) b.1 in
     let d = passed_demand (eqb number h.number) 22 _ (lit< tt) c.1 in
     let f = passed_demand (eqb ones (key_words h)) 2 _ (lit< tt) d.1 in
-    let g = passed_demand (eqb twos (key_words h)) 2 0 (lit< tt) f.1 in
+    let g = passed_demand (eqb twos (key_words h)) 2 _ (lit< tt) f.1 in
+    let i = passed_demand (eqb wo (row_words h)) 2 _ (lit< tt) g.1 in
+    let j = passed_demand (eqb wt (row_words h)) 2 0 (lit< tt) i.1 in
     record {
       is_sound = b.0;
       all_rows = eqb-true _ _ c.0;
       named = eqb-true _ _ d.0;
       ones_are = eqb-true _ _ f.0;
       twos_are = eqb-true _ _ g.0;
-    }
-
-pub called : (h : Held) (number ones twos work_ones work_twos : ℕ) → call_refusal h number ones twos work_ones work_twos ≡ 0
-    → Called h number ones twos work_ones work_twos
-unfolding call_refusal_under
-called h number ones twos wo wt e =
-    let a = passed_first (whole_refusal h number ones twos) _ e in
-    let i = passed_demand (eqb wo (row_words h)) 2 _ (lit< tt) a.1 in
-    let j = passed_demand (eqb wt (row_words h)) 2 0 (lit< tt) i.1 in
-    let n = named_key h number ones twos a.0 in
-    record {
-      is_sound = n.is_sound;
-      all_rows = n.all_rows;
-      named = n.named;
-      ones_are = n.ones_are;
-      twos_are = n.twos_are;
       work_ones = eqb-true _ _ i.0;
       work_twos = eqb-true _ _ j.0;
     }

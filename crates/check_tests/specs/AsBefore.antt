@@ -4,7 +4,7 @@ use Rattle.trits.specs.Trit.{Trit, weight_v}
 use Rattle.trits.specs.Planes.{trit_at}
 use Rattle.trits.specs.declared.Counts.{Counts}
 use Rattle.packed.specs.Packed.{packed_row}
-use Rattle.verdict.specs.Wavelet.{full_word_in}
+use Rattle.verdict.specs.Verdict.{full_word}
 use Rattle.held_key.specs.Held.{row_trits, held_key}
 use Rattle.check_tests.specs.declared.Checked.{Checked}
 use Rattle.check_tests.specs.Check.{Check, PackedCheck, check_refusal, check_packed_refusal, answered}
@@ -20,12 +20,12 @@ weight_alone v m = record { ones = weight_v v m; twos = 0 }
 abbrev pub check_word : Check → ℕ → Trit
 check_word c =
     let h = c.held in
-    full_word_in h.form (row_trits h) h.k (held_key h c.ones c.twos) (trit_at c.y_ones c.y_twos) (trit_at c.s_ones c.s_twos)
+    full_word (row_trits h) h.k (held_key h c.ones c.twos) (trit_at c.y_ones c.y_twos) (trit_at c.s_ones c.s_twos)
 
 abbrev pub check_packed_word : PackedCheck → ℕ → Trit
 check_packed_word c =
     let h = c.held in
-    full_word_in h.form (row_trits h) h.k (held_key h c.ones c.twos) (packed_row c.y) (packed_row c.s)
+    full_word (row_trits h) h.k (held_key h c.ones c.twos) (packed_row c.y) (packed_row c.s)
 
 -- the answer of a check that counts its full word so
 abbrev pub check_by : CountRule → Check → Checked

@@ -10,7 +10,7 @@ use Rattle.held_key.specs.declared.state.Held.{Held}
 use Rattle.check_tests.specs.declared.Checked.{Checked}
 use Rattle.check_tests.specs.declared.Verdict.{Verdict}
 use Rattle.check_tests.specs.declared.Verdict.TheVariants.{Yes, No, Refused}
-use Rattle.verdict.specs.Wavelet.{full_counts_in}
+use Rattle.verdict.specs.Verdict.{full_counts}
 use Rattle.held_key.specs.Held.{most_key_number, sound_under, row_trits, row_words, key_words, held_key_under}
 
 -- ---- what is lent
@@ -58,27 +58,18 @@ packed_check_of h number ones twos y s wo wt = record { held = h; number = numbe
 
 -- ---- refusals
 
--- the state and the key number, then the lengths of the key's planes
-unfoldable pub whole_refusal_under : ℕ → Held → ℕ → ℕ → ℕ → ℕ
-whole_refusal_under most h number ones twos =
+-- the state and the key number, then the lengths of the key's planes and of the working space
+unfoldable pub call_refusal_under : ℕ → Held → ℕ → ℕ → ℕ → ℕ → ℕ → ℕ
+call_refusal_under most h number ones twos work_ones work_twos =
     refuse (eqb h.begun 0) 20
     (demand (sound_under most h) 1
     (demand (eqb h.rows h.k) 20
     (demand (eqb number h.number) 22
     (demand (eqb ones (key_words h)) 2
     (demand (eqb twos (key_words h)) 2
-    0)))))
-
-abbrev pub whole_refusal : Held → ℕ → ℕ → ℕ → ℕ
-whole_refusal h number ones twos = whole_refusal_under most_key_number h number ones twos
-
--- then the lengths of the working space
-unfoldable pub call_refusal_under : ℕ → Held → ℕ → ℕ → ℕ → ℕ → ℕ → ℕ
-call_refusal_under most h number ones twos work_ones work_twos =
-    first (whole_refusal_under most h number ones twos)
     (demand (eqb work_ones (row_words h)) 2
     (demand (eqb work_twos (row_words h)) 2
-    0))
+    0)))))))
 
 abbrev pub call_refusal : Held → ℕ → ℕ → ℕ → ℕ → ℕ → ℕ
 call_refusal h number ones twos work_ones work_twos = call_refusal_under most_key_number h number ones twos work_ones work_twos
@@ -143,9 +134,9 @@ check_packed_refusal c = check_packed_refusal_under most_key_number planes_refus
 
 -- ---- the answer
 
--- the ones and twos of the full word of y and s under the held key, by the form that the state tells (request C-11)
+-- the ones and twos of the full word of y and s under the held key
 unfoldable pub held_counts_under : ℕ → Held → List ℕ → List ℕ → (ℕ → Trit) → (ℕ → Trit) → Counts
-held_counts_under most h ones twos y s = full_counts_in h.form (row_trits h) h.k (held_key_under most h ones twos) y s
+held_counts_under most h ones twos y s = full_counts (row_trits h) h.k (held_key_under most h ones twos) y s
 
 abbrev pub held_counts : Held → List ℕ → List ℕ → (ℕ → Trit) → (ℕ → Trit) → Counts
 held_counts h ones twos y s = held_counts_under most_key_number h ones twos y s

@@ -4,7 +4,7 @@ ghost use Rattle.trits.specs.Trit.{sum_of};
 ghost use Rattle.trits.specs.Refusal.{code_of, planes_refusal};
 ghost use Rattle.held_key.specs.Held.{sound, row_trits};
 ghost use Rattle.held_key.specs.Steps.{Whole};
-ghost use Rattle.check_tests.specs.Check.{whole_refusal, call_refusal, planes_lengths, planes_contents, packed_lengths, packed_contents};
+ghost use Rattle.check_tests.specs.Check.{call_refusal, planes_lengths, planes_contents, packed_lengths, packed_contents};
 ghost use Rattle.check_tests.specs.Check.{check_of, check_refusal, packed_check_of, check_packed_refusal, told, answered};
 
 use held_key::state::Held;
@@ -71,9 +71,16 @@ pub fn judge(tested: Outcome, counts: Counts, w: u64) -> Verdict
     }
 }
 
-// The first refusal that the state, the key number or the length of a plane of the key makes.
-pub fn test_whole(held: Held, number: u64, ones: usize, twos: usize) -> Outcome
-    ensures { code_of result ≡ whole_refusal held number ones twos }
+// The first refusal that the state, the key number or the length of a plane makes.
+pub fn test_call(
+    held: Held,
+    number: u64,
+    ones: usize,
+    twos: usize,
+    work_ones: usize,
+    work_twos: usize,
+) -> Outcome
+    ensures { code_of result ≡ call_refusal held number ones twos work_ones work_twos }
 {
     if held.begun == 0 {
         return Outcome::Refused(Refusal::NoKey);
@@ -92,34 +99,16 @@ pub fn test_whole(held: Held, number: u64, ones: usize, twos: usize) -> Outcome
         if twos != words {
             return Outcome::Refused(Refusal::Length);
         }
+        let row = held_key::state::row_words(held);
+        if work_ones != row {
+            return Outcome::Refused(Refusal::Length);
+        }
+        if work_twos != row {
+            return Outcome::Refused(Refusal::Length);
+        }
         return Outcome::Done;
     }
     Outcome::Refused(Refusal::Size)
-}
-
-// The same, and the lengths of the working space.
-pub fn test_call(
-    held: Held,
-    number: u64,
-    ones: usize,
-    twos: usize,
-    work_ones: usize,
-    work_twos: usize,
-) -> Outcome
-    ensures { code_of result ≡ call_refusal held number ones twos work_ones work_twos }
-{
-    let whole = test_whole(held, number, ones, twos);
-    if trits::refusal::code(whole) != 0 {
-        return whole;
-    }
-    let row = held_key::state::row_words(held);
-    if work_ones != row {
-        return Outcome::Refused(Refusal::Length);
-    }
-    if work_twos != row {
-        return Outcome::Refused(Refusal::Length);
-    }
-    Outcome::Done
 }
 
 // The contents of the held rows.

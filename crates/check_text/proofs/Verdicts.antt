@@ -18,7 +18,7 @@ use Rattle.packed.proofs.RoundTrip.{packed_length, packed_back, packed_accepted}
 use Rattle.syndrome.specs.Syndrome.{salt_bytes, hashed_row, hashed_refusal}
 use Rattle.syndrome.proofs.Made.{hashed_ended}
 use Rattle.verdict.specs.Verdict.{Extending, Found}
-use Rattle.held_key.specs.Held.{row_trits, held_r}
+use Rattle.held_key.specs.Held.{row_trits, held_key}
 use Rattle.check_tests.specs.Check.{call_refusal, packed_lengths, packed_contents, packed_contents_under, held_counts, answered}
 use Rattle.check_tests.specs.Check.{check_packed_refusal, check_packed_refusal_under, check_packed_answer, check_packed_answer_under, check_packed_work_ones}
 use Rattle.check_tests.specs.Check.{check_packed_work_twos}
@@ -75,14 +75,14 @@ module _ (c : TextCheck) (s : length c.salt ≡ salt_bytes) (g : hashed_refusal 
 
 pub text_verdict : (c : TextCheck) → check_text_refusal c ≡ 0 → let h = c.held in
     ((check_text_answer c).yes ≡ 1)
-    ↔ Found (row_trits h) h.k h.w (held_r h c.ones c.twos) (hashed_row (row_trits h) c.salt c.text) (packed_row c.s)
+    ↔ Found (row_trits h) h.k h.w (held_key h c.ones c.twos) (hashed_row (row_trits h) c.salt c.text) (packed_row c.s)
 unfolding check_text_answer
 text_verdict c e = rw e (found c.held c.ones c.twos (hashed_row (row_trits c.held) c.salt c.text) (packed_row c.s))
 
 -- one word at most, under the key that a check finds held
 pub text_once : (c : TextCheck) → check_text_refusal c ≡ 0 → let h = c.held in (v s e f : ℕ → Trit)
-    → Extending (row_trits h) h.k (held_r h c.ones c.twos) v s e
-    → Extending (row_trits h) h.k (held_r h c.ones c.twos) v s f → (q : ℕ) → q < h.n → e q ≡ f q
+    → Extending (row_trits h) h.k (held_key h c.ones c.twos) v s e
+    → Extending (row_trits h) h.k (held_key h c.ones c.twos) v s f → (q : ℕ) → q < h.n → e q ≡ f q
 text_once c z v s e f =
     let t = tested c (passed_first (tested_of c) _ (text_parted c ∙ z)).0 in
     found_once c.held c.ones c.twos v s e f t.key_called.is_sound

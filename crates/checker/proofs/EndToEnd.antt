@@ -1,4 +1,4 @@
--- Begin a key of either form, offer its k packed rows, check: nothing is refused, and the answer is that of the rows offered. Assumes nothing.
+-- Begin a key, offer its k packed rows, check: nothing is refused, and the answer is that of the rows offered. Assumes nothing.
 use mathlib.Core.Path.{◌≡◌, refl, sym, ap, ap₂, ◌∙◌, subst}
 use mathlib.Core.Bool.{true}
 use mathlib.Core.List.{List}
@@ -11,36 +11,33 @@ use borrow.Author.Tests.{eq-eqb, ne_eqb, le-leb}
 use Rattle.trits.specs.Trit.{Trit}
 use Rattle.trits.specs.Planes.{ones_of, twos_of, words_for}
 use Rattle.trits.specs.declared.Counts.{Counts}
-use Rattle.trits.specs.Refusal.{first}
 use Rattle.trits.proofs.Refusals.{first_goes, exit_new}
 use Rattle.trits.proofs.Reading.{length_ones, length_twos}
 use Rattle.packed.specs.Packed.{bytes_for, packed_row, packed_refusal}
 use Rattle.held_key.specs.declared.state.Held.{Held}
-use Rattle.verdict.specs.Verdict.{Key}
-use Rattle.verdict.specs.Wavelet.{full_counts_in}
+use Rattle.verdict.specs.Verdict.{Key, full_counts}
 use Rattle.held_key.specs.Held.{numbers_fit, sound, sound_under, held_key}
 use Rattle.held_key.specs.Store.{begin_refusal, begin_refusal_under, begun_held, begin_held, row_refusal, row_refusal_under, next_held, stored_held}
 use Rattle.held_key.specs.Store.{PackedStore, packed_store_of, store_packed_refusal, store_packed_ones, store_packed_twos}
 use Rattle.held_key.specs.Load.{Holding, offer, offer_all}
-use Rattle.check_tests.specs.Check.{whole_refusal_under, call_refusal, call_refusal_under, packed_lengths, packed_contents, packed_contents_under, held_counts_under}
-use Rattle.check_tests.specs.Check.{answered}
+use Rattle.check_tests.specs.Check.{call_refusal, call_refusal_under, packed_lengths, packed_contents, packed_contents_under, held_counts_under, answered}
 use Rattle.check_tests.specs.Check.{PackedCheck, packed_check_of, check_packed_refusal, check_packed_refusal_under, check_packed_counts, check_packed_answer}
 use Rattle.check_tests.specs.Check.{check_packed_answer_under}
 use Rattle.held_key.specs.Steps.{Whole}
-use Rattle.verdict.proofs.Wavelet.{counts_in_cong}
+use Rattle.verdict.proofs.FullWord.{counts_cong}
 use Rattle.held_key.proofs.Room.{stored_packed_passed}
 use Rattle.held_key.proofs.Storing.{plane_put}
 use Rattle.held_key.proofs.Loader.{put_size}
 use Rattle.held_key.proofs.Filled.{Filled, filled_none, filled_packed, filled_row, filled_passes}
 
-module _ (number form n k w : ℕ) (z : numbers_fit number form n k w ≡ true) (rows : ℕ → List ℕ)
+module _ (number n k w : ℕ) (z : numbers_fit number n k w ≡ true) (rows : ℕ → List ℕ)
     (size : (i : ℕ) → i < k → length (rows i) ≡ bytes_for (n - k)) (good : (i : ℕ) → i < k → packed_refusal (n - k) (rows i) ≡ 0) where
   -- the state with i rows
   abbrev pub held_at : ℕ → Held
-  held_at i = record { begun = 1; number = number; form = form; n = n; k = k; w = w; rows = i }
+  held_at i = record { begun = 1; number = number; n = n; k = k; w = w; rows = i }
 
   -- the state that beginning gives
-  pub begun : (h : Held) → (begin_refusal number form n k w ≡ 0) × (begin_held h number form n k w ≡ held_at 0)
+  pub begun : (h : Held) → (begin_refusal number n k w ≡ 0) × (begin_held h number n k w ≡ held_at 0)
   unfolding begin_refusal_under begin_held begun_held
   begun h = (rw z, rw z)
 
@@ -112,7 +109,7 @@ module _ (number form n k w : ℕ) (z : numbers_fit number form n k w ≡ true) 
     whole = record { is_sound = sound_at k (le_refl k); all_rows = refl; ones_size = g.ones_size; twos_size = g.twos_size }
 
     call_passes : call_refusal (held_at k) number (length s.ones) (length s.twos) (length wo) (length wt) ≡ 0
-    unfolding call_refusal_under whole_refusal_under first
+    unfolding call_refusal_under
     call_passes =
         rw (
           sound_at k (le_refl k),
@@ -140,14 +137,14 @@ module _ (number form n k w : ℕ) (z : numbers_fit number form n k w ≡ true) 
     unfolding check_packed_refusal_under
     accepted = sym (first_goes (sym call_passes) refl (first_goes (sym lengths_pass) refl contents_pass))
 
-    counts_are : check_packed_counts asks ≡ full_counts_in form (n - k) k key (packed_row y) (packed_row t)
+    counts_are : check_packed_counts asks ≡ full_counts (n - k) k key (packed_row y) (packed_row t)
     unfolding held_counts_under
-    counts_are = counts_in_cong form (n - k) k (held_key (held_at k) s.ones s.twos) key (packed_row y) (packed_row t)
+    counts_are = counts_cong (n - k) k (held_key (held_at k) s.ones s.twos) (packed_row y) (packed_row t) key
         (λ i q l. ap (λ (r : ℕ → Trit). r q) (filled_row whole key g.rows_are i l))
 
     -- the answer is that of the rows offered
     pub answer : check_packed_answer (packed_check_of (held_at k) number s.ones s.twos y t wo wt)
-        ≡ answered 0 (full_counts_in form (n - k) k key (packed_row y) (packed_row t)) w
+        ≡ answered 0 (full_counts (n - k) k key (packed_row y) (packed_row t)) w
     unfolding check_packed_answer_under
     answer = ap₂ (λ (a : ℕ) (b : Counts). answered a b w) accepted counts_are
 
@@ -155,9 +152,9 @@ module _ (number form n k w : ℕ) (z : numbers_fit number form n k w ≡ true) 
   pub loaded : (h : Held) (ones twos y t wo wt : List ℕ) → length ones ≡ k * words_for (n - k) → length twos ≡ k * words_for (n - k)
       → length y ≡ bytes_for (n - k) → length t ≡ bytes_for k
       → packed_refusal (n - k) y ≡ 0 → packed_refusal k t ≡ 0 → length wo ≡ words_for (n - k) → length wt ≡ words_for (n - k)
-      → let s = offer_all rows k (record { held = begin_held h number form n k w; ones = ones; twos = twos }) in
+      → let s = offer_all rows k (record { held = begin_held h number n k w; ones = ones; twos = twos }) in
       check_packed_answer (packed_check_of s.held number s.ones s.twos y t wo wt)
-      ≡ answered 0 (full_counts_in form (n - k) k key (packed_row y) (packed_row t)) w
+      ≡ answered 0 (full_counts (n - k) k key (packed_row y) (packed_row t)) w
   loaded h ones twos y t wo wt p q yl tl yg tg ol pl =
       let g = offered ones twos p q k (le_refl k) in
       let s = offer_all rows k (record { held = held_at 0; ones = ones; twos = twos }) in

@@ -1,5 +1,4 @@
--- The laws of the check: what rows are taken times, the product, the ones and twos, the working space; then what a host may rely on; last, computed cases.
-pub mod TakenTrits
+-- The laws of the check: the product, the ones and twos, the working space; then what a host may rely on; last, computed cases.
 pub mod Product
 pub mod Weighed
 pub mod Spaces

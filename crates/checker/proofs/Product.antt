@@ -1,4 +1,4 @@
--- y less the rows, one after the other, and the ones and twos of the full word. Assumes nothing.
+-- y - s·R-transposed, one row after the other, and the ones and twos of the full word. Assumes nothing.
 use mathlib.Core.Path.{◌≡◌, refl, sym, ap, ap₂, ◌∙◌, fun_ext}
 use mathlib.Core.List.{List}
 use Prim.Native.Nat.{ℕ, ◌+◌, ◌-◌, ◌≤◌, ◌<◌}
@@ -12,10 +12,9 @@ use Rattle.trits.proofs.Counting.{sum_cong, sum_add}
 use Rattle.trits.proofs.Counted.{same_counts}
 use Rattle.trits.proofs.Ends.{sum_ended}
 use Rattle.trits.proofs.Products.{dot_zero}
-use Rattle.verdict.specs.Verdict.{Key, times_key}
-use Rattle.verdict.specs.Wavelet.{full_word_in, full_counts_in}
-use Rattle.checker.specs.Steps.{taken_trits, more_counts, add_counts}
-use Rattle.checker.proofs.TakenTrits.{word_low, word_high}
+use Rattle.verdict.specs.Verdict.{Key, times_key, full_word, full_counts}
+use Rattle.verdict.proofs.FullWord.{full_low, full_high}
+use Rattle.checker.specs.Steps.{more_counts, add_counts}
 
 -- one row times a trit
 module _ (u r : ℕ → Trit) (t : ℕ) where
@@ -61,33 +60,26 @@ pub turn_counts : (s : ℕ → Trit) (i : ℕ) {a c : Counts} (x : Trit) → x �
 unfolding sum_to
 turn_counts s i x e p q = q ∙ ap₂ more_counts p e ∙ ap (counts_v s) (sym (add-one i))
 
--- a key of either form, and t, what its rows are taken times
-module _ (form m k : ℕ) (R : Key) (y s : ℕ → Trit) (places : ℕ) (l : m ≤ places) (yz : (q : ℕ) → m ≤ q → y q ≡ t0)
+module _ (m k : ℕ) (R : Key) (y s : ℕ → Trit) (places : ℕ) (l : m ≤ places) (yz : (q : ℕ) → m ≤ q → y q ≡ t0)
     (rz : (i q : ℕ) → i < k → m ≤ q → R i q ≡ t0) where
-  abbrev t : ℕ → Trit
-  t = taken_trits form k s
-
-  abbrev word : ℕ → Trit
-  word = full_word_in form m k R y s
-
-  -- y less the rows, as the first part's planes hold it
+  -- y less the rows that s names, as the first part's planes hold it
   abbrev left : ℕ → Trit
-  left = zip_v sub_t y (times_key k R t)
+  left = zip_v sub_t y (times_key k R s)
 
   left_ended : (q : ℕ) → m ≤ q → left q ≡ t0
   unfolding times_key
-  left_ended q h = ap₂ sub_t (yz q h) (dot_zero k t (λ j. R j q) (λ j b. ap (mul_t (t j)) (rz j q b h) ∙ mul-zero (t j)))
+  left_ended q h = ap₂ sub_t (yz q h) (dot_zero k s (λ j. R j q) (λ j b. ap (mul_t (s j)) (rz j q b h) ∙ mul-zero (s j)))
 
   -- whatever is counted of a trit, if 0 counts for nothing: the first part's planes and s together have the full word's
-  parts : (f : Trit → ℕ) → f t0 ≡ 0 → sum_to (λ i. f (left i)) places + sum_to (λ i. f (s i)) k ≡ sum_to (λ i. f (word i)) (m + k)
+  parts : (f : Trit → ℕ) → f t0 ≡ 0 → sum_to (λ i. f (left i)) places + sum_to (λ i. f (s i)) k ≡ sum_to (λ i. f (full_word m k R y s i)) (m + k)
   parts f z =
       let low : sum_to (λ i. f (left i)) places ≡ sum_to (λ i. f (left i)) m = sum_ended (λ i. f (left i)) m places l (λ i h. ap f (left_ended i h) ∙ z) in
-      let head : sum_to (λ i. f (left i)) m ≡ sum_to (λ i. f (word i)) m = sum_cong m _ _ (λ i h. ap f (sym (word_low form m k R y s i h))) in
-      let last : sum_to (λ i. f (s i)) k ≡ sum_to (λ i. f (word (m + i))) k = sum_cong k _ _ (λ i h. ap f (sym (word_high form m k R y s i))) in
-      omega (arith, low, head, last, sum_add m k (λ i. f (word i)))
+      let head : sum_to (λ i. f (left i)) m ≡ sum_to (λ i. f (full_word m k R y s i)) m = sum_cong m _ _ (λ i h. ap f (sym (full_low m k R y s i h))) in
+      let last : sum_to (λ i. f (s i)) k ≡ sum_to (λ i. f (full_word m k R y s (m + i))) k = sum_cong k _ _ (λ i h. ap f (sym (full_high m k R y s i))) in
+      omega (arith, low, head, last, sum_add m k (λ i. f (full_word m k R y s i)))
 
   -- so have their ones and their twos
-  pub full_counts : {a d : Counts} → a ≡ counts_v (zip_v sub_t y (times_key k R (taken_trits form k s))) places → d ≡ counts_v s k
-      → add_counts a d ≡ full_counts_in form m k R y s
-  unfolding full_counts_in
-  full_counts e f = rw (e, f) (same_counts (parts one refl) (parts two refl))
+  pub full_counts_here : {a d : Counts} → a ≡ counts_v (zip_v sub_t y (times_key k R s)) places → d ≡ counts_v s k
+      → add_counts a d ≡ full_counts m k R y s
+  unfolding full_counts
+  full_counts_here e f = rw (e, f) (same_counts (parts one refl) (parts two refl))

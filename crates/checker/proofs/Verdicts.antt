@@ -19,14 +19,13 @@ use Rattle.trits.proofs.Ends.{upto_ended}
 use Rattle.packed.specs.Packed.{bytes_for, packed_row, packed_bytes}
 use Rattle.packed.proofs.RoundTrip.{packed_length, packed_back, packed_accepted}
 use Rattle.held_key.specs.declared.state.Held.{Held}
-use Rattle.verdict.specs.Verdict.{Extending, Found}
-use Rattle.held_key.specs.Held.{sound, row_trits, held_r}
-use Rattle.check_tests.specs.Check.{call_refusal, packed_lengths, packed_contents, packed_contents_under, held_counts, answered}
+use Rattle.verdict.specs.Verdict.{full_counts, Extending, Found}
+use Rattle.held_key.specs.Held.{sound, row_trits, held_key}
+use Rattle.check_tests.specs.Check.{call_refusal, packed_lengths, packed_contents, packed_contents_under, held_counts, held_counts_under, answered}
 use Rattle.check_tests.specs.Check.{Check, check_refusal, check_refusal_under, check_answer, check_answer_under, PackedCheck, check_packed_refusal}
 use Rattle.check_tests.specs.Check.{check_packed_refusal_under, check_packed_answer, check_packed_answer_under}
 use Rattle.held_key.proofs.Sizes.{sizes}
 use Rattle.verdict.proofs.FullWord.{verifier, extends_once, counts_of, yes_sum}
-use Rattle.check_tests.proofs.AsR.{held_counts_r}
 use Rattle.check_tests.proofs.Passed.{Fitted, fitted, contents, check_passed, check_packed_passed}
 
 -- ---- yes
@@ -42,36 +41,37 @@ answered_yes c w = (forth (ℕ_discrete (sum_of c) w), λ e. ap (λ (t : Bool). 
 
 -- yes, where nothing is refused
 module _ (h : Held) (ones twos : List ℕ) (y s : ℕ → Trit) where
-  pub found : ((answered 0 (held_counts h ones twos y s) h.w).yes ≡ 1) ↔ Found (row_trits h) h.k h.w (held_r h ones twos) y s
+  pub found : ((answered 0 (held_counts h ones twos y s) h.w).yes ≡ 1) ↔ Found (row_trits h) h.k h.w (held_key h ones twos) y s
+  unfolding held_counts_under
   found =
-      let R = held_r h ones twos in
+      let R = held_key h ones twos in
       let v = verifier (row_trits h) h.k R y s h.w in
-      let e = held_counts_r h ones twos y s in
-      let a = answered_yes (held_counts h ones twos y s) h.w in
+      let a = answered_yes (full_counts (row_trits h) h.k R y s) h.w in
       let g = yes_sum (row_trits h) h.k R y s h.w in
-      ((λ q. v.0 (g.1 (sym (ap sum_of e) ∙ a.0 q))), λ f. a.1 (ap sum_of e ∙ g.0 (v.1 f)))
+      ((λ q. v.0 (g.1 (a.0 q))), λ f. a.1 (g.0 (v.1 f)))
 
 -- the check in planes
 pub check_verdict : (c : Check) → check_refusal c ≡ 0 → let h = c.held in
-    ((check_answer c).yes ≡ 1) ↔ Found (row_trits h) h.k h.w (held_r h c.ones c.twos) (trit_at c.y_ones c.y_twos) (trit_at c.s_ones c.s_twos)
+    ((check_answer c).yes ≡ 1) ↔ Found (row_trits h) h.k h.w (held_key h c.ones c.twos) (trit_at c.y_ones c.y_twos) (trit_at c.s_ones c.s_twos)
 unfolding check_answer_under
 check_verdict c e = rw e (found c.held c.ones c.twos (trit_at c.y_ones c.y_twos) (trit_at c.s_ones c.s_twos))
 
 -- the packed check
 pub check_packed_verdict : (c : PackedCheck) → check_packed_refusal c ≡ 0 → let h = c.held in
-    ((check_packed_answer c).yes ≡ 1) ↔ Found (row_trits h) h.k h.w (held_r h c.ones c.twos) (packed_row c.y) (packed_row c.s)
+    ((check_packed_answer c).yes ≡ 1) ↔ Found (row_trits h) h.k h.w (held_key h c.ones c.twos) (packed_row c.y) (packed_row c.s)
 unfolding check_packed_answer_under
 check_packed_verdict c e = rw e (found c.held c.ones c.twos (packed_row c.y) (packed_row c.s))
 
 -- the ones and twos that a check answers are those of that word
-word_counts : (h : Held) (ones twos : List ℕ) (y s v : ℕ → Trit) → sound h ≡ true → Extending (row_trits h) h.k (held_r h ones twos) y s v
+word_counts : (h : Held) (ones twos : List ℕ) (y s v : ℕ → Trit) → sound h ≡ true → Extending (row_trits h) h.k (held_key h ones twos) y s v
     → held_counts h ones twos y s ≡ counts_v v h.n
+unfolding held_counts_under
 word_counts h ones twos y s v z x =
     let all : row_trits h + h.k ≡ h.n = omega (arith, sizes h z) in
-    held_counts_r h ones twos y s ∙ counts_of (row_trits h) h.k (held_r h ones twos) y s v x.has_syndrome x.extends ∙ ap (counts_v v) all
+    counts_of (row_trits h) h.k (held_key h ones twos) y s v x.has_syndrome x.extends ∙ ap (counts_v v) all
 
 pub check_counts_law : (c : Check) → check_refusal c ≡ 0 → (v : ℕ → Trit) → let h = c.held in
-    Extending (row_trits h) h.k (held_r h c.ones c.twos) (trit_at c.y_ones c.y_twos) (trit_at c.s_ones c.s_twos) v
+    Extending (row_trits h) h.k (held_key h c.ones c.twos) (trit_at c.y_ones c.y_twos) (trit_at c.s_ones c.s_twos) v
     → ((check_answer c).ones ≡ ones_v v h.n) × ((check_answer c).twos ≡ twos_v v h.n)
 unfolding check_answer_under answered
 check_counts_law c e v x =
@@ -79,7 +79,7 @@ check_counts_law c e v x =
     (rw e (ap (λ (k : Counts). k.ones) f), rw e (ap (λ (k : Counts). k.twos) f))
 
 pub check_packed_counts_law : (c : PackedCheck) → check_packed_refusal c ≡ 0 → (v : ℕ → Trit) → let h = c.held in
-    Extending (row_trits h) h.k (held_r h c.ones c.twos) (packed_row c.y) (packed_row c.s) v
+    Extending (row_trits h) h.k (held_key h c.ones c.twos) (packed_row c.y) (packed_row c.s) v
     → ((check_packed_answer c).ones ≡ ones_v v h.n) × ((check_packed_answer c).twos ≡ twos_v v h.n)
 unfolding check_packed_answer_under answered
 check_packed_counts_law c e v x =
@@ -88,9 +88,9 @@ check_packed_counts_law c e v x =
     (rw e (ap (λ (k : Counts). k.ones) f), rw e (ap (λ (k : Counts). k.twos) f))
 
 -- and there is one such word
-pub found_once : (h : Held) (ones twos : List ℕ) (y s e f : ℕ → Trit) → sound h ≡ true → Extending (row_trits h) h.k (held_r h ones twos) y s e
-    → Extending (row_trits h) h.k (held_r h ones twos) y s f → (q : ℕ) → q < h.n → e q ≡ f q
-found_once h ones twos y s e f z a b q l = extends_once (row_trits h) h.k (held_r h ones twos) y s e f a b q (omega (arith, sizes h z))
+pub found_once : (h : Held) (ones twos : List ℕ) (y s e f : ℕ → Trit) → sound h ≡ true → Extending (row_trits h) h.k (held_key h ones twos) y s e
+    → Extending (row_trits h) h.k (held_key h ones twos) y s f → (q : ℕ) → q < h.n → e q ≡ f q
+found_once h ones twos y s e f z a b q l = extends_once (row_trits h) h.k (held_key h ones twos) y s e f a b q (omega (arith, sizes h z))
 
 -- ---- the same trits in planes and packed
 

@@ -11,33 +11,31 @@ use Rattle.trits.specs.declared.Counts.{Counts}
 use Rattle.trits.proofs.Refusals.{planes_passed}
 use Rattle.trits.proofs.Counting.{counts_le}
 use Rattle.held_key.specs.declared.state.Held.{Held}
-use Rattle.verdict.specs.Verdict.{times_key}
-use Rattle.verdict.specs.Wavelet.{full_word_in, full_counts_in}
+use Rattle.verdict.specs.Verdict.{times_key, full_word, full_counts}
 use Rattle.held_key.specs.Held.{row_trits, row_words, held_key}
 use Rattle.check_tests.specs.Check.{Check, PackedCheck, check_refusal, check_packed_refusal, held_counts, held_counts_under}
 use Rattle.held_key.specs.Steps.{Whole}
 use Rattle.held_key.proofs.Sizes.{sizes}
 use Rattle.held_key.proofs.Stretch.{row_past}
 use Rattle.check_tests.proofs.Passed.{whole, check_passed, check_packed_passed}
-use Rattle.checker.specs.Steps.{taken_trits, ForWeigh, ForWeighPacked, add_counts}
-use Rattle.checker.proofs.Product.{full_counts}
+use Rattle.checker.specs.Steps.{ForWeigh, ForWeighPacked, add_counts}
+use Rattle.checker.proofs.Product.{full_counts_here}
 
 -- ---- the ones and twos that the working space and s give
 
 pub weighed : {h : Held} {ones twos o t p q : List ℕ} {a : ℕ} {c d : Counts} (y s : ℕ → Trit) → Whole h ones twos
     → planes_refusal ones twos h.k (row_trits h) ≡ 0
     → ((q : ℕ) → row_trits h ≤ q → y q ≡ t0) → Reads o t a y → a ≡ row_words h
-    → Reads p q (length o) (zip_v sub_t (trit_at o t) (times_key h.k (held_key h ones twos) (taken_trits h.form h.k s)))
+    → Reads p q (length o) (zip_v sub_t (trit_at o t) (times_key h.k (held_key h ones twos) s))
     → c ≡ counts_v (trit_at p q) (64 * length p) → d ≡ counts_v s h.k
     → add_counts c d ≡ held_counts h ones twos y s
 unfolding held_counts_under
 weighed {h} {ones} {twos} {o} {t} {p} {q} {a} {c} {d} y s w z yz r e g ec ed =
     let R = held_key h ones twos in
-    let t = taken_trits h.form h.k s in
     let l : length p ≡ row_words h = g.size ∙ r.size ∙ e in
-    let f : trit_at p q ≡ zip_v sub_t y (times_key h.k R t) = g.trits ∙ ap (λ (x : ℕ → Trit). zip_v sub_t x (times_key h.k R t)) r.trits in
+    let f : trit_at p q ≡ zip_v sub_t y (times_key h.k R s) = g.trits ∙ ap (λ (x : ℕ → Trit). zip_v sub_t x (times_key h.k R s)) r.trits in
     let past = (planes_passed ones twos h.k (row_trits h) z).1 in
-    full_counts h.form (row_trits h) h.k R y s (64 * row_words h) (omega arith) yz (λ i q i<k b. row_past w i i<k past q b)
+    full_counts_here (row_trits h) h.k R y s (64 * row_words h) (omega arith) yz (λ i q i<k b. row_past w i i<k past q b)
     (ec ∙ ap₂ (λ (x : ℕ → Trit) (y : ℕ). counts_v x (64 * y)) f l) ed
 
 -- the ones and twos of a row are at most its places
@@ -46,9 +44,9 @@ at_most {p} {q} r e = omega (arith, ap sum_of e, counts_le (trit_at p q) (64 * l
 
 -- and those of a full word at most n
 pub few_counts : {h : Held} {ones twos : List ℕ} {c : Counts} (y s : ℕ → Trit) → Whole h ones twos → c ≡ held_counts h ones twos y s → sum_of c ≤ 16384
-unfolding held_counts_under full_counts_in
+unfolding held_counts_under full_counts
 few_counts {h} {ones} {twos} {c} y s w e =
-    omega (arith, ap sum_of e, counts_le (full_word_in h.form (row_trits h) h.k (held_key h ones twos) y s) (row_trits h + h.k), sizes h w.is_sound)
+    omega (arith, ap sum_of e, counts_le (full_word (row_trits h) h.k (held_key h ones twos) y s) (row_trits h + h.k), sizes h w.is_sound)
 
 -- ---- a check that passed its tests can be weighed
 

@@ -1,48 +1,14 @@
 -- What the weighing asks of the key, y, s and the working space. No rule of the paper: code is tied to it. Assumes nothing.
-use Rattle.std.specs.Prelude.{◌≡◌, cond, List, ℕ, ◌+◌, ◌-◌, ◌*◌, ◌%◌, ◌≤◌, ◌<◌, eqb, ltb, length}
-use Rattle.trits.specs.Trit.{Trit, t0, add_t, sub_t, neg_t, one, two, trit_of}
+use Rattle.std.specs.Prelude.{◌≡◌, List, ℕ, ◌+◌, ◌*◌, ◌≤◌, ◌<◌, length}
+use Rattle.trits.specs.Trit.{Trit, t0, one, two}
 use Rattle.trits.specs.Planes.{Row, trit_at}
 use Rattle.trits.specs.Refusal.{planes_refusal}
 use Rattle.trits.specs.declared.Counts.{Counts}
-use Rattle.packed.specs.Packed.{bytes_for, byte_table, packed_row, packed_refusal}
-use Rattle.verdict.specs.Wavelet.{is_r, changed_trits}
+use Rattle.packed.specs.Packed.{bytes_for, byte_table, packed_refusal}
 use Rattle.held_key.specs.Steps.{Whole, Work}
 use Rattle.held_key.specs.declared.state.Held.{Held}
 use Rattle.held_key.specs.Held.{row_trits, row_words}
 use Rattle.check_tests.specs.Check.{planes_lengths, planes_contents, packed_lengths, packed_contents}
-
--- ---- what rows are taken times
-
--- the other place of a pair of k places; the last place of an odd k has no other, and stands for it
-unfoldable pub partner_of : ℕ → ℕ → ℕ
-partner_of k i = cond (eqb (i % 2) 1) (i - 1) (cond (ltb (i + 1) k) (i + 1) i)
-
--- the changed trit at place i, from the trit a there and the other b of its pair, which stands at place p
-unfoldable pub changed_by : ℕ → ℕ → Trit → Trit → Trit
-changed_by i p a b = cond (ltb p i) (sub_t b a) (cond (ltb i p) (add_t a b) a)
-
--- by what row i is multiplied and then taken from y: by its trit of s, or under M, whose rows are added, by the negative of its changed trit
-unfoldable pub taken_trits : ℕ → ℕ → (ℕ → Trit) → ℕ → Trit
-taken_trits form k s i = cond (is_r form) (s i) (neg_t (changed_trits k s i))
-
--- a state that counts all its rows, s in planes and one of its places
-pub record ForRowTrit (held : Held) (s_ones s_twos : List ℕ) (i : ℕ) : Type 0 where
-  pub all_rows : held.rows ≡ held.k
-  pub s_trits : held.k ≤ 64 * length s_ones
-  pub s_twos : length s_twos ≡ length s_ones
-  pub place : i < held.k
-
--- or packed s that was tested, the byte table, one of its places and the trit there
-pub record ForPackedRowTrit (held : Held) (s table : List ℕ) (i t : ℕ) : Type 0 where
-  pub all_rows : held.rows ≡ held.k
-  pub s_size : length s ≡ bytes_for held.k
-  pub s_tested : packed_refusal held.k s ≡ 0
-  pub is_table : table ≡ byte_table
-  pub place : i < held.k
-  pub trit : t < 3
-  pub trit_is : trit_of t ≡ packed_row s i
-
--- ---- the weighing
 
 -- a whole key, the word under work, a row of the key and a trit
 pub record ForTakeRow (held : Held) (ones twos : List ℕ) (i t : ℕ) (work_ones work_twos : List ℕ) : Type 0 where

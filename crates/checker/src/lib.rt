@@ -1,5 +1,4 @@
 // The check under a held key.
-mod changing; // what the rows are taken times
 pub mod weighing; // the ones and twos of the full word
 
 ghost use Rattle.std.specs.Prelude.{◌≡◌};

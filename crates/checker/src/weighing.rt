@@ -6,7 +6,7 @@ ghost use Rattle.packed.specs.Packed.{packed_row};
 ghost use Rattle.verdict.specs.Verdict.{times_key};
 ghost use Rattle.held_key.specs.Held.{held_key};
 ghost use Rattle.check_tests.specs.Check.{held_counts};
-ghost use Rattle.checker.specs.Steps.{ForTakeRow, ForTakeRows, ForTakeByTable, ForTakePackedRows, taken_trits, more_counts, add_counts};
+ghost use Rattle.checker.specs.Steps.{ForTakeRow, ForTakeRows, ForTakeByTable, ForTakePackedRows, more_counts, add_counts};
 ghost use Rattle.checker.specs.Steps.{ForWeigh, ForWeighMade, ForWeighPacked};
 
 use held_key::state::Held;
@@ -39,7 +39,7 @@ fn take_row(
     rows::add_row(work_ones, work_twos, row_ones, row_twos);
 }
 
-// Each row of the key, times its trit of s in planes or as M has it, is taken from the word.
+// Each row of the key, times its trit of s in planes, is taken from the word.
 fn take_rows(
     held: Held,
     ones: &[u64],
@@ -52,13 +52,12 @@ fn take_rows(
     requires { ForTakeRows held ones.now twos.now s_ones.now s_twos.now work_ones.old work_twos.old }
     ensures { Reads work_ones.new work_twos.new (length work_ones.old)
         (zip_v sub_t (trit_at work_ones.old work_twos.old)
-        (times_key held.k (held_key held ones.now twos.now)
-        (taken_trits held.form held.k (trit_at s_ones.now s_twos.now)))) }
+        (times_key held.k (held_key held ones.now twos.now) (trit_at s_ones.now s_twos.now))) }
 {
     let k = held.rows as usize; // all are stored
     let mut i = 0;
     while i < k {
-        let t = super::changing::row_trit(held, s_ones, s_twos, i);
+        let t = planes::places::trit_at(s_ones, s_twos, i);
         take_row(held, ones, twos, i, t, work_ones, work_twos);
         i += 1;
     }
@@ -77,7 +76,7 @@ fn count_trit(counts: Counts, t: u8) -> Counts
     }
 }
 
-// Each row of the key, times its trit of a packed s or as M has it, is taken from the word; the ones and twos of s.
+// Each row of the key, times its trit of a packed s, is taken from the word; the ones and twos of s.
 fn take_by_table(
     held: Held,
     ones: &[u64],
@@ -91,16 +90,15 @@ fn take_by_table(
     ensures value { result ≡ counts_v (packed_row s.now) held.k }
     ensures reads { Reads work_ones.new work_twos.new (length work_ones.old)
         (zip_v sub_t (trit_at work_ones.old work_twos.old)
-        (times_key held.k (held_key held ones.now twos.now) (taken_trits held.form held.k (packed_row s.now)))) }
+        (times_key held.k (held_key held ones.now twos.now) (packed_row s.now))) }
 {
     let k = held.rows as usize; // all are stored
     let mut counts = Counts { ones: 0, twos: 0 };
     let mut i = 0;
     while i < k {
         let t = packing::table::trit(table, s[i / 5], i % 5);
-        let x = super::changing::packed_row_trit(held, s, table, i, t);
-        counts = count_trit(counts, t); // s is weighed as it is, under M too
-        take_row(held, ones, twos, i, x, work_ones, work_twos);
+        counts = count_trit(counts, t);
+        take_row(held, ones, twos, i, t, work_ones, work_twos);
         i += 1;
     }
     counts
@@ -119,7 +117,7 @@ fn take_packed_rows(
     ensures value { result ≡ counts_v (packed_row s.now) held.k }
     ensures reads { Reads work_ones.new work_twos.new (length work_ones.old)
         (zip_v sub_t (trit_at work_ones.old work_twos.old)
-        (times_key held.k (held_key held ones.now twos.now) (taken_trits held.form held.k (packed_row s.now)))) }
+        (times_key held.k (held_key held ones.now twos.now) (packed_row s.now))) }
 {
     let table = packing::table::byte_table();
     take_by_table(held, ones, twos, s, work_ones, work_twos, &table)

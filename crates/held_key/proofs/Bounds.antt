@@ -13,19 +13,19 @@ use Rattle.held_key.specs.declared.state.Held.{Held}
 use Rattle.held_key.specs.Held.{numbers_fit_under, sound_under, row_words, held_row_under, held_key_under}
 use Rattle.held_key.specs.Store.{Store, begin_refusal_under, row_refusal_under, store_refusal_under}
 
-module _ (a b number : ℕ) (la : number ≤ a) (lb : number ≤ b) (form n k w : ℕ) where
-  fits_either : numbers_fit_under a number form n k w ≡ numbers_fit_under b number form n k w
+module _ (a b number : ℕ) (la : number ≤ a) (lb : number ≤ b) (n k w : ℕ) where
+  fits_either : numbers_fit_under a number n k w ≡ numbers_fit_under b number n k w
   unfolding numbers_fit_under
   fits_either = rw (le-leb number a la, le-leb number b lb)
 
-  pub begin_either : begin_refusal_under a number form n k w ≡ begin_refusal_under b number form n k w
+  pub begin_either : begin_refusal_under a number n k w ≡ begin_refusal_under b number n k w
   unfolding begin_refusal_under
   begin_either = rw fits_either
 
 module _ (a b : ℕ) (h : Held) (la : h.number ≤ a) (lb : h.number ≤ b) where
   pub sound_either : sound_under a h ≡ sound_under b h
   unfolding sound_under
-  sound_either = rw (fits_either a b h.number la lb h.form h.n h.k h.w)
+  sound_either = rw (fits_either a b h.number la lb h.n h.k h.w)
 
   row_either : (ones twos : ℕ) → row_refusal_under a h ones twos ≡ row_refusal_under b h ones twos
   unfolding row_refusal_under

@@ -59,7 +59,7 @@ pub sound_after : {h : Held} {ones twos : ℕ} → Room h ones twos → sound (n
 unfolding sound_under next_held
 sound_after {h} f =
     let a = and_both (eqb h.begun 1) _ f.is_sound in
-    let z = and_both (numbers_fit h.number h.form h.n h.k h.w) (leb h.rows h.k) a.1 in
+    let z = and_both (numbers_fit h.number h.n h.k h.w) (leb h.rows h.k) a.1 in
     rw (a.0, z.0, le-leb (h.rows + 1) h.k (omega (arith, f.more)))
 
 -- one plane: `new` is the row's words in it

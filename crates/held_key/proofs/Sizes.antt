@@ -15,7 +15,6 @@ and_both false b e = absurd (true≢false (sym e))
 
 pub record Sizes (h : Held) : Type 0 where
   pub is_begun : h.begun ≡ 1
-  pub form_of_two : h.form ≤ 1
   pub many : 4 ≤ h.n
   pub few : h.n ≤ 16384
   pub over : 2 ≤ h.k
@@ -27,10 +26,9 @@ pub sizes : (h : Held) → sound h ≡ true → Sizes h
 unfolding sound_under numbers_fit_under
 sizes h e =
     let a = and_both (eqb h.begun 1) _ e in
-    let z = and_both (numbers_fit h.number h.form h.n h.k h.w) (leb h.rows h.k) a.1 in
+    let z = and_both (numbers_fit h.number h.n h.k h.w) (leb h.rows h.k) a.1 in
     let b = and_both (leb h.number most_key_number) _ z.0 in
-    let o = and_both (leb h.form 1) _ b.1 in
-    let c = and_both (leb 4 h.n) _ o.1 in
+    let c = and_both (leb 4 h.n) _ b.1 in
     let d = and_both (leb h.n 16384) _ c.1 in
     let f = and_both (eqb (h.n % 2) 0) _ d.1 in
     let g = and_both (leb 2 h.k) _ f.1 in
@@ -40,7 +38,6 @@ sizes h e =
     let under : h.k ≤ h.n - 2 = leb-true _ _ i.0 in
     record {
       is_begun = eqb-true _ _ a.0;
-      form_of_two = leb-true _ _ o.0;
       many = many;
       few = few;
       over = leb-true _ _ g.0;

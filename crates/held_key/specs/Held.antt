@@ -6,24 +6,22 @@ use Rattle.trits.specs.Planes.{trit_at, words_for}
 use Rattle.trits.specs.Rows.{row_part}
 use Rattle.held_key.specs.declared.state.Held.{Held}
 use Rattle.verdict.specs.Verdict.{Key}
-use Rattle.verdict.specs.Wavelet.{as_r}
 
 -- the largest key number (request C-15)
 abbrev pub most_key_number : ℕ
 most_key_number = 4294967295
 
--- the numbers of a key are in their ranges: its key number from 0 to most, its form 0 for R or 1 for M (request C-11), n even from 4 to 16,384, k from 2 to
--- n-2, w from 1 to n
-unfoldable pub numbers_fit_under : ℕ → ℕ → ℕ → ℕ → ℕ → ℕ → Bool
-numbers_fit_under most number form n k w =
-    leb number most && (leb form 1 && (leb 4 n && (leb n 16384 && (eqb (n % 2) 0 && (leb 2 k && (leb k (n - 2) && (leb 1 w && leb w n)))))))
+-- the numbers of a key are in their ranges: its key number from 0 to most, n even from 4 to 16,384, k from 2 to n-2, w from 1 to n
+unfoldable pub numbers_fit_under : ℕ → ℕ → ℕ → ℕ → ℕ → Bool
+numbers_fit_under most number n k w =
+    leb number most && (leb 4 n && (leb n 16384 && (eqb (n % 2) 0 && (leb 2 k && (leb k (n - 2) && (leb 1 w && leb w n))))))
 
-abbrev pub numbers_fit : ℕ → ℕ → ℕ → ℕ → ℕ → Bool
-numbers_fit number form n k w = numbers_fit_under most_key_number number form n k w
+abbrev pub numbers_fit : ℕ → ℕ → ℕ → ℕ → Bool
+numbers_fit number n k w = numbers_fit_under most_key_number number n k w
 
 -- a state that is begun, with its numbers in their ranges and no more than k rows counted
 unfoldable pub sound_under : ℕ → Held → Bool
-sound_under most h = eqb h.begun 1 && (numbers_fit_under most h.number h.form h.n h.k h.w && leb h.rows h.k)
+sound_under most h = eqb h.begun 1 && (numbers_fit_under most h.number h.n h.k h.w && leb h.rows h.k)
 
 abbrev pub sound : Held → Bool
 sound h = sound_under most_key_number h
@@ -47,13 +45,9 @@ held_row_under most h plane i = cond (sound_under most h && ltb i h.rows) (row_p
 abbrev pub held_row : Held → List ℕ → ℕ → List ℕ
 held_row h plane i = held_row_under most_key_number h plane i
 
--- the held key, in the form that the state tells: row i is what the two stretches hold
+-- the held key: row i is what the two stretches hold
 unfoldable pub held_key_under : ℕ → Held → List ℕ → List ℕ → Key
 held_key_under most h ones twos i = trit_at (held_row_under most h ones i) (held_row_under most h twos i)
 
 abbrev pub held_key : Held → List ℕ → List ℕ → Key
 held_key h ones twos = held_key_under most_key_number h ones twos
-
--- the R that it converts to (request C-11)
-unfoldable pub held_r : Held → List ℕ → List ℕ → Key
-held_r h ones twos = as_r h.form h.k (held_key h ones twos)

@@ -12,19 +12,19 @@ use Rattle.held_key.specs.Held.{most_key_number, numbers_fit_under, sound_under,
 -- ---- beginning: the new key replaces the held one, whatever that was
 
 -- only a size can be refused
-unfoldable pub begin_refusal_under : ℕ → ℕ → ℕ → ℕ → ℕ → ℕ → ℕ
-begin_refusal_under most number form n k w = demand (numbers_fit_under most number form n k w) 1 0
+unfoldable pub begin_refusal_under : ℕ → ℕ → ℕ → ℕ → ℕ → ℕ
+begin_refusal_under most number n k w = demand (numbers_fit_under most number n k w) 1 0
 
-abbrev pub begin_refusal : ℕ → ℕ → ℕ → ℕ → ℕ → ℕ
-begin_refusal number form n k w = begin_refusal_under most_key_number number form n k w
+abbrev pub begin_refusal : ℕ → ℕ → ℕ → ℕ → ℕ
+begin_refusal number n k w = begin_refusal_under most_key_number number n k w
 
--- a key, in the form that is asked for, of which no row is stored yet
-unfoldable pub begun_held : ℕ → ℕ → ℕ → ℕ → ℕ → Held
-begun_held number form n k w = record { begun = 1; number = number; form = form; n = n; k = k; w = w; rows = 0 }
+-- a key of which no row is stored yet
+unfoldable pub begun_held : ℕ → ℕ → ℕ → ℕ → Held
+begun_held number n k w = record { begun = 1; number = number; n = n; k = k; w = w; rows = 0 }
 
 -- the state after a beginning
-unfoldable pub begin_held : Held → ℕ → ℕ → ℕ → ℕ → ℕ → Held
-begin_held h number form n k w = at_exit (begin_refusal number form n k w) (begun_held number form n k w) h
+unfoldable pub begin_held : Held → ℕ → ℕ → ℕ → ℕ → Held
+begin_held h number n k w = at_exit (begin_refusal number n k w) (begun_held number n k w) h
 
 -- ---- storing a row: what is lent
 
@@ -86,9 +86,9 @@ store_packed_refusal c =
 
 -- ---- the state and the planes of the key at exit
 
--- the state that counts one row more; its form is as it was
+-- the state that counts one row more
 unfoldable pub next_held : Held → Held
-next_held h = record { begun = h.begun; number = h.number; form = h.form; n = h.n; k = h.k; w = h.w; rows = h.rows + 1 }
+next_held h = record { begun = h.begun; number = h.number; n = h.n; k = h.k; w = h.w; rows = h.rows + 1 }
 
 -- the state after a row was offered
 unfoldable pub stored_held : ℕ → Held → Held

@@ -101,7 +101,6 @@ pub fn count_row(held: Held) -> Held
     Held {
         begun: held.begun,
         number: held.number,
-        form: held.form,
         n: held.n,
         k: held.k,
         w: held.w,

@@ -10,25 +10,24 @@ ghost use Rattle.held_key.specs.Store.{packed_store_of, store_packed_refusal, st
 use state::Held;
 use trits::refusal::{Outcome, Refusal};
 
-// What a beginning, a row or a conversion comes to, and the state after it.
+// What a beginning or a row comes to, and the state after it.
 #[derive(Drop)]
 pub struct Stored {
     pub outcome: Outcome,
     pub held: Held,
 }
 
-// A key is begun, in one form or the other, and replaces the held one.
-pub fn begin(held: Held, number: u64, form: u64, n: u64, k: u64, w: u64) -> Stored
-    ensures outcome_value { code_of result.outcome ≡ begin_refusal number form n k w }
-    ensures held_value { result.held ≡ begin_held held number form n k w }
+// A key is begun, and replaces the held one.
+pub fn begin(held: Held, number: u64, n: u64, k: u64, w: u64) -> Stored
+    ensures outcome_value { code_of result.outcome ≡ begin_refusal number n k w }
+    ensures held_value { result.held ≡ begin_held held number n k w }
 {
-    if state::numbers_fit(number, form, n, k, w) {
+    if state::numbers_fit(number, n, k, w) {
         return Stored {
             outcome: Outcome::Done,
             held: Held {
                 begun: 1,
                 number: number,
-                form: form,
                 n: n,
                 k: k,
                 w: w,

@@ -8,7 +8,6 @@ ghost use Rattle.held_key.specs.Held.{numbers_fit, sound, row_trits, row_words, 
 pub struct Held {
     pub begun: u64,
     pub number: u64,
-    pub form: u64, // of the rows: 0 for R, 1 for M
     pub n: u64,
     pub k: u64,
     pub w: u64,
@@ -19,13 +18,10 @@ pub struct Held {
 pub const MOST_KEY_NUMBER: u64 = 4294967295;
 
 // Whether the numbers of a key are in their ranges.
-pub fn numbers_fit(number: u64, form: u64, n: u64, k: u64, w: u64) -> bool
-    ensures { result ≡ numbers_fit number form n k w }
+pub fn numbers_fit(number: u64, n: u64, k: u64, w: u64) -> bool
+    ensures { result ≡ numbers_fit number n k w }
 {
     if number > MOST_KEY_NUMBER {
-        return false;
-    }
-    if form > 1 {
         return false;
     }
     if n < 4 {
@@ -56,7 +52,7 @@ pub fn is_sound(held: Held) -> bool
     if held.begun != 1 {
         return false;
     }
-    if numbers_fit(held.number, held.form, held.n, held.k, held.w) {
+    if numbers_fit(held.number, held.n, held.k, held.w) {
         return held.rows <= held.k;
     }
     false

@@ -1,5 +1,4 @@
--- Worked cases; the laws behind the functions' proofs: fields, numbers, forms, bytes written; then a line under two bounds, and printed numbers read back.
-pub mod Cases
+-- The laws behind the functions' proofs: fields, numbers, forms, bytes written; then a line under two bounds, and printed numbers read back.
 pub mod Parting
 pub mod Numbers
 pub mod Rows

@@ -57,10 +57,9 @@ module _ (old new : ℕ) (h : old ≤ new) where
         by (yes z) = rw (range_above f z) (above z (in_range new f && a && b && c))
         by (no z) = rw (range_same f (omega arith)) (below (omega arith) (in_range new f && a && b && c))
 
-  key_lowered : (form : ℕ) (number n k w : List ℕ) → Lowered old (key_of old form number n k w) (key_of new form number n k w)
+  key_lowered : (number n k w : List ℕ) → Lowered old (key_of old number n k w) (key_of new number n k w)
   unfolding key_of key_number_of
-  key_lowered form number n k w =
-      picked number (is_number n) (is_number k) (is_number w) (key_line (value number) form (value n) (value k) (value w)) refl
+  key_lowered number n k w = picked number (is_number n) (is_number k) (is_number w) (key_line (value number) (value n) (value k) (value w)) refl
 
   sign_lowered : (number formula y s : List ℕ) → Lowered old (sign_of old number formula y s) (sign_of new number formula y s)
   unfolding sign_of key_number_of
@@ -91,21 +90,15 @@ module _ (old new : ℕ) (h : old ≤ new) where
   form_lowered : (parts : List (List ℕ)) → Lowered old (form_of old parts) (form_of new parts)
   unfolding form_of
   form_lowered [] = nothing
-  form_lowered (letter ∷ rest) = by (is_letter 80 letter) (is_letter 81 letter) (is_letter 75 letter) (is_letter 83 letter)
+  form_lowered (letter ∷ rest) = by (is_letter 80 letter) (is_letter 75 letter) (is_letter 83 letter)
     where
-      key : (form : ℕ) → Lowered old (four_fields (key_of old form) rest) (four_fields (key_of new form) rest)
-      key form = four_lowered (key_of old form) (key_of new form) (key_lowered form) rest
-
-      by : (p q k s : Bool) → Lowered old
-          (cond p (four_fields (key_of old 0) rest) (cond q (four_fields (key_of old 1) rest)
-          (cond k (one_field row_of rest) (cond s (four_fields (sign_of old) rest) no_form))))
-          (cond p (four_fields (key_of new 0) rest) (cond q (four_fields (key_of new 1) rest)
-          (cond k (one_field row_of rest) (cond s (four_fields (sign_of new) rest) no_form))))
-      by true q k s = key 0
-      by false true k s = key 1
-      by false false true s = row_unmoved rest
-      by false false false true = four_lowered (sign_of old) (sign_of new) sign_lowered rest
-      by false false false false = nothing
+      by : (p k s : Bool) → Lowered old
+          (cond p (four_fields (key_of old) rest) (cond k (one_field row_of rest) (cond s (four_fields (sign_of old) rest) no_form)))
+          (cond p (four_fields (key_of new) rest) (cond k (one_field row_of rest) (cond s (four_fields (sign_of new) rest) no_form)))
+      by true k s = four_lowered (key_of old) (key_of new) key_lowered rest
+      by false true s = row_unmoved rest
+      by false false true = four_lowered (sign_of old) (sign_of new) sign_lowered rest
+      by false false false = nothing
 
   -- any line
   pub line_lowered : (line : List ℕ) → Lowered old (line_of old line) (line_of new line)

@@ -113,50 +113,47 @@ module _ (line : List ℕ) (b c d e : ℕ) (h : 2 ≤ length line) (hb : b ≡ 2
           are = front (field_last line (d + 1) e he (field_room line (c + 1) d hd (field_room line (b + 1) c hc (field_room line 2 b hb h nb) nc) nd) z);
         }
 
--- ---- P and Q
+-- ---- P and S
 
-module _ {line : List ℕ} {b c d : ℕ} (f : Four line b c d) (most form : ℕ) where
-  pub key_not_1 : in_range most (part 2 b line) ≡ false → no_form ≡ bounded (four_fields (key_of most form) (fields (drop 2 line)))
-  unfolding four_fields key_of bounded
-  key_not_1 q = rw (f.are, q)
+module _ {line : List ℕ} {b c d : ℕ} (f : Four line b c d) (most : ℕ) where
+  module _ (q : in_range most (part 2 b line) ≡ false) where
+    pub key_not_1 : no_form ≡ bounded (four_fields (key_of most) (fields (drop 2 line)))
+    unfolding four_fields key_of bounded
+    key_not_1 = rw (f.are, q)
+
+    pub sign_not_1 : no_form ≡ bounded (four_fields (sign_of most) (fields (drop 2 line)))
+    unfolding four_fields sign_of bounded
+    sign_not_1 = rw (f.are, q)
 
   module _ (q : in_range most (part 2 b line) ≡ true) where
-    pub key_not_2 : is_number (part (b + 1) c line) ≡ false → no_form ≡ bounded (four_fields (key_of most form) (fields (drop 2 line)))
+    pub key_not_2 : is_number (part (b + 1) c line) ≡ false → no_form ≡ bounded (four_fields (key_of most) (fields (drop 2 line)))
     unfolding four_fields key_of bounded
     key_not_2 r = rw (f.are, q, r)
 
     module _ (r : is_number (part (b + 1) c line) ≡ true) where
-      pub key_not_3 : is_number (part (c + 1) d line) ≡ false → no_form ≡ bounded (four_fields (key_of most form) (fields (drop 2 line)))
+      pub key_not_3 : is_number (part (c + 1) d line) ≡ false → no_form ≡ bounded (four_fields (key_of most) (fields (drop 2 line)))
       unfolding four_fields key_of bounded
       key_not_3 s = rw (f.are, q, r, s)
 
       module _ (s : is_number (part (c + 1) d line) ≡ true) where
-        pub key_not_4 : is_number (part (d + 1) (length line) line) ≡ false → no_form ≡ bounded (four_fields (key_of most form) (fields (drop 2 line)))
+        pub key_not_4 : is_number (part (d + 1) (length line) line) ≡ false → no_form ≡ bounded (four_fields (key_of most) (fields (drop 2 line)))
         unfolding four_fields key_of bounded
         key_not_4 t = rw (f.are, q, r, s, t)
 
         pub key_told : {number n k w : ℕ} → is_number (part (d + 1) (length line) line) ≡ true → number ≡ value (part 2 b line)
             → n ≡ at_most_large (value (part (b + 1) c line))
             → k ≡ at_most_large (value (part (c + 1) d line)) → w ≡ at_most_large (value (part (d + 1) (length line) line))
-            → key_line number form n k w ≡ bounded (four_fields (key_of most form) (fields (drop 2 line)))
+            → key_line number n k w ≡ bounded (four_fields (key_of most) (fields (drop 2 line)))
         unfolding four_fields key_of bounded
         key_told t e₁ e₂ e₃ e₄ = rw (f.are, q, r, s, t, ← e₁, ← e₂, ← e₃, ← e₄)
 
--- ---- S
-
-module _ {line : List ℕ} {b c d : ℕ} (f : Four line b c d) (most : ℕ) where
-  pub sign_told : {number formula : ℕ} → in_range most (part 2 b line) ≡ true → in_range most_formula (part (b + 1) c line) ≡ true
-      → is_digits (part (c + 1) d line) ≡ true → is_digits (part (d + 1) (length line) line) ≡ true
-      → number ≡ value (part 2 b line) → formula ≡ value (part (b + 1) c line)
-      → sign_line number formula (part (c + 1) d line) (part (d + 1) (length line) line) ≡ bounded (four_fields (sign_of most) (fields (drop 2 line)))
-  unfolding four_fields sign_of bounded
-  sign_told q r s t e₁ e₂ = rw (f.are, q, r, s, t, ← e₁, ← e₂)
+    pub sign_told : {number formula : ℕ} → in_range most_formula (part (b + 1) c line) ≡ true → is_digits (part (c + 1) d line) ≡ true
+        → is_digits (part (d + 1) (length line) line) ≡ true → number ≡ value (part 2 b line) → formula ≡ value (part (b + 1) c line)
+        → sign_line number formula (part (c + 1) d line) (part (d + 1) (length line) line) ≡ bounded (four_fields (sign_of most) (fields (drop 2 line)))
+    unfolding four_fields sign_of bounded
+    sign_told r s t e₁ e₂ = rw (f.are, q, r, s, t, ← e₁, ← e₂)
 
   -- one field that is not what it must be is enough
-  pub sign_not_1 : in_range most (part 2 b line) ≡ false → no_form ≡ bounded (four_fields (sign_of most) (fields (drop 2 line)))
-  unfolding four_fields sign_of bounded
-  sign_not_1 q = rw (f.are, q)
-
   pub sign_not_2 : in_range most_formula (part (b + 1) c line) ≡ false → no_form ≡ bounded (four_fields (sign_of most) (fields (drop 2 line)))
   unfolding four_fields sign_of bounded
   sign_not_2 r = rw (f.are, r, and-false (in_range most (part 2 b line)))
@@ -171,9 +168,9 @@ module _ {line : List ℕ} {b c d : ℕ} (f : Four line b c d) (most : ℕ) wher
       rw (f.are, t, and-false (in_range most (part 2 b line) && in_range most_formula (part (b + 1) c line) && is_digits (part (c + 1) d line)))
 
 -- the fields are not four
-pub not_key : (line : List ℕ) (most form : ℕ) → NotFour line → no_form ≡ bounded (four_fields (key_of most form) (fields (drop 2 line)))
+pub not_key : (line : List ℕ) (most : ℕ) → NotFour line → no_form ≡ bounded (four_fields (key_of most) (fields (drop 2 line)))
 unfolding bounded
-not_key line most form f = ap bounded (sym (f (key_of most form)))
+not_key line most f = ap bounded (sym (f (key_of most)))
 
 pub not_sign : (line : List ℕ) (most : ℕ) → NotFour line → no_form ≡ bounded (four_fields (sign_of most) (fields (drop 2 line)))
 unfolding bounded
@@ -214,7 +211,7 @@ module _ (most : ℕ) (line : List ℕ) (e : ℕ) (he : e ≡ 0 + before 9 (drop
     where
       out : (x : List ℕ) (rest : List (List ℕ)) → (length x ≡ 1 → ⊥) → fields line ≡ x ∷ rest
           → no_form ≡ bounded (form_of most (fields line))
-      out x rest f q = rw (q, other_length 80 x f, other_length 81 x f, other_length 75 x f, other_length 83 x f)
+      out x rest f q = rw (q, other_length 80 x f, other_length 75 x f, other_length 83 x f)
 
       by : Dec (e ≡ length line) → no_form ≡ bounded (form_of most (fields line))
       by (yes z) = out (part 0 (length line) line) [] (λ q. h (omega (arith, z, q, length-take-le (length line - 0) line (omega arith))))
@@ -227,16 +224,14 @@ module _ (most : ℕ) (line : List ℕ) (e : ℕ) (he : e ≡ 0 + before 9 (drop
     pub form_alone : length line ≡ 1 → no_form ≡ bounded (form_of most (fields line))
     unfolding form_of four_fields one_field bounded
     form_alone h =
-        let l = part 0 (length line) line in
-        ap bounded (by (is_letter 80 l) (is_letter 81 l) (is_letter 75 l) (is_letter 83 l))
+        ap bounded (by (is_letter 80 (part 0 (length line) line)) (is_letter 75 (part 0 (length line) line)) (is_letter 83 (part 0 (length line) line)))
         ∙ sym (ap (λ (x : List (List ℕ)). bounded (form_of most x)) (field_last line 0 e he (omega arith) (omega arith)))
       where
-        by : (p q k s : Bool) → no_form ≡ cond p no_form (cond q no_form (cond k no_form (cond s no_form no_form)))
-        by true q k s = refl
-        by false true k s = refl
-        by false false true s = refl
-        by false false false true = refl
-        by false false false false = refl
+        by : (p k s : Bool) → no_form ≡ cond p no_form (cond k no_form (cond s no_form no_form))
+        by true k s = refl
+        by false true s = refl
+        by false false true = refl
+        by false false false = refl
 
     module _ (h : length line ≡ 1 → ⊥) where
       within : (0 ≤ e) × (e ≤ length line)
@@ -258,30 +253,23 @@ module _ (most : ℕ) (line : List ℕ) (e : ℕ) (he : e ≡ 0 + before 9 (drop
       pub long : 2 ≤ length line
       long = omega (arith, within, h)
 
-      pub form_key : get_or line 0 0 ≡ 80 → bounded (four_fields (key_of most 0) (fields (drop 2 line))) ≡ bounded (form_of most (fields line))
+      pub form_key : get_or line 0 0 ≡ 80 → bounded (four_fields (key_of most) (fields (drop 2 line))) ≡ bounded (form_of most (fields line))
       unfolding form_of is_letter
       form_key q = rw (cut, eq-eqb (get_or line 0 0) 80 q)
 
       module _ (p : get_or line 0 0 ≡ 80 → ⊥) where
-        pub form_other_key : get_or line 0 0 ≡ 81 → bounded (four_fields (key_of most 1) (fields (drop 2 line))) ≡ bounded (form_of most (fields line))
+        pub form_row : get_or line 0 0 ≡ 75 → bounded (one_field row_of (fields (drop 2 line))) ≡ bounded (form_of most (fields line))
         unfolding form_of is_letter
-        form_other_key q = rw (cut, ne_eqb (get_or line 0 0) 80 p, eq-eqb (get_or line 0 0) 81 q)
+        form_row q = rw (cut, ne_eqb (get_or line 0 0) 80 p, eq-eqb (get_or line 0 0) 75 q)
 
-        module _ (o : get_or line 0 0 ≡ 81 → ⊥) where
-          pub form_row : get_or line 0 0 ≡ 75 → bounded (one_field row_of (fields (drop 2 line))) ≡ bounded (form_of most (fields line))
+        module _ (k : get_or line 0 0 ≡ 75 → ⊥) where
+          pub form_sign : get_or line 0 0 ≡ 83 → bounded (four_fields (sign_of most) (fields (drop 2 line))) ≡ bounded (form_of most (fields line))
           unfolding form_of is_letter
-          form_row q = rw (cut, ne_eqb (get_or line 0 0) 80 p, ne_eqb (get_or line 0 0) 81 o, eq-eqb (get_or line 0 0) 75 q)
+          form_sign q = rw (cut, ne_eqb (get_or line 0 0) 80 p, ne_eqb (get_or line 0 0) 75 k, eq-eqb (get_or line 0 0) 83 q)
 
-          module _ (k : get_or line 0 0 ≡ 75 → ⊥) where
-            pub form_sign : get_or line 0 0 ≡ 83 → bounded (four_fields (sign_of most) (fields (drop 2 line))) ≡ bounded (form_of most (fields line))
-            unfolding form_of is_letter
-            form_sign q =
-                rw (cut, ne_eqb (get_or line 0 0) 80 p, ne_eqb (get_or line 0 0) 81 o, ne_eqb (get_or line 0 0) 75 k, eq-eqb (get_or line 0 0) 83 q)
-
-            pub form_none : (get_or line 0 0 ≡ 83 → ⊥) → no_form ≡ bounded (form_of most (fields line))
-            unfolding form_of is_letter bounded
-            form_none q =
-                rw (cut, ne_eqb (get_or line 0 0) 80 p, ne_eqb (get_or line 0 0) 81 o, ne_eqb (get_or line 0 0) 75 k, ne_eqb (get_or line 0 0) 83 q)
+          pub form_none : (get_or line 0 0 ≡ 83 → ⊥) → no_form ≡ bounded (form_of most (fields line))
+          unfolding form_of is_letter bounded
+          form_none q = rw (cut, ne_eqb (get_or line 0 0) 80 p, ne_eqb (get_or line 0 0) 75 k, ne_eqb (get_or line 0 0) 83 q)
 
 -- ---- the length of a line
 

@@ -1,4 +1,4 @@
--- The three forms of a line ("Held key and lines of text"; request C-11 for the letter Q). Assumes nothing.
+-- The three forms of a line ("Held key and lines of text"). Assumes nothing.
 use Rattle.std.specs.Prelude.{Bool, false, ◌&&◌, cond, List, [], ◌∷◌, ℕ, eqb, ltb, length}
 use Rattle.text.specs.Fields.{fields}
 use Rattle.text.specs.Numbers.{is_number, value, in_range}
@@ -8,8 +8,8 @@ use Rattle.text.specs.Digits.{is_digits}
 pub data Line : Type 0 where
   -- none of the three forms
   no_form : Line
-  -- P or Q: key number, the form in which the key is held (0 for R, 1 for M), n, k, w
-  key_line : ℕ → ℕ → ℕ → ℕ → ℕ → Line
+  -- P: key number, n, k, w
+  key_line : ℕ → ℕ → ℕ → ℕ → Line
   -- K: the digits of a row
   row_line : List ℕ → Line
   -- S: key number, formula number, the digits of y and of s
@@ -33,10 +33,10 @@ four_fields f (a ∷ b ∷ c ∷ d ∷ e ∷ more) = no_form
 abbrev pub most_formula : ℕ
 most_formula = 65535
 
--- P or Q: a key number in its range, and three numbers (their ranges are the checker's to judge); the letter tells the form
-unfoldable pub key_of : ℕ → ℕ → List ℕ → List ℕ → List ℕ → List ℕ → Line
-key_of most_key form number n k w =
-    cond (in_range most_key number && is_number n && is_number k && is_number w) (key_line (value number) form (value n) (value k) (value w)) no_form
+-- P: a key number in its range, and three numbers (their ranges are the checker's to judge)
+unfoldable pub key_of : ℕ → List ℕ → List ℕ → List ℕ → List ℕ → Line
+key_of most_key number n k w =
+    cond (in_range most_key number && is_number n && is_number k && is_number w) (key_line (value number) (value n) (value k) (value w)) no_form
 
 -- K: digits (their count is the checker's to judge)
 unfoldable pub row_of : List ℕ → Line
@@ -53,15 +53,14 @@ is_letter letter [] = false
 is_letter letter (b ∷ []) = eqb b letter
 is_letter letter (b ∷ c ∷ field) = false
 
--- what the letter P, Q, K or S names, with its fields; P begins a key held as R, Q one held as M
+-- the form that the letter P, K or S names, with its fields
 unfoldable pub form_of : ℕ → List (List ℕ) → Line
 form_of most_key [] = no_form
 form_of most_key (letter ∷ rest) =
-    cond (is_letter 80 letter) (four_fields (key_of most_key 0) rest)
-    (cond (is_letter 81 letter) (four_fields (key_of most_key 1) rest)
+    cond (is_letter 80 letter) (four_fields (key_of most_key) rest)
     (cond (is_letter 75 letter) (one_field row_of rest)
     (cond (is_letter 83 letter) (four_fields (sign_of most_key) rest)
-    no_form)))
+    no_form))
 
 -- "a line above 1,024 bytes, its line end not counted"
 abbrev pub most_bytes : ℕ

@@ -49,14 +49,14 @@ EndsOf line r = (r.found ≡ 0 → NotFour line) × ((r.found ≡ 0 → ⊥) →
 -- what a form, given as places, says of its line
 abbrev pub says : List ℕ → Form → Line
 says line Neither = no_form
-says line (Key number form n k w) = key_line number form n k w
+says line (Key number n k w) = key_line number n k w
 says line Row = row_line (part 2 (length line) line)
 says line (Sign number formula c d) = sign_line number formula (part (c + 1) d line) (part (d + 1) (length line) line)
 
 -- the places that a form gives stand in its line, and have digits
 abbrev pub Placed : List ℕ → Form → Type 0
 Placed line Neither = Unit {0}
-Placed line (Key number form n k w) = Unit {0}
+Placed line (Key number n k w) = Unit {0}
 Placed line Row = (2 ≤ length line) × (is_digits (part 2 (length line) line) ≡ true)
 Placed line (Sign number formula c d) = (c < d) × (d < length line) × (is_digits (part (c + 1) d line) ≡ true)
     × (is_digits (part (d + 1) (length line) line) ≡ true)
@@ -64,7 +64,7 @@ Placed line (Sign number formula c d) = (c < d) × (d < length line) × (is_digi
 -- a line whose sizes, where too large for any range, count as `large`
 unfoldable pub bounded : Line → Line
 bounded no_form = no_form
-bounded (key_line number form n k w) = key_line number form (at_most_large n) (at_most_large k) (at_most_large w)
+bounded (key_line number n k w) = key_line number (at_most_large n) (at_most_large k) (at_most_large w)
 bounded (row_line digits) = row_line digits
 bounded (sign_line number formula y s) = sign_line number formula y s
 

@@ -1,4 +1,4 @@
-// The three forms of a line: P or Q begins a key, K has its next row, S has a signature.
+// The three forms of a line: P begins a key, K has its next row, S has a signature.
 ghost use Rattle.std.specs.Prelude.{◌≡◌, ◌≤◌, ◌<◌, length, drop};
 ghost use Rattle.text.specs.Fields.{fields};
 ghost use Rattle.text.specs.Forms.{four_fields, one_field, key_of, row_of, sign_of, form_of, line_of};
@@ -10,7 +10,7 @@ use super::fields::{LARGE, find_tab, is_digits, read_number};
 #[derive(Drop)]
 pub enum Form {
     Neither, // none of the three forms
-    Key(u64, u64, u64, u64, u64), // key number, form (0 for R, 1 for M), n, k, w
+    Key(u64, u64, u64, u64), // key number, n, k, w
     Row, // the digits are all after the letter and its tab
     Sign(u64, u64, usize, usize), // key number, formula number, and the places of the tabs before y and before s
 }
@@ -59,11 +59,11 @@ fn four_fields(line: &[u8]) -> Ends
     }
 }
 
-// The four fields of a P or Q line, whose letter told the form.
-fn read_sizes(line: &[u8], b: usize, c: usize, d: usize, most_key: u64, form: u64) -> Form
+// The four fields of a P line.
+fn read_sizes(line: &[u8], b: usize, c: usize, d: usize, most_key: u64) -> Form
     requires four { Four line.now b c d }
     requires most_key_lt_large { most_key < large }
-    ensures result_value { says line.now result ≡ bounded (four_fields (key_of most_key form) (fields (drop 2 line.now))) }
+    ensures result_value { says line.now result ≡ bounded (four_fields (key_of most_key) (fields (drop 2 line.now))) }
     ensures placed { Placed line.now result }
 {
     let number = read_number(&line[2..b]);
@@ -85,7 +85,7 @@ fn read_sizes(line: &[u8], b: usize, c: usize, d: usize, most_key: u64, form: u6
     if w > LARGE {
         return Form::Neither;
     }
-    Form::Key(number, form, n, k, w)
+    Form::Key(number, n, k, w)
 }
 
 // The four fields of an S line.
@@ -115,17 +115,17 @@ fn read_signed(line: &[u8], b: usize, c: usize, d: usize, most_key: u64) -> Form
     Form::Sign(number, formula, c, d)
 }
 
-// A line whose letter is P or Q, which told the form.
-fn read_key(line: &[u8], most_key: u64, form: u64) -> Form
+// A line whose letter is P.
+fn read_key(line: &[u8], most_key: u64) -> Form
     requires { (2 ≤ length line.now) × (most_key < large) }
-    ensures result_value { says line.now result ≡ bounded (four_fields (key_of most_key form) (fields (drop 2 line.now))) }
+    ensures result_value { says line.now result ≡ bounded (four_fields (key_of most_key) (fields (drop 2 line.now))) }
     ensures placed { Placed line.now result }
 {
     let ends = four_fields(line);
     if ends.found == 0 {
         return Form::Neither;
     }
-    read_sizes(line, ends.number, ends.middle, ends.third, most_key, form)
+    read_sizes(line, ends.number, ends.middle, ends.third, most_key)
 }
 
 // A line whose letter is S.
@@ -171,10 +171,7 @@ fn read_form(line: &[u8], most_key: u64) -> Form
     }
     let letter = line[0];
     if letter == 80 {
-        return read_key(line, most_key, 0);
-    }
-    if letter == 81 {
-        return read_key(line, most_key, 1);
+        return read_key(line, most_key);
     }
     if letter == 75 {
         return read_row(line);

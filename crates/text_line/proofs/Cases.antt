@@ -1,5 +1,4 @@
--- Key numbers at the edges of their range in P and S lines, read and answered (request C-15), and a key held as R or as M (request C-11), computed from
--- the definitions. Assumes nothing.
+-- Key numbers at the edges of their range in P and S lines, read and answered, computed from the definitions (request C-15). Assumes nothing.
 use mathlib.Core.Path.{◌≡◌, refl}
 use mathlib.Core.List.{List, [], ◌∷◌, ◌++◌}
 use Prim.Native.Nat.{ℕ, ◌+◌}
@@ -13,9 +12,9 @@ use Rattle.text.specs.Digits.{is_digits, digit_at, digit_row}
 use Rattle.text.specs.Forms.{no_form, key_line, sign_line, four_fields, key_of, sign_of, is_letter, form_of, line_of}
 use Rattle.text.specs.Answers.{sign_refused, line_refused}
 use Rattle.held_key.specs.Held.{numbers_fit_under, sound_under}
-use Rattle.held_key.specs.Store.{begin_refusal_under, begun_held}
+use Rattle.held_key.specs.Store.{begin_refusal_under}
 use Rattle.held_key.specs.Load.{Holding}
-use Rattle.check_tests.specs.Check.{whole_refusal_under, call_refusal_under, planes_lengths, planes_contents_under, check_refusal_under, answered, check_answer_under}
+use Rattle.check_tests.specs.Check.{call_refusal_under, planes_lengths, planes_contents_under, check_refusal_under, answered, check_answer_under}
 use Rattle.text_line.specs.Answer.{holding, asked, key_part, offered_ones, offered_twos, key_refusal_under, key_held_under, sign_answer, sign_answer_under}
 use Rattle.text_line.specs.Answer.{sign_prints, refusal_prints, line_prints, line_prints_under, line_kept, line_kept_under, read_line}
 
@@ -33,7 +32,7 @@ S number = 83 ∷ 9 ∷ number ++ (9 ∷ 49 ∷ 50 ∷ 9 ∷ 49 ∷ 50 ∷ 9 ∷
 
 -- both are taken with this number, or neither is one of the forms
 abbrev Taken : ℕ → List ℕ → Type 0
-Taken v digits = (read_line (P (bytes digits)) ≡ key_line v 0 4 2 4) × (read_line (S (bytes digits)) ≡ sign_line v 12 (49 ∷ 50 ∷ []) (49 ∷ 49 ∷ []))
+Taken v digits = (read_line (P (bytes digits)) ≡ key_line v 4 2 4) × (read_line (S (bytes digits)) ≡ sign_line v 12 (49 ∷ 50 ∷ []) (49 ∷ 49 ∷ []))
 
 abbrev NotTaken : List ℕ → Type 0
 NotTaken digits = (read_line (P (bytes digits)) ≡ no_form) × (read_line (S (bytes digits)) ≡ no_form)
@@ -61,47 +60,33 @@ unfolding line_of form_of is_letter split onto four_fields key_of sign_of in_ran
 numbers_refused = ((refl, refl), (refl, refl), (refl, refl), (refl, refl), (refl, refl), (refl, refl), (refl, refl))
 
 -- before request C-15 key numbers ended at 255
-numbers_before : (line_of 255 (P (bytes (2 ∷ 5 ∷ 5 ∷ []))) ≡ key_line 255 0 4 2 4) × (line_of 255 (P (bytes (2 ∷ 5 ∷ 6 ∷ []))) ≡ no_form)
+numbers_before : (line_of 255 (P (bytes (2 ∷ 5 ∷ 5 ∷ []))) ≡ key_line 255 4 2 4) × (line_of 255 (P (bytes (2 ∷ 5 ∷ 6 ∷ []))) ≡ no_form)
     × (line_of 255 (S (bytes (2 ∷ 5 ∷ 6 ∷ []))) ≡ no_form)
 unfolding line_of form_of is_letter split onto four_fields key_of sign_of in_range is_number all_between value value_from is_digits
 numbers_before = (refl, refl, refl)
 
 -- the two rows 02 and 22 under key number 4,294,967,295, and no key
 abbrev largest : Holding
-largest = holding (record { begun = 1; number = 4294967295; form = 0; n = 4; k = 2; w = 4; rows = 2 }) (0 ∷ 0 ∷ []) (2 ∷ 3 ∷ [])
+largest = holding (record { begun = 1; number = 4294967295; n = 4; k = 2; w = 4; rows = 2 }) (0 ∷ 0 ∷ []) (2 ∷ 3 ∷ [])
 
 abbrev none : Holding
-none = holding (record { begun = 0; number = 0; form = 0; n = 0; k = 0; w = 0; rows = 0 }) [] []
+none = holding (record { begun = 0; number = 0; n = 0; k = 0; w = 0; rows = 0 }) [] []
 
 -- the held number is not refused, any other is, and all are where no key is begun
 answers_largest : ((sign_answer largest 4294967295 (49 ∷ 50 ∷ []) (49 ∷ 49 ∷ [])).refusal ≡ 0)
     × (line_prints largest (sign_line 4294967294 12 (49 ∷ 50 ∷ []) (49 ∷ 49 ∷ [])) ≡ sign_refused 4294967294 12 22)
     × (line_prints largest (sign_line 255 12 (49 ∷ 50 ∷ []) (49 ∷ 49 ∷ [])) ≡ sign_refused 255 12 22)
     × (line_prints none (sign_line 4294967295 12 (49 ∷ 50 ∷ []) (49 ∷ 49 ∷ [])) ≡ sign_refused 4294967295 12 20)
-unfolding line_prints_under sign_prints sign_answer_under check_answer_under answered check_refusal_under first whole_refusal_under call_refusal_under sound_under
-    numbers_fit_under planes_lengths planes_contents_under planes_refusal both_set any_to bit_at bit rows_past_end row_part past_end up_to key_part asked offered_ones
-    offered_twos ones_of twos_of tabulate from_bits digit_row digit_at zero_words
+unfolding line_prints_under sign_prints sign_answer_under check_answer_under answered check_refusal_under first call_refusal_under sound_under numbers_fit_under
+    planes_lengths planes_contents_under planes_refusal both_set any_to bit_at bit rows_past_end row_part past_end up_to key_part asked offered_ones offered_twos ones_of twos_of
+    tabulate from_bits digit_row digit_at zero_words
 answers_largest = (refl, refl, refl, refl)
 
 -- sizes above the range, whatever they are, are refused alike and leave the held key
-sizes_refused : (line_prints largest (key_line 7 0 65540 2 4) ≡ line_refused 1) × (line_prints largest (key_line 7 0 4294967300 2 4) ≡ line_refused 1)
-    × (line_prints largest (key_line 7 0 18446744073709551620 2 4) ≡ line_refused 1)
-    × (line_prints largest (key_line 7 0 4 4294967298 4) ≡ line_refused 1)
-    × (line_prints largest (key_line 7 0 4 2 4294967300) ≡ line_refused 1)
-    × (line_kept largest (key_line 7 0 4294967300 2 4) ≡ largest)
+sizes_refused : (line_prints largest (key_line 7 65540 2 4) ≡ line_refused 1) × (line_prints largest (key_line 7 4294967300 2 4) ≡ line_refused 1)
+    × (line_prints largest (key_line 7 18446744073709551620 2 4) ≡ line_refused 1)
+    × (line_prints largest (key_line 7 4 4294967298 4) ≡ line_refused 1)
+    × (line_prints largest (key_line 7 4 2 4294967300) ≡ line_refused 1)
+    × (line_kept largest (key_line 7 4294967300 2 4) ≡ largest)
 unfolding line_prints_under line_kept_under refusal_prints key_refusal_under key_held_under begin_refusal_under numbers_fit_under
 sizes_refused = (refl, refl, refl, refl, refl, refl)
-
--- Q begins a key held as M and P one held as R, whatever was held; where one is refused, the held key and its form stay
-abbrev held_as : ℕ → ℕ → Holding
-held_as form rows = holding (record { begun = 1; number = 7; form = form; n = 4; k = 2; w = 4; rows = rows }) (0 ∷ 0 ∷ []) (2 ∷ 3 ∷ [])
-
-forms_kept : (line_kept (held_as 0 2) (key_line 7 1 4 2 4) ≡ held_as 1 0)
-    × (line_kept (held_as 1 2) (key_line 7 0 4 2 4) ≡ held_as 0 0)
-    × (line_prints (held_as 0 2) (key_line 7 1 4 2 4) ≡ [])
-    × (line_kept (held_as 0 2) (key_line 7 1 258 2 4) ≡ held_as 0 2)
-    × (line_kept (held_as 1 2) (key_line 7 0 4 2 5) ≡ held_as 1 2)
-    × (line_prints (held_as 0 2) (key_line 7 1 258 2 4) ≡ line_refused 1)
-    × (line_prints (held_as 1 2) (key_line 7 0 4 2 5) ≡ line_refused 1)
-unfolding line_prints_under line_kept_under refusal_prints key_refusal_under key_held_under begin_refusal_under begun_held numbers_fit_under
-forms_kept = (refl, refl, refl, refl, refl, refl, refl)

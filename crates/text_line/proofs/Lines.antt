@@ -46,14 +46,14 @@ module _ (number formula : ℕ) (c : Checked) where
   unfolding sign_prints
   sign_refused_here f = rw (ne_eqb c.refusal 0 f)
 
--- ---- P and Q
+-- ---- P
 
-module _ (h : Held) (number form n k w : ℕ) where
-  pub key_long : 256 < n → (1 ≡ key_refusal number form n k w) × (h ≡ key_held h number form n k w)
+module _ (h : Held) (number n k w : ℕ) where
+  pub key_long : 256 < n → (1 ≡ key_refusal number n k w) × (h ≡ key_held h number n k w)
   unfolding key_held_under key_refusal_under
   key_long l = (rw (lt-ltb 256 n l), rw (lt-ltb 256 n l))
 
-  pub key_short : n ≤ 256 → (begin_refusal number form n k w ≡ key_refusal number form n k w) × (begin_held h number form n k w ≡ key_held h number form n k w)
+  pub key_short : n ≤ 256 → (begin_refusal number n k w ≡ key_refusal number n k w) × (begin_held h number n k w ≡ key_held h number n k w)
   unfolding key_held_under key_refusal_under begin_held
   key_short l = (rw (le-ltb 256 n l), rw (le-ltb 256 n l))
 
@@ -74,32 +74,31 @@ above_same v x h = by (dec_lt v large)
     by (yes l) = ap (leb x) (sym (value_small v l))
     by (no l) = ap (leb x) (sym (value_large v (omega arith))) ∙ le-leb x large (omega arith) ∙ sym (le-leb x v (omega arith))
 
-module _ (number form n k w : ℕ) where
-  fit_same : n ≤ 256 → numbers_fit number form n (at_most_large k) (at_most_large w) ≡ numbers_fit number form n k w
+module _ (number n k w : ℕ) where
+  fit_same : n ≤ 256 → numbers_fit number n (at_most_large k) (at_most_large w) ≡ numbers_fit number n k w
   unfolding numbers_fit_under
   fit_same l =
-      λ i. leb number most_key_number && (leb form 1 && (leb 4 n && (leb n 16384 &&
+      λ i. leb number most_key_number && (leb 4 n && (leb n 16384 &&
       (eqb (n % 2) 0 && (above_same k 2 (omega arith) i && (below_same k (n - 2) (omega arith) i &&
-      (above_same w 1 (omega arith) i && below_same w n (omega arith) i)))))))
+      (above_same w 1 (omega arith) i && below_same w n (omega arith) i))))))
 
-  pub refusal_same : key_refusal number form (at_most_large n) (at_most_large k) (at_most_large w) ≡ key_refusal number form n k w
+  pub refusal_same : key_refusal number (at_most_large n) (at_most_large k) (at_most_large w) ≡ key_refusal number n k w
   unfolding key_refusal_under begin_refusal_under
   refusal_same = by (dec_lt 256 n) (dec_lt n large)
     where
-      by : Dec (256 < n) → Dec (n < large) → key_refusal number form (at_most_large n) (at_most_large k) (at_most_large w) ≡ key_refusal number form n k w
+      by : Dec (256 < n) → Dec (n < large) → key_refusal number (at_most_large n) (at_most_large k) (at_most_large w) ≡ key_refusal number n k w
       by (yes l) (no z) = rw (← value_large n (omega arith), lt-ltb 256 n l)
       by (yes l) (yes z) = rw (← value_small n z, lt-ltb 256 n l)
       by (no l) z = rw (← value_small n (omega arith), le-ltb 256 n (omega arith), fit_same (omega arith))
 
   -- what is not refused is in reach
-  small : key_refusal number form n k w ≡ 0 → (n < large) × (k < large) × (w < large)
+  small : key_refusal number n k w ≡ 0 → (n < large) × (k < large) × (w < large)
   unfolding key_refusal_under begin_refusal_under numbers_fit_under
   small z =
-      let p = passed_refuse (ltb 256 n) 1 (begin_refusal number form n k w) (lit< tt) z in
-      let f = (passed_demand (numbers_fit number form n k w) 1 0 (lit< tt) p.1).0 in
+      let p = passed_refuse (ltb 256 n) 1 (begin_refusal number n k w) (lit< tt) z in
+      let f = (passed_demand (numbers_fit number n k w) 1 0 (lit< tt) p.1).0 in
       let a = (and_both (leb number most_key_number) _ f).1 in
-      let o = (and_both (leb form 1) _ a).1 in
-      let b = (and_both (leb 4 n) _ o).1 in
+      let b = (and_both (leb 4 n) _ a).1 in
       let c = (and_both (leb n 16384) _ b).1 in
       let d = (and_both (eqb (n % 2) 0) _ c).1 in
       let e = (and_both (leb 2 k) _ d).1 in
@@ -109,33 +108,32 @@ module _ (number form n k w : ℕ) where
       (omega (arith, l), omega (arith, l, leb-true k (n - 2) g.0), omega (arith, l, leb-true w n j.1))
 
 -- a refused key leaves the held one
-key_refused : (h : Held) (number form n k w : ℕ) → (key_refusal number form n k w ≡ 0 → ⊥) → key_held h number form n k w ≡ h
+key_refused : (h : Held) (number n k w : ℕ) → (key_refusal number n k w ≡ 0 → ⊥) → key_held h number n k w ≡ h
 unfolding key_held_under
-key_refused h number form n k w f = rw (ne_eqb (key_refusal number form n k w) 0 f)
+key_refused h number n k w f = rw (ne_eqb (key_refusal number n k w) 0 f)
 
-module _ (h : Held) (number form n k w : ℕ) where
-  pub held_same : key_held h number form (at_most_large n) (at_most_large k) (at_most_large w) ≡ key_held h number form n k w
-  held_same = by (ℕ_discrete (key_refusal number form n k w) 0)
+module _ (h : Held) (number n k w : ℕ) where
+  pub held_same : key_held h number (at_most_large n) (at_most_large k) (at_most_large w) ≡ key_held h number n k w
+  held_same = by (ℕ_discrete (key_refusal number n k w) 0)
     where
-      by : Dec (key_refusal number form n k w ≡ 0) → key_held h number form (at_most_large n) (at_most_large k) (at_most_large w) ≡ key_held h number form n k w
+      by : Dec (key_refusal number n k w ≡ 0) → key_held h number (at_most_large n) (at_most_large k) (at_most_large w) ≡ key_held h number n k w
       by (yes z) =
-          let s = small number form n k w z in
-          λ i. key_held h number form (sym (value_small n s.0) i) (sym (value_small k s.1) i) (sym (value_small w s.2) i)
-      by (no f) = key_refused h number form _ _ _ (λ z. f (sym (refusal_same number form n k w) ∙ z)) ∙ sym (key_refused h number form n k w f)
+          let s = small number n k w z in λ i. key_held h number (sym (value_small n s.0) i) (sym (value_small k s.1) i) (sym (value_small w s.2) i)
+      by (no f) = key_refused h number _ _ _ (λ z. f (sym (refusal_same number n k w) ∙ z)) ∙ sym (key_refused h number n k w f)
 
 -- ---- a line as it is read, with sizes that count as large
 
 pub prints_same : (kept : Holding) (l : Line) → line_prints kept (bounded l) ≡ line_prints kept l
 unfolding line_prints_under bounded
 prints_same kept no_form = refl
-prints_same kept (key_line number form n k w) = ap refusal_prints (refusal_same number form n k w)
+prints_same kept (key_line number n k w) = ap refusal_prints (refusal_same number n k w)
 prints_same kept (row_line digits) = refl
 prints_same kept (sign_line number formula y s) = refl
 
 pub kept_same : (kept : Holding) (l : Line) → line_kept kept (bounded l) ≡ line_kept kept l
 unfolding line_kept_under bounded
 kept_same kept no_form = refl
-kept_same kept (key_line number form n k w) = λ i. record { held = held_same kept.held number form n k w i; ones = kept.ones; twos = kept.twos }
+kept_same kept (key_line number n k w) = λ i. record { held = held_same kept.held number n k w i; ones = kept.ones; twos = kept.twos }
 kept_same kept (row_line digits) = refl
 kept_same kept (sign_line number formula y s) = refl
 

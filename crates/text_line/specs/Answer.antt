@@ -39,13 +39,13 @@ offered_ones m digits = cond (eqb (length digits) m) (ones_of (digit_row digits)
 unfoldable pub offered_twos : ℕ → List ℕ → List ℕ
 offered_twos m digits = cond (eqb (length digits) m) (twos_of (digit_row digits) (words_for m)) []
 
--- ---- P or Q: a new key, in the form that the letter tells (request C-11), replaces the held one, or is refused 1 and leaves it
+-- ---- P: a new key replaces the held one, or is refused 1 and leaves it
 
-unfoldable pub key_refusal_under : ℕ → ℕ → ℕ → ℕ → ℕ → ℕ → ℕ
-key_refusal_under most number form n k w = refuse (ltb most_places n) 1 (begin_refusal_under most number form n k w)
+unfoldable pub key_refusal_under : ℕ → ℕ → ℕ → ℕ → ℕ → ℕ
+key_refusal_under most number n k w = refuse (ltb most_places n) 1 (begin_refusal_under most number n k w)
 
-unfoldable pub key_held_under : ℕ → Held → ℕ → ℕ → ℕ → ℕ → ℕ → Held
-key_held_under most h number form n k w = at_exit (key_refusal_under most number form n k w) (begun_held number form n k w) h
+unfoldable pub key_held_under : ℕ → Held → ℕ → ℕ → ℕ → ℕ → Held
+key_held_under most h number n k w = at_exit (key_refusal_under most number n k w) (begun_held number n k w) h
 
 -- ---- K: the next row, as the checker stores it
 
@@ -93,23 +93,23 @@ refusal_prints refusal = cond (eqb refusal 0) [] (line_refused refusal)
 
 unfoldable pub line_prints_under : ℕ → Holding → Line → List ℕ
 line_prints_under most kept no_form = line_refused 11
-line_prints_under most kept (key_line number form n k w) = refusal_prints (key_refusal_under most number form n k w)
+line_prints_under most kept (key_line number n k w) = refusal_prints (key_refusal_under most number n k w)
 line_prints_under most kept (row_line digits) = refusal_prints (digits_refusal_under most kept digits)
 line_prints_under most kept (sign_line number formula y s) = sign_prints number formula (sign_answer_under most kept number y s)
 
 unfoldable pub line_kept_under : ℕ → Holding → Line → Holding
 line_kept_under most kept no_form = kept
-line_kept_under most kept (key_line number form n k w) = record { held = key_held_under most kept.held number form n k w; ones = kept.ones; twos = kept.twos }
+line_kept_under most kept (key_line number n k w) = record { held = key_held_under most kept.held number n k w; ones = kept.ones; twos = kept.twos }
 line_kept_under most kept (row_line digits) = row_kept_under most kept digits
 line_kept_under most kept (sign_line number formula y s) = kept
 
 -- ---- the same under the largest key number that there is
 
-abbrev pub key_refusal : ℕ → ℕ → ℕ → ℕ → ℕ → ℕ
-key_refusal number form n k w = key_refusal_under most_key_number number form n k w
+abbrev pub key_refusal : ℕ → ℕ → ℕ → ℕ → ℕ
+key_refusal number n k w = key_refusal_under most_key_number number n k w
 
-abbrev pub key_held : Held → ℕ → ℕ → ℕ → ℕ → ℕ → Held
-key_held h number form n k w = key_held_under most_key_number h number form n k w
+abbrev pub key_held : Held → ℕ → ℕ → ℕ → ℕ → Held
+key_held h number n k w = key_held_under most_key_number h number n k w
 
 abbrev pub digits_refusal : Holding → List ℕ → ℕ
 digits_refusal kept digits = digits_refusal_under most_key_number kept digits

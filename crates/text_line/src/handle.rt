@@ -10,7 +10,7 @@ use check_tests::Checked;
 use held_key::state::Held;
 use text::forms::Form;
 
-// What a P, Q or K line comes to: a refusal's number or 0, and the state after it.
+// What a P or a K line comes to: a refusal's number or 0, and the state after it.
 #[derive(Drop)]
 pub struct Changed {
     pub refusal: u64,
@@ -24,10 +24,10 @@ pub struct Handled {
     pub count: usize,
 }
 
-// A key is begun in its form, if its n is at most 256.
-fn begin_key(held: Held, number: u64, form: u64, n: u64, k: u64, w: u64) -> Changed
-    ensures refusal_value { result.refusal ≡ key_refusal number form n k w }
-    ensures held_value { result.held ≡ key_held held number form n k w }
+// A key is begun, if its n is at most 256.
+fn begin_key(held: Held, number: u64, n: u64, k: u64, w: u64) -> Changed
+    ensures refusal_value { result.refusal ≡ key_refusal number n k w }
+    ensures held_value { result.held ≡ key_held held number n k w }
 {
     if n > 256 {
         return Changed {
@@ -35,7 +35,7 @@ fn begin_key(held: Held, number: u64, form: u64, n: u64, k: u64, w: u64) -> Chan
             held: held,
         };
     }
-    let stored = held_key::begin(held, number, form, n, k, w);
+    let stored = held_key::begin(held, number, n, k, w);
     let outcome = stored.outcome;
     let after = stored.held;
     Changed {
@@ -131,14 +131,14 @@ fn print_sign(number: u64, formula: u64, checked: Checked, out: &mut [u8]) -> us
     text::answers::put_sign_refused(out, number, formula, checked.refusal)
 }
 
-// A P or Q line.
-fn handle_key(number: u64, form: u64, n: u64, k: u64, w: u64, held: Held, out: &mut [u8]) -> Handled
+// A P line.
+fn handle_key(number: u64, n: u64, k: u64, w: u64, held: Held, out: &mut [u8]) -> Handled
     requires { 96 ≤ length out.old }
-    ensures held_value { result.held ≡ key_held held number form n k w }
-    ensures count_value { result.count ≡ length (refusal_prints (key_refusal number form n k w)) }
-    ensures out_after { out.new ≡ put_words 0 out.old (refusal_prints (key_refusal number form n k w)) }
+    ensures held_value { result.held ≡ key_held held number n k w }
+    ensures count_value { result.count ≡ length (refusal_prints (key_refusal number n k w)) }
+    ensures out_after { out.new ≡ put_words 0 out.old (refusal_prints (key_refusal number n k w)) }
 {
-    let changed = begin_key(held, number, form, n, k, w);
+    let changed = begin_key(held, number, n, k, w);
     let after = changed.held;
     Handled {
         held: after,
@@ -205,13 +205,13 @@ pub fn handle(
     ensures out_after { out.new ≡ put_words 0 out.old
         (line_prints (holding held ones.old twos.old) (read_line line.now)) }
 {
-    let said = text::forms::read_line(line, held_key::state::MOST_KEY_NUMBER);
-    match said {
+    let form = text::forms::read_line(line, held_key::state::MOST_KEY_NUMBER);
+    match form {
         Form::Neither => Handled {
             held: held,
             count: print_refusal(11, out),
         },
-        Form::Key(number, form, n, k, w) => handle_key(number, form, n, k, w, held, out),
+        Form::Key(number, n, k, w) => handle_key(number, n, k, w, held, out),
         Form::Row => handle_row(&line[2..], held, ones, twos, out),
         Form::Sign(number, formula, c, d) => {
             let c1 = c + 1;

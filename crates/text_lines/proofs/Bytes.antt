@@ -24,14 +24,6 @@ module _ (m : Machine) where
   ended_as e q = λ i. record { len = 0; line = m.line; kept = (q ∙ ap (line_kept m.kept) e) i }
 
   module _ (b : ℕ) where
-    pub longer_more : m.len < 1025 → ◌≡◌ {A = Machine} (record { len = m.len + 1; line = set m.line m.len b; kept = m.kept }) (longer b m)
-    unfolding longer
-    longer_more l = rw (lt-ltb m.len 1025 l)
-
-    pub longer_full : 1025 ≤ m.len → m ≡ longer b m
-    unfolding longer
-    longer_full l = rw (le-ltb m.len 1025 l)
-
     pub step_end : b ≡ 10 → (ended m ≡ stepped b m) × (line_prints m.kept (gathered m) ≡ step_prints b m)
     unfolding stepped step_prints
     step_end e = (rw (eq-eqb b 10 e), rw (eq-eqb b 10 e))
@@ -41,9 +33,13 @@ module _ (m : Machine) where
       unfolding step_prints
       step_none = rw (ne_eqb b 10 f)
 
-      pub step_more : longer b m ≡ stepped b m
-      unfolding stepped
-      step_more = rw (ne_eqb b 10 f)
+      pub step_more : m.len < 1025 → ◌≡◌ {A = Machine} (record { len = m.len + 1; line = set m.line m.len b; kept = m.kept }) (stepped b m)
+      unfolding stepped longer
+      step_more l = rw (ne_eqb b 10 f, lt-ltb m.len 1025 l)
+
+      pub step_full : 1025 ≤ m.len → m ≡ stepped b m
+      unfolding stepped longer
+      step_full l = rw (ne_eqb b 10 f, le-ltb m.len 1025 l)
 
   pub end_none : m.len ≡ 0 → (m ≡ finished m) × ([] ≡ end_prints m)
   unfolding finished end_prints

@@ -33,11 +33,7 @@ most_words = 382
 
 -- no key begun
 unfoldable pub no_key : Holding
-no_key = record {
-  held = record { begun = 0; number = 0; form = 0; n = 0; k = 0; w = 0; rows = 0 };
-  ones = zero_words most_words;
-  twos = zero_words most_words;
-}
+no_key = record { held = record { begun = 0; number = 0; n = 0; k = 0; w = 0; rows = 0 }; ones = zero_words most_words; twos = zero_words most_words }
 
 -- what the program prints for a text: the header, and the answers
 unfoldable pub prints_under : ℕ → List ℕ → List ℕ

@@ -1,9 +1,9 @@
 // Lines of text about a held key, taken byte by byte.
-ghost use Rattle.std.specs.Prelude.{◌≡◌, List, ℕ, length};
+ghost use Rattle.std.specs.Prelude.{◌≡◌, length};
 ghost use Rattle.trits.specs.Rows.{put_words};
 ghost use Rattle.text.specs.Answers.{header};
 ghost use Rattle.text_line.specs.Answer.{line_prints};
-ghost use Rattle.text_lines.specs.Machine.{machine, gathered, ended, longer, stepped, step_prints, finished, end_prints, no_line};
+ghost use Rattle.text_lines.specs.Machine.{machine, gathered, ended, stepped, step_prints, finished, end_prints, no_line};
 
 use held_key::state::Held;
 
@@ -31,7 +31,6 @@ pub fn begin(out: &mut [u8; 96]) -> Next
     let held = Held {
         begun: 0,
         number: 0,
-        form: 0,
         n: 0,
         k: 0,
         w: 0,
@@ -82,22 +81,6 @@ fn end_line(
     }
 }
 
-// One byte more of the line.
-pub fn add_byte(state: State, byte: u8, line: &mut [u8; 1025]) -> State
-    ensures { (ones twos : List ℕ) → machine result line.new ones twos ≡ longer byte (machine state line.old ones twos) }
-{
-    let len = state.len;
-    if len < 1025 {
-        line[len] = byte;
-        let held = state.held;
-        return State {
-            len: len + 1,
-            held: held,
-        };
-    }
-    state
-}
-
 // One byte of the text.
 pub fn step(
     state: State,
@@ -116,9 +99,21 @@ pub fn step(
     if byte == 10 {
         return end_line(state, line, ones, twos, out);
     }
-    let next = add_byte(state, byte, line);
+    let len = state.len;
+    if len < 1025 {
+        line[len] = byte;
+        let held = state.held;
+        let next = State {
+            len: len + 1,
+            held: held,
+        };
+        return Next {
+            state: next,
+            count: 0,
+        };
+    }
     Next {
-        state: next,
+        state: state,
         count: 0,
     }
 }

@@ -17,13 +17,11 @@ use Rattle.matrix.specs.Linear.{Vector, elem, agree, find, solve, in_span, keep,
 use Rattle.matrix.specs.Orders.{is_order}
 use Rattle.trits.specs.InDigits.{vector, digit_rows}
 use Rattle.matrix.proofs.Places.{elem_at}
-use Rattle.verdict.specs.Verdict.{times_key, full_word, syndrome}
-use Rattle.verdict.specs.Wavelet.{in_pairs, changed_trits, rows_of_m, rows_of_r, full_word_m, full_word_in, full_counts_in, other_form, other_rows}
-use Rattle.convert.specs.Convert.{convert_refusal, other_held, converted_key}
+use Rattle.verdict.specs.Verdict.{times_key, full_word, full_counts, syndrome}
 use Rattle.held_key.specs.Held.{numbers_fit_under, sound_under, held_row_under, held_key_under}
 use Rattle.held_key.specs.Store.{begin_refusal_under, begun_held, begin_held, row_refusal_under, store_packed_refusal, next_held, stored_held, stored_plane}
 use Rattle.held_key.specs.Load.{offer, offer_all}
-use Rattle.check_tests.specs.Check.{whole_refusal_under, call_refusal_under, packed_lengths, packed_contents_under, check_packed_refusal_under, held_counts_under, answered}
+use Rattle.check_tests.specs.Check.{call_refusal_under, packed_lengths, packed_contents_under, check_packed_refusal_under, held_counts_under, answered}
 use Rattle.check_tests.specs.Check.{check_packed_answer_under}
 use Rattle.scheme.specs.Sizes.{gaps_fit, sizes_fit_under}
 use Rattle.scheme.specs.Secret.{no_zero, secret_matrix, has_zero}
@@ -34,7 +32,6 @@ use Rattle.calls.specs.BuildCall.{key_differs, build_lengths_differ, build_answe
 use Rattle.calls.specs.DrawCall.{choices_differ, draw_lengths_differ, choices_refusal_under, draw_answer_under, word_of, word_exit, word_exit_under, s_exit_under}
 use Rattle.calls.specs.DrawCall.{draw_work_exit_under}
 use Rattle.wave.specs.Terms.{Terms, built_key, LentSyndrome, HandsOut}
-use Rattle.wave.specs.Verifier.{converted}
 use Rattle.wave.specs.Examples.{sizes4, secret4, start1, key1, p2, key2, y4, draw4}
 use Rattle.wave.specs.Beside.{Beside, secret_r, key_r}
 
@@ -186,15 +183,14 @@ hands_2111 = record { passed = refl; word = λ q h. by q (places_below q h) }
 -- ---- all of them
 
 pub beside : Beside
-unfolding dot_v any_to sum_to up_to bit from_bits bit_at trit_at tabulate ones_of twos_of zero_words both_set past_end rows_of row_part matrix_at put_words rows_past_end first
-    planes_refusal byte_of digit_of packed_row packed_bytes bad_byte packed_past_end packed_refusal pack_refusal_under pack_exit agree find solve in_span keep pivots rank
-    without fill range is_order digit_rows times_key full_word full_word_in full_counts_in in_pairs changed_trits rows_of_m rows_of_r full_word_m other_form other_rows
-    numbers_fit_under sound_under held_row_under held_key_under begin_refusal_under begun_held begin_held row_refusal_under store_packed_refusal next_held stored_held
-    stored_plane offer offer_all whole_refusal_under call_refusal_under convert_refusal other_held converted_key converted packed_lengths packed_contents_under
+unfolding dot_v any_to sum_to up_to bit from_bits bit_at trit_at tabulate ones_of twos_of zero_words both_set past_end rows_of row_part matrix_at put_words rows_past_end
+    first planes_refusal byte_of digit_of packed_row packed_bytes bad_byte packed_past_end packed_refusal pack_refusal_under pack_exit agree find solve in_span keep
+    pivots rank without fill range is_order digit_rows times_key full_word full_counts numbers_fit_under sound_under held_row_under held_key_under begin_refusal_under
+    begun_held begin_held row_refusal_under store_packed_refusal next_held stored_held stored_plane offer offer_all call_refusal_under packed_lengths packed_contents_under
     check_packed_refusal_under held_counts_under answered check_packed_answer_under gaps_fit sizes_fit_under no_zero secret_matrix arrange arranged row_of_r build_refusal
     choices_fit pivots_v supplied_v draw_v pivots_u supplied_u draw_u drawn draw_refusal secret_differs has_zero secret_refusal_under space_exit key_differs
-    build_lengths_differ build_answer_under order_exit_under key_ones_of key_twos_of key_exit_under build_work_exit_under choices_differ draw_lengths_differ choices_refusal_under
-    draw_answer_under word_of word_exit_under s_exit_under draw_work_exit_under built_key
+    build_lengths_differ build_answer_under order_exit_under key_ones_of key_twos_of key_exit_under build_work_exit_under choices_differ draw_lengths_differ
+    choices_refusal_under draw_answer_under word_of word_exit_under s_exit_under draw_work_exit_under built_key
 beside = record {
   word_1200 = refl;
   released_1200 = refl;
@@ -231,13 +227,6 @@ beside = record {
   not_2221 = not_2221;
   none_0212 = none_0212;
   carried_2111 = refl;
-  converted_2111 = refl;
-  converted_form = refl;
-  converted_ones = refl;
-  converted_twos = refl;
-  back_2111 = refl;
-  back_ones = refl;
-  back_twos = refl;
   carried_2221 = refl;
   carried_0102 = refl;
   carried_1200 = refl;

@@ -1,10 +1,9 @@
--- A built key's rows, packed, stored and converted any number of times, then y and the s of a release, packed: the check answers yes, with the ones and
--- twos of the released word,
+-- A built key's rows, packed and stored, then y and the s of a release, packed: the check answers yes, with the ones and twos of the released word,
 -- which add up to w. Assumes nothing.
 use mathlib.Core.Path.{◌≡◌, refl, sym, ap, ap₂, ◌∙◌}
 use mathlib.Core.Bool.{true, false, not, and-eq-true_iff}
 use mathlib.Core.List.{List}
-use Prim.Native.Nat.{ℕ, zero, suc, ◌+◌, ◌-◌, ◌*◌, ◌%◌, ◌≤◌, ◌<◌}
+use Prim.Native.Nat.{ℕ, ◌+◌, ◌-◌, ◌*◌, ◌%◌, ◌≤◌, ◌<◌}
 use native.Mathlib.Nat.{le_refl}
 use native.Mathlib.Omega.{arith}
 use borrow.Author.Tests.{eq-eqb, leb-true, le-leb}
@@ -29,18 +28,15 @@ use Rattle.matrix.specs.Linear.{Vector}
 use Rattle.matrix.proofs.Places.{or_false_left, or_false_right}
 use Rattle.verdict.specs.Verdict.{Key, full_counts}
 use Rattle.verdict.proofs.FullWord.{counts_cong, counts_of}
-use Rattle.verdict.proofs.Wavelet.{r_as_before}
 use Rattle.held_key.specs.Held.{most_key_number, numbers_fit, numbers_fit_under}
 use Rattle.held_key.specs.declared.state.Held.{Held}
 use Rattle.check_tests.specs.declared.Checked.{Checked}
-use Rattle.held_key.specs.Held.{row_trits, key_words}
+use Rattle.held_key.specs.Held.{row_trits}
 use Rattle.held_key.specs.Load.{Holding, offer_all}
 use Rattle.check_tests.specs.Check.{call_refusal, planes_lengths, planes_contents, planes_contents_under, answered}
 use Rattle.check_tests.specs.Check.{check_refusal, check_refusal_under, check_answer, packed_check_of, check_packed_refusal, check_packed_refusal_under}
 use Rattle.check_tests.specs.Check.{check_packed_answer}
 use Rattle.check_tests.proofs.Passed.{check_packed_passed, packed_contents_law}
-use Rattle.convert.specs.Convert.{Convert, convert_of, convert_refusal}
-use Rattle.convert.proofs.Kept.{same_answers}
 use Rattle.check_text.specs.TextCheck.{check_text_answer}
 use Rattle.check_text.proofs.Verdicts.{text_as_packed}
 use Rattle.checker.proofs.EndToEnd.{begun, offered, loaded}
@@ -55,11 +51,10 @@ use Rattle.calls.specs.BuildCall.{BuildCall, key_row_words, key_exit}
 use Rattle.calls.specs.DrawCall.{DrawCall, choices_differ, draw_lengths_differ, draw_answer, word_of, s_exit}
 use Rattle.calls.proofs.Secrets.{pair_same, differs}
 use Rattle.wave.specs.Terms.{Built, built_key, Under, HandsOut, KeyTerms}
-use Rattle.wave.specs.Verifier.{Host, packed_key_row, stored_key, converted, carried, carried_check, carried_planes, Signs, carried_text, yes, Accepts}
+use Rattle.wave.specs.Verifier.{Host, packed_key_row, carried, carried_check, carried_planes, Signs, carried_text, yes, Accepts}
 use Rattle.wave.proofs.Written.{written_passes}
 use Rattle.wave.proofs.Passed.{DrawPassed, draw_call_law}
 use Rattle.wave.proofs.Checks.{packed_not_refused}
-use Rattle.wave.proofs.Turned.{same_text, convertible, turned_sizes}
 use Rattle.wave.proofs.ReachCalls.{few, built_ones, built_twos, built_row, handed_word, handed_ones, handed_twos, handed_signature, drawn_terms}
 
 -- ---- a call of `pack`
@@ -82,7 +77,7 @@ ended ones twos m e lo lt =
 -- ---- sizes
 
 -- those of a draw are those of a key
-fits_held : (z : Sizes) (number : ℕ) → sizes_fit z ≡ true → number ≤ most_key_number → numbers_fit number 0 z.n (dim z) z.w ≡ true
+fits_held : (z : Sizes) (number : ℕ) → sizes_fit z ≡ true → number ≤ most_key_number → numbers_fit number z.n (dim z) z.w ≡ true
 unfolding sizes_fit_under numbers_fit_under
 fits_held z number h l =
     let a = (and-eq-true_iff (leb 4 z.n) _).0 h in
@@ -219,39 +214,38 @@ module _ (z : Sizes) (i : BuildCall) (b : Built z i) (gv gu w : ℕ) (l : DrawCa
   sum_is = counts_weight e (places z) ∙ terms.weighs
 
   -- the answer
-  packed_answer : check_packed_answer (carried_check z i gv gu w l m 0) ≡ yes (ones_v e (places z)) (twos_v e (places z))
+  packed_answer : check_packed_answer (carried_check z i gv gu w l m) ≡ yes (ones_v e (places z)) (twos_v e (places z))
   unfolding answered
   packed_answer =
-      loaded m.number 0 z.n (dim z) w (fits_held Z m.number passed.sizes m.number_fits) (packed_key_row z i m) row_size row_good m.before
+      loaded m.number z.n (dim z) w (fits_held Z m.number passed.sizes m.number_fits) (packed_key_row z i m) row_size row_good m.before
       m.ones m.twos y_packed s_packed m.work_ones m.work_twos
       (m.ones_size ∙ ap (λ (x : ℕ). dim z * words_for x) (sym size)) (m.twos_size ∙ ap (λ (x : ℕ). dim z * words_for x) (sym size))
       (ap length y_is ∙ packed_length (codim z) y ∙ ap bytes_for (sym size)) (ap length s_is ∙ packed_length (dim z) s)
       (ap₂ packed_refusal size y_is ∙ packed_accepted (codim z) y) (ap (packed_refusal (dim z)) s_is ∙ packed_accepted (dim z) s)
       (m.work_ones_size ∙ ap words_for (sym size)) (m.work_twos_size ∙ ap words_for (sym size))
       ∙ ap (λ (x : Counts). answered 0 x w)
-      (r_as_before (z.n - dim z) (dim z) (λ j. packed_row (packed_key_row z i m j)) (packed_row y_packed) (packed_row s_packed)
-      ∙ ap (λ (k : ℕ). full_counts k (dim z) (λ j. packed_row (packed_key_row z i m j)) (packed_row y_packed) (packed_row s_packed)) size ∙ counts_are)
+      (ap (λ (k : ℕ). full_counts k (dim z) (λ j. packed_row (packed_key_row z i m j)) (packed_row y_packed) (packed_row s_packed)) size ∙ counts_are)
       ∙ rw (eq-eqb (sum_of (counts_v e (places z))) w sum_is)
 
   -- ---- the same with y and s in planes
 
   abbrev H : Held
-  H = record { begun = 1; number = m.number; form = 0; n = z.n; k = dim z; w = w; rows = dim z }
+  H = record { begun = 1; number = m.number; n = z.n; k = dim z; w = w; rows = dim z }
 
   abbrev key : Holding
-  key = stored_key z i w m
+  key = carried z i w m
 
   held_is : key.held ≡ H
   held_is =
       let f = fits_held Z m.number passed.sizes m.number_fits in
       ap (λ (h : Held). (offer_all (packed_key_row z i m) (dim z) (record { held = h; ones = m.ones; twos = m.twos })).held)
-      (begun m.number 0 z.n (dim z) w f (packed_key_row z i m) row_size row_good m.before).1
-      ∙ (offered m.number 0 z.n (dim z) w f (packed_key_row z i m) row_size row_good m.ones m.twos
+      (begun m.number z.n (dim z) w f (packed_key_row z i m) row_size row_good m.before).1
+      ∙ (offered m.number z.n (dim z) w f (packed_key_row z i m) row_size row_good m.ones m.twos
       (m.ones_size ∙ ap (λ (x : ℕ). dim z * words_for x) (sym size)) (m.twos_size ∙ ap (λ (x : ℕ). dim z * words_for x) (sym size)) (dim z)
       (le_refl (dim z))).held_is
 
-  packed_passed : check_packed_refusal (carried_check z i gv gu w l m 0) ≡ 0
-  packed_passed = packed_not_refused (carried_check z i gv gu w l m 0) (ap (λ (x : Checked). x.refusal) packed_answer)
+  packed_passed : check_packed_refusal (carried_check z i gv gu w l m) ≡ 0
+  packed_passed = packed_not_refused (carried_check z i gv gu w l m) (ap (λ (x : Checked). x.refusal) packed_answer)
 
   call_passes : call_refusal key.held m.number (length key.ones) (length key.twos) (length m.work_ones) (length m.work_twos) ≡ 0
   unfolding check_packed_refusal_under
@@ -261,7 +255,7 @@ module _ (z : Sizes) (i : BuildCall) (b : Built z i) (gv gu w : ℕ) (l : DrawCa
   rows_pass : planes_refusal key.ones key.twos key.held.k (row_trits key.held) ≡ 0
   rows_pass =
       (packed_contents_law key.held key.ones key.twos y_packed s_packed
-      (check_packed_passed (carried_check z i gv gu w l m 0) packed_passed).2).0
+      (check_packed_passed (carried_check z i gv gu w l m) packed_passed).2).0
 
   lengths_pass : planes_lengths key.held (length l.y.ones) (length l.y.twos) (length (s_exit Z l).ones) (length (s_exit Z l).twos) ≡ 0
   unfolding planes_lengths
@@ -288,16 +282,16 @@ module _ (z : Sizes) (i : BuildCall) (b : Built z i) (gv gu w : ℕ) (l : DrawCa
       (first_goes (sym (ap (planes_refusal l.y.ones l.y.twos 1) f ∙ passed.syndrome)) refl
       (sym (ap (planes_refusal (s_exit Z l).ones (s_exit Z l).twos 1) k ∙ s_passes))))
 
-  planes_passed_all : check_refusal (carried_planes z i gv gu w l m 0) ≡ 0
+  planes_passed_all : check_refusal (carried_planes z i gv gu w l m) ≡ 0
   unfolding check_refusal_under
   planes_passed_all = sym (first_goes (sym call_passes) refl (first_goes (sym lengths_pass) refl (sym contents_pass)))
 
-  planes_answer : check_answer (carried_planes z i gv gu w l m 0) ≡ yes (ones_v e (places z)) (twos_v e (places z))
+  planes_answer : check_answer (carried_planes z i gv gu w l m) ≡ yes (ones_v e (places z)) (twos_v e (places z))
   planes_answer =
       let f : row_trits key.held ≡ codim z = ap (λ (h : Held). row_trits h) held_is ∙ size in
       let k : key.held.k ≡ dim z = ap (λ (h : Held). h.k) held_is in
       let t : trit_at (s_exit Z l).ones (s_exit Z l).twos ≡ s = handed_signature Z l d in
-      sym (packed_agrees (carried_planes z i gv gu w l m 0) planes_passed_all)
+      sym (packed_agrees (carried_planes z i gv gu w l m) planes_passed_all)
       ∙ ap₂ (λ (a b : List ℕ). check_packed_answer (packed_check_of key.held m.number key.ones key.twos a b m.work_ones m.work_twos))
       (ap (λ (x : ℕ). packed_bytes x y) f ∙ sym y_is) (ap₂ packed_bytes k t ∙ sym s_is)
       ∙ packed_answer
@@ -311,62 +305,13 @@ module _ (z : Sizes) (i : BuildCall) (b : Built z i) (gv gu w : ℕ) (l : DrawCa
     y_made : y ≡ hashed_row (codim z) salt text
     y_made = ap₂ trit_at g.y_ones g.y_twos ∙ (syndrome_holds (codim z) salt text g.ones g.twos g.not_refused).trits
 
-    text_answer : check_text_answer (carried_text z i gv gu w l m 0 salt text) ≡ yes (ones_v e (places z)) (twos_v e (places z))
+    text_answer : check_text_answer (carried_text z i gv gu w l m salt text) ≡ yes (ones_v e (places z)) (twos_v e (places z))
     text_answer =
         let f : row_trits key.held ≡ codim z = ap (λ (h : Held). row_trits h) held_is ∙ size in
-        text_as_packed (carried_text z i gv gu w l m 0 salt text) made.0 (ap (λ (x : ℕ). hashed_refusal x salt text) f ∙ made.1)
+        text_as_packed (carried_text z i gv gu w l m salt text) made.0 (ap (λ (x : ℕ). hashed_refusal x salt text) f ∙ made.1)
         ∙ ap (λ (a : List ℕ). check_packed_answer (packed_check_of key.held m.number key.ones key.twos a s_packed m.work_ones m.work_twos))
         (ap (λ (x : ℕ). packed_bytes x (hashed_row x salt text)) f ∙ ap (packed_bytes (codim z)) (sym y_made) ∙ sym y_is)
         ∙ packed_answer
-
-  -- ---- the same with the key converted t times
-
-  -- its sizes are those of the key that was stored
-  sizes_at : (t : ℕ) → ((carried z i w m t).held.n ≡ z.n) × ((carried z i w m t).held.k ≡ dim z)
-  sizes_at zero = (ap (λ (h : Held). h.n) held_is, ap (λ (h : Held). h.k) held_is)
-  sizes_at (suc t) =
-      let (n, k) = turned_sizes m.number (m.other_ones t) (m.other_twos t) (carried z i w m t) in
-      let (n_at, k_at) = sizes_at t in
-      (n ∙ n_at, k ∙ k_at)
-
-  key_words_at : (t : ℕ) → key_words (carried z i w m t).held ≡ dim z * words_for (codim z)
-  key_words_at t =
-      let (n_at, k_at) = sizes_at t in
-      ap₂ (λ (n k : ℕ). k * words_for (n - k)) n_at k_at ∙ ap (λ (x : ℕ). dim z * words_for x) size
-
-  -- the conversion of the key that was converted t times
-  abbrev turn : ℕ → Convert
-  turn t =
-      let u = carried z i w m t in
-      convert_of u.held m.number u.ones u.twos (m.other_ones t) (m.other_twos t)
-
-  -- it is not refused where the check was not
-  may_turn : (t : ℕ) → check_packed_answer (carried_check z i gv gu w l m t) ≡ yes (ones_v e (places z)) (twos_v e (places z)) → convert_refusal (turn t) ≡ 0
-  may_turn t a =
-      convertible (carried z i w m t) m.number (m.other_ones t) (m.other_twos t) y_packed s_packed m.work_ones m.work_twos
-      (packed_not_refused (carried_check z i gv gu w l m t) (ap (λ (x : Checked). x.refusal) a))
-      (m.other_ones_size t ∙ sym (key_words_at t)) (m.other_twos_size t ∙ sym (key_words_at t))
-
-  packed_at : (t : ℕ) → check_packed_answer (carried_check z i gv gu w l m t) ≡ yes (ones_v e (places z)) (twos_v e (places z))
-  unfolding converted
-  packed_at zero = packed_answer
-  packed_at (suc t) =
-      (same_answers (turn t) (may_turn t (packed_at t))).packed_answer m.number y_packed s_packed m.work_ones m.work_twos ∙ packed_at t
-
-  planes_at : (t : ℕ) → check_answer (carried_planes z i gv gu w l m t) ≡ yes (ones_v e (places z)) (twos_v e (places z))
-  unfolding converted
-  planes_at zero = planes_answer
-  planes_at (suc t) =
-      (same_answers (turn t) (may_turn t (packed_at t))).answer m.number l.y.ones l.y.twos (s_exit Z l).ones (s_exit Z l).twos
-      m.work_ones m.work_twos
-      ∙ planes_at t
-
-  module _ (salt text : List ℕ) (g : Signs z salt text l) where
-    text_at : (t : ℕ) → check_text_answer (carried_text z i gv gu w l m t salt text) ≡ yes (ones_v e (places z)) (twos_v e (places z))
-    unfolding converted
-    text_at zero = text_answer salt text g
-    text_at (suc t) =
-        same_text (turn t) (may_turn t (packed_at t)) m.number salt text s_packed m.work_ones m.work_twos ∙ text_at t
 
 -- ---- the word handed out is the word drawn, and so are its ones and twos
 
@@ -386,11 +331,11 @@ module _ (z : Sizes) (i : BuildCall) (b : Built z i) (gv gu w : ℕ) (l : DrawCa
         adds_up = ap (λ (x : Checked). x.ones + x.twos) a ∙ sum_is z i b gv gu w l u h.passed m;
       }
 
-  pub end_to_end : (t : ℕ) → Accepts z w e (check_packed_answer (carried_check z i gv gu w l m t))
-  end_to_end t = accepts (packed_at z i b gv gu w l u h.passed m t)
+  pub end_to_end : Accepts z w e (check_packed_answer (carried_check z i gv gu w l m))
+  end_to_end = accepts (packed_answer z i b gv gu w l u h.passed m)
 
-  pub end_to_end_planes : (t : ℕ) → Accepts z w e (check_answer (carried_planes z i gv gu w l m t))
-  end_to_end_planes t = accepts (planes_at z i b gv gu w l u h.passed m t)
+  pub end_to_end_planes : Accepts z w e (check_answer (carried_planes z i gv gu w l m))
+  end_to_end_planes = accepts (planes_answer z i b gv gu w l u h.passed m)
 
-  pub end_to_end_text : (t : ℕ) (salt text : List ℕ) → Signs z salt text l → Accepts z w e (check_text_answer (carried_text z i gv gu w l m t salt text))
-  end_to_end_text t salt text g = accepts (text_at z i b gv gu w l u h.passed m salt text g t)
+  pub end_to_end_text : (salt text : List ℕ) → Signs z salt text l → Accepts z w e (check_text_answer (carried_text z i gv gu w l m salt text))
+  end_to_end_text salt text g = accepts (text_answer z i b gv gu w l u h.passed m salt text g)

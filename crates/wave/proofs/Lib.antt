@@ -1,5 +1,5 @@
 -- The theorems: first, cases beside the stars; the syndrome and the secret matrix, what draws reach over
--- vectors and over calls, the verifier, a key converted, end to end; demand 3 whole; last, the starred cases.
+-- vectors and over calls, the verifier, end to end; demand 3 whole; last, the starred cases.
 pub mod Beside
 pub mod Syndrome
 pub mod Reach
@@ -9,7 +9,6 @@ pub mod Cut
 pub mod Passed
 pub mod ReachCalls
 pub mod Checks
-pub mod Turned
 pub mod EndToEnd
 pub mod Demands
 pub mod Starred

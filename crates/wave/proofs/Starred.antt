@@ -18,9 +18,8 @@ use Rattle.trits.specs.InDigits.{digit_rows}
 use Rattle.matrix.proofs.Field.{set_not}
 use Rattle.matrix.proofs.Places.{elem_at}
 use Rattle.verdict.specs.Verdict.{times_key, full_word, full_counts, says_yes}
-use Rattle.verdict.specs.Wavelet.{full_word_in, full_counts_in}
 use Rattle.held_key.specs.Held.{numbers_fit_under, sound_under, held_row_under, held_key_under}
-use Rattle.check_tests.specs.Check.{whole_refusal_under, call_refusal_under, packed_lengths, packed_contents_under, check_packed_refusal_under, held_counts_under, answered}
+use Rattle.check_tests.specs.Check.{call_refusal_under, packed_lengths, packed_contents_under, check_packed_refusal_under, held_counts_under, answered}
 use Rattle.check_tests.specs.Check.{check_packed_answer_under}
 use Rattle.scheme.specs.Sizes.{gaps_fit, sizes_fit_under}
 use Rattle.scheme.specs.Secret.{secret_matrix, has_zero}
@@ -83,9 +82,8 @@ never gu one gv l u d s1 s2 =
 pub starred : Starred
 unfolding dot_v any_to sum_to up_to bit from_bits bit_at trit_at tabulate ones_of twos_of zero_words both_set past_end rows_of row_part matrix_at rows_past_end first
     planes_refusal byte_of digit_of packed_row packed_bytes bad_byte packed_past_end packed_refusal pack_refusal_under pack_exit unpack_refusal unpack_ones unpack_twos
-    agree find solve in_span keep pivots rank without fill range is_order digit_rows times_key full_word full_counts says_yes full_word_in full_counts_in numbers_fit_under
-    sound_under held_row_under held_key_under whole_refusal_under call_refusal_under packed_lengths packed_contents_under check_packed_refusal_under held_counts_under answered
-    check_packed_answer_under
+    agree find solve in_span keep pivots rank without fill range is_order digit_rows times_key full_word full_counts says_yes numbers_fit_under sound_under
+    held_row_under held_key_under call_refusal_under packed_lengths packed_contents_under check_packed_refusal_under held_counts_under answered check_packed_answer_under
     gaps_fit sizes_fit_under secret_matrix arrange arranged row_of_r build_refusal pivots_v supplied_v draw_v pivots_u supplied_u draw_u drawn draw_refusal secret_differs
     has_zero secret_refusal_under space_exit key_differs build_lengths_differ build_answer_under order_exit_under key_ones_of key_twos_of key_exit_under build_work_exit_under
     choices_differ draw_lengths_differ choices_refusal_under draw_answer_under word_of word_exit_under s_exit_under draw_work_exit_under

@@ -10,7 +10,7 @@ use Rattle.scheme.specs.Draw.{choices_fit, drawn}
 use Rattle.calls.specs.BuildCall.{build_answer, order_exit, key_exit, build_work_exit}
 use Rattle.calls.specs.DrawCall.{draw_answer, word_exit, draw_work_exit}
 use Rattle.wave.specs.Terms.{Terms, built_key, LentSyndrome, Under, HandsOut}
-use Rattle.wave.specs.Verifier.{carried, carried_check, yes}
+use Rattle.wave.specs.Verifier.{carried_check, yes}
 use Rattle.wave.specs.Examples.{sizes4, secret4, start1, key1, start2, p2, key2, y4, choose, word4, refusal4, build4, draw4, host4}
 
 -- another secret, with H_U = (1 0), and the key that the starting order (0,1,2,3) gives: its p is the same
@@ -81,18 +81,10 @@ pub record Beside : Type 0 where
   -- ---- from build to verdict
 
   -- y = 12 and the s of the release 2111, which is 11, under the first key: yes with three 1s and one 2, as the paper's example of lines has it
-  pub carried_2111 : check_packed_answer (carried_check (sizes4 0 0 4) (build4 start1) 0 0 4 (draw4 start1 0 1 1 0) host4 0) ≡ yes 3 1
-  -- the same with the key converted once, so that it is held as M, and once more, so that it is held as R again
-  pub converted_2111 : check_packed_answer (carried_check (sizes4 0 0 4) (build4 start1) 0 0 4 (draw4 start1 0 1 1 0) host4 1) ≡ yes 3 1
-  pub converted_form : (carried (sizes4 0 0 4) (build4 start1) 4 host4 1).held.form ≡ 1
-  pub converted_ones : (carried (sizes4 0 0 4) (build4 start1) 4 host4 1).ones ≡ 2 ∷ 1 ∷ []
-  pub converted_twos : (carried (sizes4 0 0 4) (build4 start1) 4 host4 1).twos ≡ 1 ∷ 0 ∷ []
-  pub back_2111 : check_packed_answer (carried_check (sizes4 0 0 4) (build4 start1) 0 0 4 (draw4 start1 0 1 1 0) host4 2) ≡ yes 3 1
-  pub back_ones : (carried (sizes4 0 0 4) (build4 start1) 4 host4 2).ones ≡ 0 ∷ 0 ∷ []
-  pub back_twos : (carried (sizes4 0 0 4) (build4 start1) 4 host4 2).twos ≡ 2 ∷ 3 ∷ []
+  pub carried_2111 : check_packed_answer (carried_check (sizes4 0 0 4) (build4 start1) 0 0 4 (draw4 start1 0 1 1 0) host4) ≡ yes 3 1
   -- the s of the release 2221
-  pub carried_2221 : check_packed_answer (carried_check (sizes4 0 0 4) (build4 start1) 0 0 4 (draw4 start1 0 0 0 1) host4 0) ≡ yes 1 3
+  pub carried_2221 : check_packed_answer (carried_check (sizes4 0 0 4) (build4 start1) 0 0 4 (draw4 start1 0 0 0 1) host4) ≡ yes 1 3
   -- the same key at w = 2, and the s of the release 0102
-  pub carried_0102 : check_packed_answer (carried_check (sizes4 0 0 4) (build4 start1) 0 0 2 (draw4 start1 0 0 1 0) host4 0) ≡ yes 1 1
+  pub carried_0102 : check_packed_answer (carried_check (sizes4 0 0 4) (build4 start1) 0 0 2 (draw4 start1 0 0 1 0) host4) ≡ yes 1 1
   -- and the s of the release 1200, drawn with a gap of U and none of V
-  pub carried_1200 : check_packed_answer (carried_check (sizes4 0 0 4) (build4 start1) 0 1 2 (draw4 start1 0 1 0 0) host4 0) ≡ yes 1 1
+  pub carried_1200 : check_packed_answer (carried_check (sizes4 0 0 4) (build4 start1) 0 1 2 (draw4 start1 0 1 0 0) host4) ≡ yes 1 1

@@ -27,8 +27,7 @@ pub record DemandThree : Type 0 where
   pub any_gap_of_v : (z : Sizes) (i : BuildCall) → Built z i → (gv other gu w : ℕ) → sizes_fit (sized z gv gu w) ≡ true
       → sizes_fit (sized z other gu w) ≡ true → (y_ones y_twos : List ℕ) → LentSyndrome z y_ones y_twos → (e : Vector)
       → SomeDraw z i gv gu w y_ones y_twos e ↔ SomeDraw z i other gu w y_ones y_twos e
-  -- the verifier: a check that is not refused says yes exactly when some word of weight w that has the syndrome y under the held key extends s, the key
-  -- being of either form and read by the R that it converts to
+  -- the verifier: a check that is not refused says yes exactly when some word of weight w that has the syndrome y under the held key extends s
   pub verifier : (c : Check) → (check_answer c).refusal ≡ 0
       → ((check_answer c).yes ≡ 1) ↔ HeldFound c.held c.ones c.twos (trit_at c.y_ones c.y_twos) (trit_at c.s_ones c.s_twos)
   -- and so does one of packed y and s
@@ -47,16 +46,16 @@ pub record DemandThree : Type 0 where
   pub text_one_word : (c : TextCheck) → (check_text_answer c).refusal ≡ 0 → (y s e f : Vector) → HeldExtending c.held c.ones c.twos y s e
       → HeldExtending c.held c.ones c.twos y s f
       → (q : ℕ) → q < c.held.n → e q ≡ f q
-  -- end to end: pack the rows of a built key, begin, store them, convert the key t times, pack y and the s of a release, check: yes, with the ones and
+  -- end to end: pack the rows of a built key, begin, store them, pack y and the s of a release, check: yes, with the ones and
   -- twos of the released word e, which add up to w
   pub end_to_end : (z : Sizes) (i : BuildCall) → Built z i → (gv gu w : ℕ) (l : DrawCall) (e : Vector) → Under z i l
-      → HandsOut (sized z gv gu w) l e → (m : Host z) (t : ℕ)
-      → Accepts z w e (check_packed_answer (carried_check z i gv gu w l m t))
+      → HandsOut (sized z gv gu w) l e → (m : Host z)
+      → Accepts z w e (check_packed_answer (carried_check z i gv gu w l m))
   -- and with y and s in planes
   pub end_to_end_planes : (z : Sizes) (i : BuildCall) → Built z i → (gv gu w : ℕ) (l : DrawCall) (e : Vector) → Under z i l
-      → HandsOut (sized z gv gu w) l e → (m : Host z) (t : ℕ)
-      → Accepts z w e (check_answer (carried_planes z i gv gu w l m t))
+      → HandsOut (sized z gv gu w) l e → (m : Host z)
+      → Accepts z w e (check_answer (carried_planes z i gv gu w l m))
   -- and with the salt and the text for which y was made
   pub end_to_end_text : (z : Sizes) (i : BuildCall) → Built z i → (gv gu w : ℕ) (l : DrawCall) (e : Vector) → Under z i l
-      → HandsOut (sized z gv gu w) l e → (m : Host z) (t : ℕ) (salt text : List ℕ) → Signs z salt text l
-      → Accepts z w e (check_text_answer (carried_text z i gv gu w l m t salt text))
+      → HandsOut (sized z gv gu w) l e → (m : Host z) (salt text : List ℕ) → Signs z salt text l
+      → Accepts z w e (check_text_answer (carried_text z i gv gu w l m salt text))

@@ -91,11 +91,9 @@ draw4 p v1 v2 u1 u2 = record {
 abbrev pub host4 : Host (sizes4 0 0 4)
 host4 = record {
   number = 7;
-  before = record { begun = 0; number = 0; form = 0; n = 0; k = 0; w = 0; rows = 0 };
+  before = record { begun = 0; number = 0; n = 0; k = 0; w = 0; rows = 0 };
   ones = 5 ∷ 6 ∷ [];
   twos = 7 ∷ 8 ∷ [];
-  other_ones = λ t. 5 ∷ 6 ∷ [];
-  other_twos = λ t. 7 ∷ 8 ∷ [];
   row_bytes = λ j. 9 ∷ [];
   y_bytes = 9 ∷ [];
   s_bytes = 9 ∷ [];
@@ -104,8 +102,6 @@ host4 = record {
   number_fits = omega arith;
   ones_size = refl;
   twos_size = refl;
-  other_ones_size = λ t. refl;
-  other_twos_size = λ t. refl;
   row_bytes_size = λ j l. refl;
   y_bytes_size = refl;
   s_bytes_size = refl;

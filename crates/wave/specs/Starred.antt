@@ -88,7 +88,7 @@ pub record Starred : Type 0 where
   -- at w = 2, s = 00 is accepted (1200)
   pub full_1200 : digits 4 (full_word 2 2 key1 y4 (vector (0 ∷ 0 ∷ []))) ≡ 1 ∷ 2 ∷ 0 ∷ 0 ∷ []
   pub accepted_1200 : says_yes 2 2 2 key1 y4 (vector (0 ∷ 0 ∷ [])) ≡ true
-  pub answer_1200 : check_packed_answer (packed_check_of (record { begun = 1; number = 7; form = 0; n = 4; k = 2; w = 2; rows = 2 })
+  pub answer_1200 : check_packed_answer (packed_check_of (record { begun = 1; number = 7; n = 4; k = 2; w = 2; rows = 2 })
       7 (0 ∷ 0 ∷ []) (2 ∷ 3 ∷ []) (7 ∷ []) (0 ∷ []) (5 ∷ []) (6 ∷ [])) ≡ yes 1 1
   -- yet no draw makes it
   pub never_1200 : NoDrawMakes1200 gap4

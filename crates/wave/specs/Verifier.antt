@@ -1,6 +1,6 @@
 -- The verifier, which is the checker's call that gives the verdict ("The words of demand 3"), and a key and a
 -- signature on their way from the editor to the module ("The two halves"). Assumes nothing.
-use Rattle.std.specs.Prelude.{◌≡◌, List, ℕ, zero, suc, ◌+◌, ◌*◌, ◌≤◌, ◌<◌, length}
+use Rattle.std.specs.Prelude.{◌≡◌, List, ℕ, ◌+◌, ◌*◌, ◌≤◌, ◌<◌, length}
 use Rattle.trits.specs.Trit.{ones_v, twos_v}
 use Rattle.trits.specs.Planes.{words_for}
 use Rattle.trits.specs.Rows.{row_part}
@@ -11,11 +11,10 @@ use Rattle.matrix.specs.Linear.{Vector}
 use Rattle.verdict.specs.Verdict.{Extending, Found}
 use Rattle.held_key.specs.declared.state.Held.{Held}
 use Rattle.check_tests.specs.declared.Checked.{Checked}
-use Rattle.held_key.specs.Held.{most_key_number, row_trits, held_r}
+use Rattle.held_key.specs.Held.{most_key_number, row_trits, held_key}
 use Rattle.held_key.specs.Store.{begin_held}
 use Rattle.held_key.specs.Load.{Holding, offer_all}
 use Rattle.check_tests.specs.Check.{Check, PackedCheck}
-use Rattle.convert.specs.Convert.{convert_of, convert_held, convert_ones, convert_twos}
 use Rattle.check_text.specs.TextCheck.{TextCheck}
 use Rattle.scheme.specs.declared.sizes.Sizes.{Sizes}
 use Rattle.scheme.specs.Sizes.{places, dim, codim, sized}
@@ -24,26 +23,23 @@ use Rattle.calls.specs.DrawCall.{DrawCall, s_exit}
 
 -- ---- what a check finds: its answer is `check_answer`, `check_packed_answer` where y and s are packed, or `check_text_answer` of a salt and a text
 
--- the whole key is any k rows that the call finds held, of either form, and is read by the R that it converts to (request C-11): under it the word e of
--- n trits has the syndrome y and extends s
+-- the whole key is any k rows that the call finds held: under it the word e of n trits has the syndrome y and extends s
 abbrev pub HeldExtending : Held → List ℕ → List ℕ → Vector → Vector → Vector → Type 0
-HeldExtending h ones twos y s e = Extending (row_trits h) h.k (held_r h ones twos) y s e
+HeldExtending h ones twos y s e = Extending (row_trits h) h.k (held_key h ones twos) y s e
 
 -- and some word of weight w does
 abbrev pub HeldFound : Held → List ℕ → List ℕ → Vector → Vector → Type 0
-HeldFound h ones twos y s = Found (row_trits h) h.k h.w (held_r h ones twos) y s
+HeldFound h ones twos y s = Found (row_trits h) h.k h.w (held_key h ones twos) y s
 
 -- ---- end to end
 
 -- what the hosts lend on the way, beside what build and draw are lent: a key number; a state of any content; planes for the
--- key and for each of its conversions, bytes for its rows, y and s, working space, of any content too, of the lengths that the sizes say
+-- key, bytes for its rows, y and s, working space, of any content too, of the lengths that the sizes say
 pub record Host (z : Sizes) : Type 0 where
   pub number : ℕ
   pub before : Held
   pub ones : List ℕ
   pub twos : List ℕ
-  pub other_ones : ℕ → List ℕ
-  pub other_twos : ℕ → List ℕ
   pub row_bytes : ℕ → List ℕ
   pub y_bytes : List ℕ
   pub s_bytes : List ℕ
@@ -52,8 +48,6 @@ pub record Host (z : Sizes) : Type 0 where
   pub number_fits : number ≤ most_key_number
   pub ones_size : length ones ≡ dim z * words_for (codim z)
   pub twos_size : length twos ≡ dim z * words_for (codim z)
-  pub other_ones_size : (t : ℕ) → length (other_ones t) ≡ dim z * words_for (codim z)
-  pub other_twos_size : (t : ℕ) → length (other_twos t) ≡ dim z * words_for (codim z)
   pub row_bytes_size : (j : ℕ) → j < dim z → length (row_bytes j) ≡ bytes_for (codim z)
   pub y_bytes_size : length y_bytes ≡ bytes_for (codim z)
   pub s_bytes_size : length s_bytes ≡ bytes_for (dim z)
@@ -66,33 +60,21 @@ packed_key_row z i m j =
     let part : List ℕ → List ℕ = λ plane. row_part plane (dim z) (key_row_words z) j in
     pack_exit (pack_of (codim z) (part (key_exit z i).ones) (part (key_exit z i).twos) (m.row_bytes j))
 
--- the module begins a key with these numbers, of form 0, which is R, and its k packed rows are stored one after another
-abbrev pub stored_key : (z : Sizes) → BuildCall → ℕ → Host z → Holding
-stored_key z i w m =
-    offer_all (packed_key_row z i m) (dim z) (record { held = begin_held m.before m.number 0 z.n (dim z) w; ones = m.ones; twos = m.twos })
-
--- a held key after a call of `convert` into two other planes
-unfoldable pub converted : ℕ → List ℕ → List ℕ → Holding → Holding
-converted number ones twos key =
-    let c = convert_of key.held number key.ones key.twos ones twos in
-    record { held = convert_held c; ones = convert_ones c; twos = convert_twos c }
-
--- the module converts it t times, never or as often as it likes: at an even t the key is held as R, at an odd one as M
-abbrev pub carried : (z : Sizes) → BuildCall → ℕ → Host z → ℕ → Holding
-carried z i w m zero = stored_key z i w m
-carried z i w m (suc t) = converted m.number (m.other_ones t) (m.other_twos t) (carried z i w m t)
+-- the module begins a key with these numbers, and its k packed rows are stored one after another
+abbrev pub carried : (z : Sizes) → BuildCall → ℕ → Host z → Holding
+carried z i w m = offer_all (packed_key_row z i m) (dim z) (record { held = begin_held m.before m.number z.n (dim z) w; ones = m.ones; twos = m.twos })
 
 -- the s that the draw handed out, packed by a call of `pack`
 abbrev pub packed_signature : (z : Sizes) → ℕ → ℕ → ℕ → DrawCall → Host z → List ℕ
 packed_signature z gv gu w l m = pack_exit (pack_of (dim z) (s_exit (sized z gv gu w) l).ones (s_exit (sized z gv gu w) l).twos m.s_bytes)
 
 -- then it checks y, packed by a call of `pack` too, and that s
-abbrev pub carried_check : (z : Sizes) → BuildCall → ℕ → ℕ → ℕ → DrawCall → Host z → ℕ → PackedCheck
-carried_check z i gv gu w l m t = record {
-  held = (carried z i w m t).held;
+abbrev pub carried_check : (z : Sizes) → BuildCall → ℕ → ℕ → ℕ → DrawCall → Host z → PackedCheck
+carried_check z i gv gu w l m = record {
+  held = (carried z i w m).held;
   number = m.number;
-  ones = (carried z i w m t).ones;
-  twos = (carried z i w m t).twos;
+  ones = (carried z i w m).ones;
+  twos = (carried z i w m).twos;
   y = pack_exit (pack_of (codim z) l.y.ones l.y.twos m.y_bytes);
   s = packed_signature z gv gu w l m;
   work_ones = m.work_ones;
@@ -100,12 +82,12 @@ carried_check z i gv gu w l m t = record {
 }
 
 -- or y and that s in planes, as they are lent
-abbrev pub carried_planes : (z : Sizes) → BuildCall → ℕ → ℕ → ℕ → DrawCall → Host z → ℕ → Check
-carried_planes z i gv gu w l m t = record {
-  held = (carried z i w m t).held;
+abbrev pub carried_planes : (z : Sizes) → BuildCall → ℕ → ℕ → ℕ → DrawCall → Host z → Check
+carried_planes z i gv gu w l m = record {
+  held = (carried z i w m).held;
   number = m.number;
-  ones = (carried z i w m t).ones;
-  twos = (carried z i w m t).twos;
+  ones = (carried z i w m).ones;
+  twos = (carried z i w m).twos;
   y_ones = l.y.ones;
   y_twos = l.y.twos;
   s_ones = (s_exit (sized z gv gu w) l).ones;
@@ -122,12 +104,12 @@ pub record Signs (z : Sizes) (salt text : List ℕ) (l : DrawCall) : Type 0 wher
   pub y_ones : l.y.ones ≡ syndrome_ones (syndrome_of (codim z) salt text ones twos)
   pub y_twos : l.y.twos ≡ syndrome_twos (syndrome_of (codim z) salt text ones twos)
 
-abbrev pub carried_text : (z : Sizes) → BuildCall → ℕ → ℕ → ℕ → DrawCall → Host z → ℕ → List ℕ → List ℕ → TextCheck
-carried_text z i gv gu w l m t salt text = record {
-  held = (carried z i w m t).held;
+abbrev pub carried_text : (z : Sizes) → BuildCall → ℕ → ℕ → ℕ → DrawCall → Host z → List ℕ → List ℕ → TextCheck
+carried_text z i gv gu w l m salt text = record {
+  held = (carried z i w m).held;
   number = m.number;
-  ones = (carried z i w m t).ones;
-  twos = (carried z i w m t).twos;
+  ones = (carried z i w m).ones;
+  twos = (carried z i w m).twos;
   salt = salt;
   text = text;
   s = packed_signature z gv gu w l m;

@@ -4,7 +4,6 @@ ghost use Rattle.packed.specs.Calls.{pack_of, pack_refusal, pack_exit, unpack_of
 ghost use Rattle.packed.specs.Calls.{stream_of, stream_refusal, stream_ones, stream_twos};
 ghost use Rattle.held_key.specs.Store.{begin_refusal, begin_held, packed_store_of, store_packed_refusal, store_packed_held, store_packed_ones, store_packed_twos};
 ghost use Rattle.check_tests.specs.Check.{packed_check_of, check_packed_answer, check_packed_work_ones, check_packed_work_twos};
-ghost use Rattle.convert.specs.Convert.{convert_of, convert_refusal, convert_held, convert_ones, convert_twos};
 ghost use Rattle.shake.specs.Shake.{shake256};
 ghost use Rattle.syndrome.specs.Syndrome.{syndrome_of, syndrome_refusal, syndrome_ones, syndrome_twos};
 ghost use Rattle.check_text.specs.TextCheck.{text_check_of, check_text_answer, check_text_work_ones, check_text_work_twos};
@@ -12,7 +11,7 @@ ghost use Rattle.check_text.specs.TextCheck.{text_check_of, check_text_answer, c
 use check_tests::Checked;
 use held_key::state::Held;
 
-// A beginning, a row or a conversion in numbers.
+// A beginning or a row in numbers.
 #[repr(C)]
 #[derive(Drop)]
 pub struct StoredNumbers {
@@ -22,18 +21,11 @@ pub struct StoredNumbers {
 
 // `begin` for C.
 #[unsafe(no_mangle)]
-pub extern "C" fn wave_begin(
-    held: Held,
-    number: u64,
-    form: u64,
-    n: u64,
-    k: u64,
-    w: u64,
-) -> StoredNumbers
-    ensures refusal_value { result.refusal ≡ begin_refusal number form n k w }
-    ensures held_value { result.held ≡ begin_held held number form n k w }
+pub extern "C" fn wave_begin(held: Held, number: u64, n: u64, k: u64, w: u64) -> StoredNumbers
+    ensures refusal_value { result.refusal ≡ begin_refusal number n k w }
+    ensures held_value { result.held ≡ begin_held held number n k w }
 {
-    let stored = held_key::begin(held, number, form, n, k, w);
+    let stored = held_key::begin(held, number, n, k, w);
     let outcome = stored.outcome;
     let after = stored.held;
     StoredNumbers {
@@ -60,29 +52,6 @@ pub extern "C" fn wave_store_row(
     StoredNumbers {
         refusal: trits::refusal::code(outcome),
         held: after, // one row more where it was stored
-    }
-}
-
-// `convert` for C.
-#[unsafe(no_mangle)]
-pub extern "C" fn wave_convert(
-    held: Held,
-    number: u64,
-    ones: &[u64],
-    twos: &[u64],
-    other_ones: &mut [u64],
-    other_twos: &mut [u64],
-) -> StoredNumbers
-    ensures { let c = convert_of held number ones.now twos.now other_ones.old other_twos.old in
-        (result.refusal ≡ convert_refusal c) × (result.held ≡ convert_held c)
-        × (other_ones.new ≡ convert_ones c) × (other_twos.new ≡ convert_twos c) }
-{
-    let stored = convert::convert(held, number, ones, twos, other_ones, other_twos);
-    let outcome = stored.outcome;
-    let after = stored.held;
-    StoredNumbers {
-        refusal: trits::refusal::code(outcome),
-        held: after, // of the other form where it was converted
     }
 }
 

@@ -47,14 +47,6 @@ pub fn take_out(row: &mut [u8], factor: u8, from: &[u8]) {
     }
 }
 
-/// Adds `factor` times row `from` to `row`.
-pub fn put_in(row: &mut [u8], factor: u8, from: &[u8]) {
-    assert_eq!(row.len(), from.len());
-    for (x, y) in row.iter_mut().zip(from) {
-        *x = (*x + factor * *y) % 3;
-    }
-}
-
 /// One column of an elimination: a row from `at` on with a trit there comes to `at`, gets a 1 there, and is taken out of all others. False if there is no such row.
 pub fn clear_column(rows: &mut [Vec<u8>], at: usize, column: usize) -> bool {
     let Some(found) = (at..rows.len()).find(|r| rows[*r][column] != 0) else {

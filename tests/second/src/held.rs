@@ -1,10 +1,9 @@
-//! The module's half: the held key, its rows, its two forms, and the verdict.
+//! The module's half: the held key, its rows, and the verdict.
 
 use crate::algebra::{ones_and_twos, take_out};
 use crate::packing::{bytes, packed_fault, syndrome_by, unpacked, Hash, SALT};
-use crate::planes::{fault, read, read_row, words, write, write_row};
+use crate::planes::{fault, read, read_row, words, write_row};
 use crate::shake::shake256;
-use crate::wavelet::{full_word_under_m, to_m, to_r};
 
 /// The state, as the C header has it.
 #[repr(C)]
@@ -12,7 +11,6 @@ use crate::wavelet::{full_word_under_m, to_m, to_r};
 pub struct Held {
     pub begun: u64,
     pub number: u64,
-    pub form: u64,
     pub n: u64,
     pub k: u64,
     pub w: u64,
@@ -38,28 +36,23 @@ pub struct Checked {
 /// The largest key number.
 pub const MOST_KEY_NUMBER: u64 = 4_294_967_295;
 
-/// The forms of a held key.
-pub const R: u64 = 0;
-pub const M: u64 = 1;
-
-/// What the checker knows of the sizes, the key number and the form: each in its range.
-pub fn in_range(number: u64, form: u64, n: u64, k: u64, w: u64) -> bool {
-    let sizes = (4..=16384).contains(&n) && n % 2 == 0 && (2..=n - 2).contains(&k) && (1..=n).contains(&w);
-    number <= MOST_KEY_NUMBER && [R, M].contains(&form) && sizes
+/// What the checker knows of the sizes, and the key number: each in its range.
+pub fn in_range(number: u64, n: u64, k: u64, w: u64) -> bool {
+    number <= MOST_KEY_NUMBER && (4..=16384).contains(&n) && n % 2 == 0 && (2..=n - 2).contains(&k) && (1..=n).contains(&w)
 }
 
-pub fn begin(held: Held, number: u64, form: u64, n: u64, k: u64, w: u64) -> Stored {
-    if !in_range(number, form, n, k, w) {
+pub fn begin(held: Held, number: u64, n: u64, k: u64, w: u64) -> Stored {
+    if !in_range(number, n, k, w) {
         return Stored { refusal: 1, held };
     }
-    Stored { refusal: 0, held: Held { begun: 1, number, form, n, k, w, rows: 0 } }
+    Stored { refusal: 0, held: Held { begun: 1, number, n, k, w, rows: 0 } }
 }
 
 /// 20 for no key begun, 1 for a begun state out of its ranges, else 0.
 fn state_refusal(held: &Held) -> u64 {
     if held.begun == 0 {
         20
-    } else if held.begun != 1 || !in_range(held.number, held.form, held.n, held.k, held.w) || held.rows > held.k {
+    } else if held.begun != 1 || !in_range(held.number, held.n, held.k, held.w) || held.rows > held.k {
         1
     } else {
         0
@@ -88,51 +81,7 @@ pub fn store_row(held: Held, ones: &mut [u64], twos: &mut [u64], row: &[u8]) -> 
     Stored { refusal: 0, held: Held { rows: held.rows + 1, ..held } }
 }
 
-/// The refusal of a call that asks for a whole key by its number: 20, 1, 20, 22; else 0.
-fn whole_refusal(held: &Held, number: u64) -> u64 {
-    match state_refusal(held) {
-        0 if held.rows < held.k => 20,
-        0 if number != held.number => 22,
-        found => found,
-    }
-}
-
-/// The key in the other form; planes are ones, then twos.
-pub fn convert(held: Held, number: u64, key: [&[u64]; 2], other: [&mut [u64]; 2]) -> Stored {
-    let refused = |refusal| Stored { refusal, held };
-    let found = whole_refusal(&held, number);
-    if found != 0 {
-        return refused(found);
-    }
-    let (k, m) = (held.k as usize, (held.n - held.k) as usize);
-    if key.iter().any(|plane| plane.len() != k * words(m)) || other.iter().any(|plane| plane.len() != k * words(m)) {
-        return refused(2);
-    }
-    let found = fault(key[0], key[1], k, m);
-    if found != 0 {
-        return refused(found);
-    }
-    let rows = read(key[0], key[1], k, m);
-    let [ones, twos] = other;
-    if held.form == R {
-        write(&to_m(&rows), ones, twos);
-        Stored { refusal: 0, held: Held { form: M, ..held } }
-    } else {
-        write(&to_r(&rows), ones, twos);
-        Stored { refusal: 0, held: Held { form: R, ..held } }
-    }
-}
-
-/// The full word of y and s under a key of this form.
-pub fn full_word_by(form: u64, rows: &[Vec<u8>], y: &[u8], s: &[u8]) -> Vec<u8> {
-    match form {
-        R => full_word(rows, y, s),
-        M => full_word_under_m(rows, y, s),
-        _ => panic!("{form} is no form"),
-    }
-}
-
-/// The full word of y and s under R: (y - s·R-transposed, s). Row i of the key is column i of R.
+/// The full word of y and s: (y - s·R-transposed, s). Row i of the key is column i of R.
 pub fn full_word(rows: &[Vec<u8>], y: &[u8], s: &[u8]) -> Vec<u8> {
     assert_eq!(rows.len(), s.len());
     let mut word = y.to_vec();
@@ -186,9 +135,15 @@ impl Asked<'_> {
 /// A check of either kind; planes are ones, then twos. The working space is 0 after 6 and after a verdict.
 pub fn check_on(held: Held, number: u64, key: [&[u64]; 2], asked: Asked, s: &[u8], work: [&mut [u64]; 2]) -> Checked {
     let refused = |refusal| Checked { refusal, yes: 0, ones: 0, twos: 0 };
-    let found = whole_refusal(&held, number);
+    let found = state_refusal(&held);
     if found != 0 {
         return refused(found);
+    }
+    if held.rows < held.k {
+        return refused(20);
+    }
+    if number != held.number {
+        return refused(22);
     }
     let (k, m) = (held.k as usize, (held.n - held.k) as usize);
     if key.iter().any(|plane| plane.len() != k * words(m)) || work.iter().any(|plane| plane.len() != words(m)) {
@@ -209,7 +164,7 @@ pub fn check_on(held: Held, number: u64, key: [&[u64]; 2], asked: Asked, s: &[u8
         Ok(y) => y,
         Err(found) => return refused(found),
     };
-    let word = full_word_by(held.form, &read(key[0], key[1], k, m), &y, &unpacked(s, k));
+    let word = full_word(&read(key[0], key[1], k, m), &y, &unpacked(s, k));
     let (ones, twos) = ones_and_twos(&word);
     Checked { refusal: 0, yes: ((ones + twos) as u64 == held.w) as u64, ones: ones as u64, twos: twos as u64 }
 }

@@ -1,5 +1,5 @@
 //! A second implementation of the paper, on plain vectors of trits: the simplest code that can be right. It is written
-//! from the paper, its source documents and FIPS 202 alone and shares nothing with the proved code; the tests in `tests/` hold it to the
+//! from the paper and from FIPS 202 alone and shares nothing with the proved code; the tests in `tests/` hold it to the
 //! paper's worked examples, to published hashes and to brute force, and `differ` holds the proved code to it.
 
 pub mod algebra;
@@ -10,4 +10,3 @@ pub mod lines;
 pub mod packing;
 pub mod planes;
 pub mod shake;
-pub mod wavelet;

@@ -1,11 +1,9 @@
-//! The line programs, the checker's and the converter's: text in, text out.
+//! The line program: text in, text out.
 
 use crate::algebra::ones_and_twos;
-use crate::held::{full_word_by, in_range, M, MOST_KEY_NUMBER, R};
-use crate::wavelet::{to_m, to_r};
+use crate::held::{full_word, in_range, MOST_KEY_NUMBER};
 
 struct Key {
-    form: u64,
     number: u64,
     n: u64,
     k: u64,
@@ -35,34 +33,23 @@ fn digits(field: &[u8]) -> Option<Vec<u8>> {
 }
 
 enum Line {
-    /// P or Q: the form of the rows, then key number, n, k, w.
-    Start(u64, u64, u64, u64, u64),
+    P(u64, u64, u64, u64),
     K(Vec<u8>),
     S(u64, u64, Vec<u8>, Vec<u8>),
 }
 
-/// The line, if it is well formed.
-fn well_formed(line: &[u8]) -> Option<Line> {
+/// The line, if it is one of the three forms.
+fn form(line: &[u8]) -> Option<Line> {
     if line.len() > 1024 {
         return None;
     }
     let fields: Vec<&[u8]> = line.split(|b| *b == b'\t').collect();
-    let start = |form, key, n, k, w| Some(Line::Start(form, number_to(MOST_KEY_NUMBER, key)?, number(n)?, number(k)?, number(w)?));
     match fields[..] {
-        [b"P", key, n, k, w] => start(R, key, n, k, w),
-        [b"Q", key, n, k, w] => start(M, key, n, k, w),
+        [b"P", key, n, k, w] => Some(Line::P(number_to(MOST_KEY_NUMBER, key)?, number(n)?, number(k)?, number(w)?)),
         [b"K", row] => Some(Line::K(digits(row)?)),
         [b"S", key, formula, y, s] => Some(Line::S(number_to(MOST_KEY_NUMBER, key)?, number_to(65535, formula)?, digits(y)?, digits(s)?)),
         _ => None,
     }
-}
-
-/// The key that a P or Q line begins, or its refusal.
-fn begun(form: u64, number: u64, n: u64, k: u64, w: u64) -> Result<Key, u64> {
-    if n > 256 || !in_range(number, form, n, k, w) {
-        return Err(1);
-    }
-    Ok(Key { form, number, n, k, w, rows: Vec::new() })
 }
 
 /// A K line's refusal, or the row is stored.
@@ -90,11 +77,11 @@ fn verdict(held: &Option<Key>, number: u64, y: &[u8], s: &[u8]) -> Result<(usize
     if y.len() as u64 != key.n - key.k || s.len() as u64 != key.k {
         return Err(2);
     }
-    let (ones, twos) = ones_and_twos(&full_word_by(key.form, &key.rows, y, s));
+    let (ones, twos) = ones_and_twos(&full_word(&key.rows, y, s));
     Ok((ones, twos, (ones + twos) as u64 == key.w))
 }
 
-/// What the checker's program prints for this input.
+/// What the program prints for this input.
 pub fn run(input: &[u8]) -> Vec<u8> {
     let mut out = String::from("key\tformula\tweight\tverdict\n");
     let mut held = None;
@@ -103,15 +90,16 @@ pub fn run(input: &[u8]) -> Vec<u8> {
         lines.pop();
     }
     for line in lines {
-        let refused = match well_formed(line) {
+        let refused = match form(line) {
             None => Some(11),
-            Some(Line::Start(form, number, n, k, w)) => match begun(form, number, n, k, w) {
-                Ok(key) => {
-                    held = Some(key);
+            Some(Line::P(number, n, k, w)) => {
+                if n > 256 || !in_range(number, n, k, w) {
+                    Some(1)
+                } else {
+                    held = Some(Key { number, n, k, w, rows: Vec::new() });
                     None
                 }
-                Err(refusal) => Some(refusal),
-            },
+            }
             Some(Line::K(row)) => store(&mut held, row).err(),
             Some(Line::S(number, formula, y, s)) => {
                 match verdict(&held, number, &y, &s) {
@@ -126,42 +114,4 @@ pub fn run(input: &[u8]) -> Vec<u8> {
         }
     }
     out.into_bytes()
-}
-
-/// A line of a block for the converter: it is taken, or refused.
-fn take(held: &mut Option<Key>, line: &[u8]) -> Result<(), u64> {
-    match well_formed(line) {
-        Some(Line::Start(form, number, n, k, w)) if held.is_none() => {
-            *held = Some(begun(form, number, n, k, w)?);
-            Ok(())
-        }
-        Some(Line::K(row)) => store(held, row),
-        _ => Err(11),
-    }
-}
-
-/// The block of a whole key in its other form.
-fn other_block(key: &Key) -> String {
-    let (letter, rows) = if key.form == R { ("Q", to_m(&key.rows)) } else { ("P", to_r(&key.rows)) };
-    let mut out = format!("{letter}\t{}\t{}\t{}\t{}\n", key.number, key.n, key.k, key.w);
-    for row in rows {
-        let digits: String = row.iter().map(|t| t.to_string()).collect();
-        out.push_str(&format!("K\t{digits}\n"));
-    }
-    out
-}
-
-/// What the converter prints for this input, and how many bytes of it are read: up to the line end that decides.
-pub fn convert(input: &[u8]) -> (Vec<u8>, usize) {
-    let (mut held, mut read): (Option<Key>, usize) = (None, 0);
-    for line in input.split_inclusive(|b| *b == b'\n') {
-        read += line.len();
-        if let Err(refusal) = take(&mut held, line.strip_suffix(b"\n").unwrap_or(line)) {
-            return (format!("r{refusal}\n").into_bytes(), read);
-        }
-        if let Some(key) = held.as_ref().filter(|key| key.rows.len() as u64 == key.k) {
-            return (other_block(key).into_bytes(), read);
-        }
-    }
-    (b"r20\n".to_vec(), read)
 }

@@ -1,7 +1,7 @@
 //! The three demands by brute force over all words, at n = 4 and for some keys at n = 6. Span, rank and solving are by trying every word.
 
 use second::draw::{draw_word, Choices};
-use second::held::{check, Held, M, R};
+use second::held::{check, Held};
 use second::key::{build_key, Key, Secret};
 use second::packing::packed;
 use second::planes::planes;
@@ -124,17 +124,6 @@ fn in_secret_places(p: &[usize], public: &[u8]) -> Vec<u8> {
 fn public_syndrome(key: &Key, word: &[u8]) -> Vec<u8> {
     let m = word.len() - key.rows.len();
     (0..m).map(|j| m3(word[j] as i32 + (0..key.rows.len()).map(|i| word[m + i] as i32 * key.rows[i][j] as i32).sum::<i32>())).collect()
-}
-
-/// The rows of M, trit by trit: of each pair of rows the sum and the difference, at odd k the last one negated.
-fn wavelet_rows(rows: &[Vec<u8>]) -> Vec<Vec<u8>> {
-    let trit = |i: usize, j: usize| rows[i][j] as i32;
-    let made = |i: usize, j: usize| match i % 2 {
-        0 if i + 1 == rows.len() => -trit(i, j),
-        0 => trit(i, j) + trit(i + 1, j),
-        _ => trit(i - 1, j) - trit(i, j),
-    };
-    (0..rows.len()).map(|i| (0..rows[i].len()).map(|j| m3(made(i, j))).collect()).collect()
 }
 
 // ---- what is tried
@@ -311,20 +300,20 @@ fn releases_are_right(s: &Secret, key: &Key, sampled: usize, rng: &mut Rng) -> u
     draws
 }
 
-/// For every y, s and w, with the key held as R and as M: the check says yes exactly when some word of weight w with that syndrome extends s, and there is at
-/// most one such word, whose ones and twos it answers.
+/// For every y, s and w: the check says yes exactly when some word of weight w with that syndrome extends s, and there is at most one such word, whose ones
+/// and twos it answers.
 fn verdicts_are_right(key: &Key, n: usize) {
     let k = key.rows.len();
-    let forms = [(R, planes(&key.rows)), (M, planes(&wavelet_rows(&key.rows)))];
+    let (ones, twos) = planes(&key.rows);
     let words: Vec<(Vec<u8>, Vec<u8>)> = all(n).into_iter().map(|e| (public_syndrome(key, &e), e)).collect();
     for y in all(n - k) {
         let here: Vec<&Vec<u8>> = words.iter().filter(|(found, _)| *found == y).map(|(_, e)| e).collect();
         for s in all(k) {
             let extends: Vec<&&Vec<u8>> = here.iter().filter(|e| e[n - k..] == s).collect();
             assert!(extends.len() <= 1);
-            for (w, (form, (ones, twos))) in (1..=n).flat_map(|w| forms.iter().map(move |held| (w, held))) {
-                let held = Held { begun: 1, number: 3, form: *form, n: n as u64, k: k as u64, w: w as u64, rows: k as u64 };
-                let answer = check(held, 3, ones, twos, &packed(&y), &packed(&s), &mut [9], &mut [9]);
+            for w in 1..=n {
+                let held = Held { begun: 1, number: 3, n: n as u64, k: k as u64, w: w as u64, rows: k as u64 };
+                let answer = check(held, 3, &ones, &twos, &packed(&y), &packed(&s), &mut [9], &mut [9]);
                 assert_eq!(answer.refusal, 0);
                 assert_eq!(answer.yes == 1, extends.iter().any(|e| nonzero(e) == w));
                 assert!(answer.yes <= 1);

@@ -2,7 +2,7 @@
 
 use second::algebra::{ones_and_twos, weight};
 use second::draw::{draw, draw_word, drawn_word, Choices, DrawWords};
-use second::held::{begin, check, full_word, store_row, Checked, Held, M, R};
+use second::held::{begin, check, full_word, store_row, Checked, Held};
 use second::key::{build, build_key, column_rule, secret_matrix, Key, Secret, SecretWords, Sizes};
 use second::packing::{from_stream, pack, packed, trits_of, unpack};
 use second::planes::{planes, words};
@@ -181,7 +181,7 @@ fn through_the_border() {
     assert_eq!((word1, word2, s1, s2), ([0b1110], [1], [3], [0]));
     assert!(work.iter().flatten().all(|w| *w == 0));
 
-    let begun = begin(Held::default(), 7, R, 4, 2, 4);
+    let begun = begin(Held::default(), 7, 4, 2, 4);
     assert_eq!(begun.refusal, 0);
     let (mut ones, mut twos) = ([7; 2], [8; 2]);
     let one = store_row(begun.held, &mut ones, &mut twos, &packed(&row("02")));
@@ -201,16 +201,13 @@ fn through_the_border() {
 #[test]
 fn sizes_at_the_edges() {
     for (n, refusal) in [(4, 0), (16384, 0), (2, 1), (16386, 1), (5, 1), (0, 1)] {
-        assert_eq!(begin(Held::default(), 0, R, n, 2, 1).refusal, refusal, "n = {n}");
+        assert_eq!(begin(Held::default(), 0, n, 2, 1).refusal, refusal, "n = {n}");
     }
     for (n, good) in [(4, true), (16384, true), (2, false), (16386, false)] {
         assert_eq!(Sizes { n, ku: 1, kv: 1, gv: 0, gu: 0, w: 1 }.in_range(), good, "n = {n}");
     }
     for (number, refusal) in [(0, 0), (255, 0), (256, 0), (65535, 0), (65536, 0), (4294967295, 0), (4294967296, 1), (u64::MAX, 1)] {
-        assert_eq!(begin(Held::default(), number, R, 4, 2, 4).refusal, refusal, "key number {number}");
-    }
-    for (form, refusal) in [(R, 0), (M, 0), (2, 1), (3, 1), (256, 1), (1 << 32, 1), (1 << 32 | 1, 1), (u64::MAX, 1)] {
-        assert_eq!(begin(Held::default(), 7, form, 4, 2, 4).refusal, refusal, "form {form}");
+        assert_eq!(begin(Held::default(), number, 4, 2, 4).refusal, refusal, "key number {number}");
     }
     assert_eq!(words(64), 1);
     assert_eq!(words(65), 2);

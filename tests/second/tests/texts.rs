@@ -1,6 +1,6 @@
 //! Syndromes of texts, by hand from hashlib's bytes, and checks of texts: their verdicts and the order of refusals.
 
-use second::held::{check, check_on, check_text, Asked, Checked, Held, M, R};
+use second::held::{check, check_on, check_text, Asked, Checked, Held};
 use second::packing::{bytes, from_stream, packed, syndrome, syndrome_by, Hash};
 use second::planes::{planes, read_row, words};
 use second::shake::shake256;
@@ -105,7 +105,7 @@ fn refusals_of_a_syndrome() {
 /// 2011 for formula 29.
 #[test]
 fn texts_under_the_worked_key() {
-    let held = Held { begun: 1, number: 7, form: R, n: 4, k: 2, w: 4, rows: 2 };
+    let held = Held { begun: 1, number: 7, n: 4, k: 2, w: 4, rows: 2 };
     let ask = |text: &str, s: &[u8]| {
         let (mut work_ones, mut work_twos) = ([5], [6]);
         let (ones, twos) = ([0, 0], [2, 3]);
@@ -145,19 +145,17 @@ fn verdicts_on_texts() {
         for length in [0, 1, 102, 103, 104, 105, 300] {
             let rows: Vec<Vec<u8>> = (0..k).map(|_| rng.row(n - k)).collect();
             let (salt, text, s) = (rng.bytes(32), rng.bytes(length), packed(&rng.row(k)));
-            for form in [R, M] {
-                let found: Vec<Checked> = (1..=n).map(|w| verdict_on_both(form, &rows, n, w, &salt, &text, &s)).collect();
-                let weight = found[0].ones + found[0].twos;
-                assert!((1..).zip(&found).all(|(w, answer)| answer.yes == (w == weight) as u64));
-            }
+            let found: Vec<Checked> = (1..=n).map(|w| verdict_on_both(&rows, n, w, &salt, &text, &s)).collect();
+            let weight = found[0].ones + found[0].twos;
+            assert!((1..).zip(&found).all(|(w, answer)| answer.yes == (w == weight) as u64));
         }
     }
 }
 
 /// The verdict on a text, which is the one on its y.
-fn verdict_on_both(form: u64, rows: &[Vec<u8>], n: usize, w: usize, salt: &[u8], text: &[u8], s: &[u8]) -> Checked {
+fn verdict_on_both(rows: &[Vec<u8>], n: usize, w: usize, salt: &[u8], text: &[u8], s: &[u8]) -> Checked {
     let (k, m) = (rows.len(), n - rows.len());
-    let held = Held { begun: 1, number: 3, form, n: n as u64, k: k as u64, w: w as u64, rows: k as u64 };
+    let held = Held { begun: 1, number: 3, n: n as u64, k: k as u64, w: w as u64, rows: k as u64 };
     let (ones, twos) = planes(rows);
     let (mut y_ones, mut y_twos) = (vec![5; words(m)], vec![6; words(m)]);
     assert_eq!(syndrome(m as u64, salt, text, &mut y_ones, &mut y_twos), 0);
@@ -199,7 +197,7 @@ struct Lent {
 
 impl Lent {
     fn sound() -> Lent {
-        let held = Held { begun: 1, number: 7, form: M, n: 10, k: 7, w: 5, rows: 7 };
+        let held = Held { begun: 1, number: 7, n: 10, k: 7, w: 5, rows: 7 };
         let key = [vec![1, 2, 4, 0, 1, 2, 4], vec![2, 4, 1, 7, 2, 1, 0]];
         let work = [vec![5], vec![6]];
         Lent { held, number: 7, key, hash: shake256, salt: salt(), s: vec![17, 3], work }
@@ -214,10 +212,9 @@ impl Lent {
 }
 
 /// Each fault of a check of a text with its refusal, in the order of the tests.
-const FAULTS: [(u64, fn(&mut Lent)); 17] = [
+const FAULTS: [(u64, fn(&mut Lent)); 16] = [
     (20, |lent| lent.held.begun = 0),
     (1, |lent| lent.held.w = 11),
-    (1, |lent| lent.held.form = 2),
     (20, |lent| lent.held.rows = 6),
     (22, |lent| lent.number = 8),
     (2, |lent| lent.key[0].push(0)),

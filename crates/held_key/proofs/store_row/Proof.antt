@@ -23,7 +23,7 @@ row-words-from-put-row2 c = c.before.before.before.before.before.before
 
 -- the row is not refused
 not_refused : (c : tie.Else1) → let a = (start-from-else1 c).args in
-    store_refusal (store_of a.held a.ones.now a.twos.now a.row_ones.now a.row_twos.now) ≡ 0
+    store_refusal (store_of a.held a.ones.now a.twos.now a.row-ones.now a.row-twos.now) ≡ 0
 not_refused c = sym c.before.before.test-row.ensures ∙ sym c.before.code.ensures ∙ c.if1.false
 
 -- so there is room for it
@@ -37,7 +37,7 @@ row_start c = ap (λ (x : ℕ). (start-from-else1 c.before).args.held.rows * x) 
 -- from there on the row is within both planes, which are not long
 within : (c : tie.After-row-words) → let a = (start-from-else1 c.before).args in
     let start = a.held.rows * c.row_words.result in
-    (start + length a.row_ones.now ≤ length a.ones.now) × (start + length a.row_twos.now ≤ length a.twos.now) × (start ≤ 16384 * 256)
+    (start + length a.row-ones.now ≤ length a.ones.now) × (start + length a.row-twos.now ≤ length a.twos.now) × (start ≤ 16384 * 256)
 within c =
     let r = stored_passed _ (not_refused c.before) in
     let e = row_start c in (
@@ -101,8 +101,8 @@ returns-2 c =
     let e = row_start after-row-words in (
       else1.before.before.test-row.ensures,
       c.count-row.ensures ∙ exit_new _ _ z,
-      after-put-row2.before.before.before.before.put-row.ensures ∙ ap (λ (x : ℕ). put_words x a.ones.now a.row_ones.now) e ∙ plane_put _ _ _ z,
-      after-put-row2.put-row2.ensures ∙ ap (λ (x : ℕ). put_words x a.twos.now a.row_twos.now) e ∙ plane_put _ _ _ z,
+      after-put-row2.before.before.before.before.put-row.ensures ∙ ap (λ (x : ℕ). put_words x a.ones.now a.row-ones.now) e ∙ plane_put _ _ _ z,
+      after-put-row2.put-row2.ensures ∙ ap (λ (x : ℕ). put_words x a.twos.now a.row-twos.now) e ∙ plane_put _ _ _ z,
     )
 
 pub store_row_spec : {M : Type 1} → statement M

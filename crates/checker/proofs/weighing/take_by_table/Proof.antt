@@ -1,10 +1,10 @@
--- After i turns the first i rows, each times its trit of s or as M has it, are taken, and `counts` has the ones and twos of the trits of s.
+-- After i turns the first i rows, each times its trit of s, are taken, and `counts` has the ones and twos of these trits.
 -- Assumes nothing.
 use Prim.Native.Nat.{ℕ, ◌-◌, ◌/◌, ◌%◌, ◌≤◌, ◌<◌}
 use mathlib.Core.Path.{◌≡◌, refl, ap, ◌∙◌}
 use native.Mathlib.Omega.{arith}
 use lib.ListN.{length, get_or}
-use Rattle.trits.specs.Trit.{Trit, sub_t, zip_v, trit_of, counts_v, sum_of, sum_to}
+use Rattle.trits.specs.Trit.{sub_t, zip_v, trit_of, counts_v, sum_of, sum_to}
 use Rattle.trits.specs.Planes.{trit_at, Reads}
 use Rattle.trits.proofs.Reading.{reads_to}
 use Rattle.trits.proofs.Counting.{counts_le}
@@ -15,7 +15,6 @@ use Rattle.packed.proofs.Turned.{bytes_passed}
 use Rattle.verdict.specs.Verdict.{times_key}
 use Rattle.held_key.specs.Held.{held_key}
 use Rattle.held_key.proofs.Sizes.{sizes}
-use Rattle.checker.specs.Steps.{taken_trits}
 use Rattle.checker.proofs.Product.{taken_none, turn_reads, turn_counts}
 use Rattle.packed.proofs.Digits.{packed_trit}
 use Rattle.checker.proofs.weighing.take_by_table.Statement.{statement}
@@ -24,8 +23,7 @@ use Rattle.checker.proofs.weighing.take_by_table.Tie as tie
 abbrev invariant-loop : tie.invariant-loop
 invariant-loop held ones twos s work-ones₀ work-twos₀ table k counts₀ i₀ work_ones work_twos counts i =
     (i ≤ held.rows) × (counts ≡ counts_v (packed_row s) i)
-    × Reads work_ones work_twos (length work-ones₀) (zip_v sub_t (trit_at work-ones₀ work-twos₀)
-    (times_key i (held_key held ones twos) (taken_trits held.form held.k (packed_row s))))
+    × Reads work_ones work_twos (length work-ones₀) (zip_v sub_t (trit_at work-ones₀ work-twos₀) (times_key i (held_key held ones twos) (packed_row s)))
 
 abbrev decreases-loop : tie.decreases-loop
 decreases-loop held ones twos s work-ones₀ work-twos₀ table k counts₀ i₀ work_ones work_twos counts i = held.rows - i
@@ -37,15 +35,8 @@ start-from-slice-known2 c = c.before.before.before.before.before
 abbrev start-from-at-loop : tie.At-loop invariant-loop decreases-loop → tie.Start invariant-loop decreases-loop
 start-from-at-loop c = c.before.before.before.before.before.before
 
-abbrev trit-from-take-row : tie.After-take-row invariant-loop decreases-loop → tie.After-trit invariant-loop decreases-loop
-trit-from-take-row c = c.before.before.before.before.before
-
 abbrev start-from-take-row : tie.After-take-row invariant-loop decreases-loop → tie.Start invariant-loop decreases-loop
-start-from-take-row c = start-from-at-loop (trit-from-take-row c).before.before.before
-
--- what rows are taken times
-abbrev taken_of : tie.Start invariant-loop decreases-loop → ℕ → Trit
-taken_of s = taken_trits s.args.held.form s.args.held.k (packed_row s.args.s.now)
+start-from-take-row c = start-from-at-loop c.before.before.before.before.before.before.before
 
 -- the trit read is that of s
 trit_read : (c : tie.After-trit invariant-loop decreases-loop) → let at-loop = c.before.before.before in
@@ -74,7 +65,7 @@ loop-holds c =
         row = start.pre.work.row;
         size = refl;
         trits = taken_none (trit_at a.work_ones.now a.work_twos.now) (held_key a.held a.ones.now a.twos.now)
-            (taken_of start);
+            (packed_row a.s.now);
       },
     )
 
@@ -94,23 +85,9 @@ trit-requires c κs =
       digit = omega (arith, b);
     }
 
-packed-row-trit-requires : tie.Need-packed-row-trit-requires invariant-loop decreases-loop
-packed-row-trit-requires c κs =
-    let start = start-from-at-loop c.before.before.before in
-    let p = start.pre in record {
-      all_rows = p.whole.all_rows;
-      s_size = p.s_size;
-      s_tested = p.s_tested;
-      is_table = p.is_table;
-      place = omega (arith, p.whole.all_rows);
-      trit = trit_lt c;
-      trit_is = trit_read c;
-    }
-
 count-trit-requires : tie.Need-count-trit-requires invariant-loop decreases-loop
 count-trit-requires c κs =
-    let after-trit = c.before in
-    let at-loop = after-trit.before.before.before in
+    let at-loop = c.before.before.before in
     let start = start-from-at-loop at-loop in
     let v = packed_row start.args.s.now in (
       omega (
@@ -120,20 +97,20 @@ count-trit-requires c κs =
         sizes start.args.held start.pre.whole.is_sound,
         start.pre.whole.all_rows,
       ),
-      omega (arith, trit_lt after-trit, c.packed-row-trit.ensures.1),
+      trit_lt c,
     )
 
 take-row-requires : tie.Need-take-row-requires invariant-loop decreases-loop
 take-row-requires c κs =
-    let after-packed-row-trit = c.before.before.before in
-    let at-loop = after-packed-row-trit.before.before.before.before in
+    let after-trit = c.before.before.before in
+    let at-loop = after-trit.before.before.before in
     let start = start-from-at-loop at-loop in
     let v = at-loop.loop.invariant.2 in record {
       whole = start.pre.whole;
       readable = start.pre.readable;
       work = record { row = v.row; size = v.size ∙ start.pre.work.size };
       row_in = omega (arith, start.pre.whole.all_rows);
-      trit = after-packed-row-trit.packed-row-trit.ensures.1;
+      trit = trit_lt after-trit;
     }
 
 add-i : tie.Need-overflow-add-i invariant-loop decreases-loop
@@ -149,18 +126,15 @@ loop-again : tie.Need-loop-preserved invariant-loop decreases-loop
 loop-again c =
     let after-take-row = c.before.before.before.before in
     let after-count-trit = after-take-row.before.before.before in
-    let after-packed-row-trit = after-count-trit.before in
-    let after-trit = after-packed-row-trit.before in
+    let after-trit = after-count-trit.before in
     let at-loop = after-trit.before.before.before in
-    let start = start-from-at-loop at-loop in
-    let a = start.args in
+    let a = (start-from-at-loop at-loop).args in
     let v = at-loop.loop.invariant.2 in (
       omega arith,
       turn_counts (packed_row a.s.now) at-loop.loop.i (trit_of after-trit.trit.result) (trit_read after-trit)
           at-loop.loop.invariant.1 after-count-trit.count-trit.ensures,
-      turn_reads (trit_at a.work_ones.now a.work_twos.now) (held_key a.held a.ones.now a.twos.now) (taken_of start)
-          at-loop.loop.i (trit_of after-packed-row-trit.packed-row-trit.result) after-packed-row-trit.packed-row-trit.ensures.0
-          v.size v after-take-row.take_row.ensures,
+      turn_reads (trit_at a.work_ones.now a.work_twos.now) (held_key a.held a.ones.now a.twos.now) (packed_row a.s.now)
+          at-loop.loop.i (trit_of after-trit.trit.result) (trit_read after-trit) v.size v after-take-row.take_row.ensures,
     )
 
 same_length : tie.Need-same-length invariant-loop decreases-loop
@@ -179,7 +153,7 @@ returns c =
     let e : l.i ≡ a.held.k = omega (arith, start.pre.whole.all_rows) in (
       l.invariant.1 ∙ ap (counts_v (packed_row a.s.now)) e,
       reads_to l.invariant.2 (ap (λ (x : ℕ). zip_v sub_t (trit_at a.work_ones.now a.work_twos.now)
-          (times_key x (held_key a.held a.ones.now a.twos.now) (taken_of start))) e),
+          (times_key x (held_key a.held a.ones.now a.twos.now) (packed_row a.s.now))) e),
     )
 
 pub take_by_table_spec : {M : Type 1} → statement M
@@ -191,7 +165,6 @@ take_by_table_spec =
     loop-holds
     shared-slice-read-trit
     trit-requires
-    packed-row-trit-requires
     count-trit-requires
     take-row-requires
     add-i

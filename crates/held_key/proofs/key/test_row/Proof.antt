@@ -34,7 +34,7 @@ state_goes : (c : tie.Else1) {x rest : ℕ} → x ≡ rest → let a = (start-fr
 state_goes c = first_goes c.before.before.test-state.ensures (state_passed c)
 
 -- the ones plane of the row has its length
-row_ones_fit : (c : tie.Else2) → let a = (start-from-else1 c.before.before).args in eqb (length a.row_ones.now) (row_words a.held) ≡ true
+row_ones_fit : (c : tie.Else2) → let a = (start-from-else1 c.before.before).args in eqb (length a.row-ones.now) (row_words a.held) ≡ true
 row_ones_fit c = eq-eqb _ _ (c.if2.false ∙ c.before.row_words.ensures)
 
 test-state-requires : tie.Need-test-state-requires
@@ -56,7 +56,7 @@ unfolding store_refusal_under
 returns-2 c =
     let else1 = c.before.before in
     let a = (start-from-else1 else1).args in
-    state_goes else1 (rw (ne_eqb (length a.row_ones.now) (row_words a.held) (λ e. c.if2.true (e ∙ sym c.before.row_words.ensures))))
+    state_goes else1 (rw (ne_eqb (length a.row-ones.now) (row_words a.held) (λ e. c.if2.true (e ∙ sym c.before.row_words.ensures))))
 
 returns-3 : tie.Need-returns-3
 unfolding store_refusal_under
@@ -65,7 +65,7 @@ returns-3 c =
     let a = (start-from-else1 else1).args in
     state_goes else1 (rw (
       row_ones_fit c.before,
-      ne_eqb (length a.row_twos.now) (row_words a.held) (λ e. c.if3.true (e ∙ sym c.before.before.row_words.ensures)),
+      ne_eqb (length a.row-twos.now) (row_words a.held) (λ e. c.if3.true (e ∙ sym c.before.before.row_words.ensures)),
     ))
 
 row-trits-requires : tie.Need-row-trits-requires
@@ -89,9 +89,9 @@ returns-4 c =
     let after-row-words = c.before.before.before.before in
     let a = (start-from-else1 after-row-words.before).args in
     state_goes after-row-words.before
-    (c.test-planes.ensures ∙ ap (planes_refusal a.row_ones.now a.row_twos.now 1) c.before.row-trits.ensures ∙ rw (
+    (c.test-planes.ensures ∙ ap (planes_refusal a.row-ones.now a.row-twos.now 1) c.before.row-trits.ensures ∙ rw (
       row_ones_fit c.before.before.before,
-      eq-eqb (length a.row_twos.now) (row_words a.held) (c.before.before.if3.false ∙ after-row-words.row_words.ensures),
+      eq-eqb (length a.row-twos.now) (row_words a.held) (c.before.before.if3.false ∙ after-row-words.row_words.ensures),
     ))
 
 pub test_row_spec : {M : Type 1} → statement M

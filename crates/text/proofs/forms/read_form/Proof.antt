@@ -5,7 +5,7 @@ use Prim.Native.Nat.{◌≤◌}
 use native.Mathlib.Omega.{arith}
 use borrow.Author.Rules.{rules}
 use lib.ListN.{length}
-use Rattle.text.proofs.Told.{form_length, form_alone, long, form_key, form_other_key, form_row, form_sign, form_none}
+use Rattle.text.proofs.Told.{form_length, form_alone, long, form_key, form_row, form_sign, form_none}
 use Rattle.text.proofs.forms.read_form.Statement.{statement}
 use Rattle.text.proofs.forms.read_form.Tie as tie
 
@@ -45,10 +45,8 @@ returns-3 c =
       c.read-key.ensures.1,
     )
 
-read-key-requires-2 : tie.Need-read-key-requires-2
-read-key-requires-2 c κs =
-    let else2 = c.before.before.before in
-    (is_long else2, else2.before.before.before.before.requires)
+read-row-requires : tie.Need-read-row-requires
+read-row-requires c κs = is_long c.before.before.before
 
 returns-4 : tie.Need-returns-4
 returns-4 c =
@@ -56,13 +54,15 @@ returns-4 c =
     let else1 = else2.before in
     let after-find-tab = else1.before in
     let start = after-find-tab.before.before in (
-      c.read-key2.ensures.0 ∙ form_other_key start.args.most-key start.args.line.now _ after-find-tab.find-tab.ensures else1.if1.false
+      c.read_row.ensures.0 ∙ form_row start.args.most-key start.args.line.now _ after-find-tab.find-tab.ensures else1.if1.false
           else2.if2.false c.before.before.if3.false c.before.if4.true,
-      c.read-key2.ensures.1,
+      c.read_row.ensures.1,
     )
 
-read-row-requires : tie.Need-read-row-requires
-read-row-requires c κs = is_long c.before.before.before.before
+read-sign-requires : tie.Need-read-sign-requires
+read-sign-requires c κs =
+    let else2 = c.before.before.before.before in
+    (is_long else2, else2.before.before.before.before.requires)
 
 returns-5 : tie.Need-returns-5
 returns-5 c =
@@ -70,37 +70,19 @@ returns-5 c =
     let else1 = else2.before in
     let after-find-tab = else1.before in
     let start = after-find-tab.before.before in (
-      c.read_row.ensures.0 ∙ form_row start.args.most-key start.args.line.now _ after-find-tab.find-tab.ensures else1.if1.false
-          else2.if2.false c.before.before.before.if3.false c.before.before.if4.false c.before.if5.true,
-      c.read_row.ensures.1,
-    )
-
-read-sign-requires : tie.Need-read-sign-requires
-read-sign-requires c κs =
-    let else2 = c.before.before.before.before.before in
-    (is_long else2, else2.before.before.before.before.requires)
-
-returns-6 : tie.Need-returns-6
-returns-6 c =
-    let else3 = c.before.before.before.before in
-    let else2 = else3.before.before in
-    let else1 = else2.before in
-    let after-find-tab = else1.before in
-    let start = after-find-tab.before.before in (
       c.read-sign.ensures.0 ∙ form_sign start.args.most-key start.args.line.now _ after-find-tab.find-tab.ensures else1.if1.false
-          else2.if2.false else3.if3.false c.before.before.before.if4.false c.before.before.if5.false c.before.if6.true,
+          else2.if2.false c.before.before.before.if3.false c.before.before.if4.false c.before.if5.true,
       c.read-sign.ensures.1,
     )
 
-returns-7 : tie.Need-returns-7
-returns-7 c =
-    let else3 = c.before.before.before in
-    let else2 = else3.before.before in
+returns-6 : tie.Need-returns-6
+returns-6 c =
+    let else2 = c.before.before.before.before in
     let else1 = else2.before in
     let after-find-tab = else1.before in
     let start = after-find-tab.before.before in (
       form_none start.args.most-key start.args.line.now _ after-find-tab.find-tab.ensures else1.if1.false else2.if2.false
-          else3.if3.false c.before.before.if4.false c.before.if5.false c.if6.false,
+          c.before.before.if3.false c.before.if4.false c.if5.false,
       tt,
     )
 
@@ -114,10 +96,8 @@ read_form_spec =
     shared-slice-read-letter
     read-key-requires
     returns-3
-    read-key-requires-2
-    returns-4
     read-row-requires
-    returns-5
+    returns-4
     read-sign-requires
-    returns-6
-    returns-7)
+    returns-5
+    returns-6)

@@ -11,7 +11,7 @@ four-fields-requires c κs = search rules
 returns : tie.Need-returns
 returns c =
     let s = c.before.before.before.before in
-    (not_key s.args.line.now s.args.most-key s.args.form (c.before.before.four_fields.ensures.0 c.if1.true), tt)
+    (not_key s.args.line.now s.args.most-key (c.before.before.four_fields.ensures.0 c.if1.true), tt)
 
 read-sizes-requires : tie.Need-read-sizes-requires
 read-sizes-requires c κs =

@@ -53,8 +53,7 @@ read-number-requires c κs = search rules
 returns : tie.Need-returns
 returns c =
     let s = c.before.before.before.before in
-    let p = range_out _ c.before.read_number.ensures s.args.most-key s.requires.1 c.if1.true in
-    (key_not_1 s.requires.0 s.args.most-key s.args.form p, tt)
+    (key_not_1 s.requires.0 s.args.most-key (range_out _ c.before.read_number.ensures s.args.most-key s.requires.1 c.if1.true), tt)
 
 add-b1 : tie.Need-overflow-add-b1
 add-b1 c = search rules
@@ -75,7 +74,7 @@ returns-2 : tie.Need-returns-2
 returns-2 c =
     let else1 = c.before.before.before in
     let s = start-from-else1 else1 in
-    (key_not_2 s.pre.0 s.args.most-key s.args.form (number_read else1).0 (number_out _ c.before.read-number2.ensures c.if2.true), tt)
+    (key_not_2 s.pre.0 s.args.most-key (number_read else1).0 (number_out _ c.before.read-number2.ensures c.if2.true), tt)
 
 add-c1 : tie.Need-overflow-add-c1
 add-c1 c = search rules
@@ -97,8 +96,7 @@ returns-3 c =
     let else2 = c.before.before.before in
     let else1 = else2.before.before.before in
     let s = start-from-else1 else1 in
-    let r = number_out _ c.before.read-number3.ensures c.if3.true in
-    (key_not_3 s.pre.0 s.args.most-key s.args.form (number_read else1).0 (n_read else2).0 r, tt)
+    (key_not_3 s.pre.0 s.args.most-key (number_read else1).0 (n_read else2).0 (number_out _ c.before.read-number3.ensures c.if3.true), tt)
 
 add-d1 : tie.Need-overflow-add-d1
 add-d1 c = search rules
@@ -122,7 +120,7 @@ returns-4 c =
     let else1 = else2.before.before.before in
     let s = start-from-else1 else1 in
     let t = number_out _ c.before.read-number4.ensures c.if4.true in
-    (key_not_4 s.pre.0 s.args.most-key s.args.form (number_read else1).0 (n_read else2).0 (k_read else3).0 t, tt)
+    (key_not_4 s.pre.0 s.args.most-key (number_read else1).0 (n_read else2).0 (k_read else3).0 t, tt)
 
 returns-5 : tie.Need-returns-5
 returns-5 c =
@@ -134,7 +132,7 @@ returns-5 c =
     let q = n_read else2 in
     let r = k_read else3 in
     let t = number_in _ c.before.read-number4.ensures c.if4.false in
-    (key_told s.pre.0 s.args.most-key s.args.form p.0 q.0 r.0 t.0 p.1 q.1 r.1 t.1, tt)
+    (key_told s.pre.0 s.args.most-key p.0 q.0 r.0 t.0 p.1 q.1 r.1 t.1, tt)
 
 pub read_sizes_spec : {M : Type 1} → statement M
 read_sizes_spec =

@@ -10,7 +10,7 @@ use Rattle.text_line.proofs.handle.begin_key.Tie as tie
 returns : tie.Need-returns
 returns c =
     let a = c.before.args in
-    key_long a.held a.number a.form a.n a.k a.w (omega (arith, c.if1.true))
+    key_long a.held a.number a.n a.k a.w (omega (arith, c.if1.true))
 
 begin-requires : tie.Need-begin-requires
 begin-requires c κs = search rules
@@ -21,7 +21,7 @@ code-requires c κs = search rules
 returns-2 : tie.Need-returns-2
 returns-2 c =
     let a = c.before.before.before.before.args in
-    let q = key_short a.held a.number a.form a.n a.k a.w c.before.before.before.if1.false in
+    let q = key_short a.held a.number a.n a.k a.w c.before.before.before.if1.false in
     let p = c.before.before.begin.ensures in
     (c.code.ensures ∙ p.0 ∙ q.0, p.1 ∙ q.1)
 

@@ -33,9 +33,9 @@ placed c e = subst (Placed (start-from-read-line c).args.line.now) e c.read-line
 row_place : (c : tie.After-enum-told2) → Placed (start-from-read-line c.before.before).args.line.now Row
 row_place c = placed c.before.before c.enum-told2.given.1
 
-sign_place : (c : tie.After-known-told2) → let g = c.before.said2.given.0 in
+sign_place : (c : tie.After-known-told2) → let g = c.before.form2.given.0 in
     Placed (start-from-read-line c.before.before.before).args.line.now (Sign g.0 g.1.0 g.1.1.0 g.1.1.1.0)
-sign_place c = placed c.before.before.before c.before.said2.given.1
+sign_place c = placed c.before.before.before c.before.form2.given.1
 
 -- what the form says is what the line says, with its numbers bounded
 said : (c : tie.After-read-line) {f : Form} → c.read-line.result ≡ f → let l = (start-from-read-line c).args.line.now in
@@ -67,8 +67,8 @@ enum_told c = search rules
 print-refusal-requires : tie.Need-print-refusal-requires
 print-refusal-requires c κs = search rules
 
-enum-known-said : tie.Need-enum-known-said
-enum-known-said c = search rules
+enum-known-form : tie.Need-enum-known-form
+enum-known-form c = search rules
 
 handle-key-requires : tie.Need-handle-key-requires
 handle-key-requires c κs = search rules
@@ -98,8 +98,8 @@ handle-row-requires c κs =
       room = s.pre.room;
     }
 
-enum-known-said-2 : tie.Need-enum-known-said-2
-enum-known-said-2 c = search rules
+enum-known-form-2 : tie.Need-enum-known-form-2
+enum-known-form-2 c = search rules
 
 add-c1 : tie.Need-overflow-add-c1
 add-c1 c =
@@ -135,10 +135,10 @@ part-handle-sign-end-2 c = search rules
 handle-sign-requires : tie.Need-handle-sign-requires
 handle-sign-requires c κs =
     let after-known-told2 = known-told2-from-handle-sign-arg5 c in
-    let after-said2 = after-known-told2.before in
-    let s = start-from-read-line after-said2.before.before in
+    let after-form2 = after-known-told2.before in
+    let s = start-from-read-line after-form2.before.before in
     let p = sign_place after-known-told2 in
-    let g = after-said2.said2.given.0 in
+    let g = after-form2.form2.given.0 in
     let l = s.args.line.now in record {
       y_digits = p.2;
       s_digits = p.3;
@@ -166,10 +166,10 @@ same-length-2 c = search rules
 returns-2 : tie.Need-returns-2
 unfolding line_kept_under line_prints_under
 returns-2 c =
-    let after-said = c.before.before.before.before.before in
-    let after-read-line = after-said.before.before in
+    let after-form = c.before.before.before.before.before in
+    let after-read-line = after-form.before.before in
     let a = (start-from-read-line after-read-line).args in
-    let e = after-said.said.given.1 in
+    let e = after-form.form.given.1 in
     let p = c.before.before.handle-key.ensures in
     ((λ i. holding (p.0 i) a.ones.now a.twos.now) ∙ kept after-read-line e, printed after-read-line e p.1)
 
@@ -205,9 +205,9 @@ returns-4 : tie.Need-returns-4
 unfolding line_kept_under line_prints_under
 returns-4 c =
     let after-handle-sign = c.before.before in
-    let after-said2 = (known-told2-from-handle-sign-arg5 after-handle-sign.before).before in
-    let after-read-line = after-said2.before.before in
-    let e = after-said2.said2.given.1 in
+    let after-form2 = (known-told2-from-handle-sign-arg5 after-handle-sign.before).before in
+    let after-read-line = after-form2.before.before in
+    let e = after-form2.form2.given.1 in
     (kept after-read-line e, printed after-read-line e after-handle-sign.handle-sign.ensures)
 
 pub handle_spec : {M : Type 1} → statement M
@@ -217,14 +217,14 @@ handle_spec =
     read-line-requires
     enum_told
     print-refusal-requires
-    enum-known-said
+    enum-known-form
     handle-key-requires
     enum-told-2
     sub-handle-row
     part-handle-row-start
     part-handle-row-end
     handle-row-requires
-    enum-known-said-2
+    enum-known-form-2
     add-c1
     add-d1
     sub-handle-sign

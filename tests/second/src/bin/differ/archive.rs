@@ -1,6 +1,6 @@
 //! The proved code: each archive is a shared object of its own, and each call is made on buffers that are guarded on both sides.
 
-use crate::case::{checked, held, sizes, stored, Buffer, Call, Case, Outcome, ASKED};
+use crate::case::{checked, held, sizes, stored, Buffer, Call, Case, Outcome};
 use crate::rng::Rng;
 use second::held::{Checked, Held, Stored};
 use second::key::Sizes;
@@ -127,9 +127,8 @@ type O = *mut u16;
 type L = usize;
 type PackFn = unsafe extern "C" fn(usize, W, L, W, L, B, L) -> u64;
 type UnpackFn = unsafe extern "C" fn(usize, B, L, W, L, W, L) -> u64;
-type BeginFn = unsafe extern "C" fn(Held, u64, u64, u64, u64, u64) -> Stored;
+type BeginFn = unsafe extern "C" fn(Held, u64, u64, u64, u64) -> Stored;
 type StoreFn = unsafe extern "C" fn(Held, W, L, W, L, B, L) -> Stored;
-type ConvertFn = unsafe extern "C" fn(Held, u64, W, L, W, L, W, L, W, L) -> Stored;
 type CheckFn = unsafe extern "C" fn(Held, u64, W, L, W, L, B, L, B, L, W, L, W, L) -> Checked;
 type CheckTextFn = unsafe extern "C" fn(Held, u64, W, L, W, L, B, L, B, L, B, L, W, L, W, L) -> Checked;
 type SyndromeFn = unsafe extern "C" fn(usize, B, L, B, L, W, L, W, L) -> u64;
@@ -192,11 +191,10 @@ impl Archives {
             match case.call {
                 Call::Pack => vec![as_call::<_, PackFn>(at)(x[0] as usize, w(0), l(0), w(1), l(1), b(2), l(2))],
                 Call::Unpack | Call::Stream => vec![as_call::<_, UnpackFn>(at)(x[0] as usize, b(0), l(0), w(1), l(1), w(2), l(2))],
-                Call::Begin => stored(as_call::<_, BeginFn>(at)(held(x), x[7], x[8], x[9], x[10], x[11])),
+                Call::Begin => stored(as_call::<_, BeginFn>(at)(held(x), x[6], x[7], x[8], x[9])),
                 Call::Store => stored(as_call::<_, StoreFn>(at)(held(x), w(0), l(0), w(1), l(1), b(2), l(2))),
-                Call::Convert => stored(as_call::<_, ConvertFn>(at)(held(x), x[ASKED], w(0), l(0), w(1), l(1), w(2), l(2), w(3), l(3))),
-                Call::Check => checked(as_call::<_, CheckFn>(at)(held(x), x[ASKED], w(0), l(0), w(1), l(1), b(2), l(2), b(3), l(3), w(4), l(4), w(5), l(5))),
-                Call::CheckText => checked(as_call::<_, CheckTextFn>(at)(held(x), x[ASKED], w(0), l(0), w(1), l(1),
+                Call::Check => checked(as_call::<_, CheckFn>(at)(held(x), x[6], w(0), l(0), w(1), l(1), b(2), l(2), b(3), l(3), w(4), l(4), w(5), l(5))),
+                Call::CheckText => checked(as_call::<_, CheckTextFn>(at)(held(x), x[6], w(0), l(0), w(1), l(1),
                     b(2), l(2), b(3), l(3), b(4), l(4), w(5), l(5), w(6), l(6))),
                 Call::Syndrome => vec![as_call::<_, SyndromeFn>(at)(x[0] as usize, b(0), l(0), b(1), l(1), w(2), l(2),
                     w(3), l(3))],

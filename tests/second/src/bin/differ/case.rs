@@ -1,7 +1,7 @@
 //! A case: one call with its numbers and its buffers, as they are lent at the C border; and what the second implementation makes of it.
 
 use second::draw::{draw, DrawWords};
-use second::held::{begin, check, check_text, convert, store_row, Checked, Held, Stored};
+use second::held::{begin, check, check_text, store_row, Checked, Held, Stored};
 use second::key::{build, SecretWords, Sizes};
 use second::packing::{from_stream, pack, syndrome, unpack};
 use second::shake::shake256;
@@ -13,7 +13,6 @@ pub enum Call {
     Stream,
     Begin,
     Store,
-    Convert,
     Check,
     CheckText,
     Syndrome,
@@ -22,14 +21,13 @@ pub enum Call {
     Draw,
 }
 
-pub const CALLS: [Call; 12] = [
+pub const CALLS: [Call; 11] = [
     // the module's half
     Call::Pack,
     Call::Unpack,
     Call::Stream,
     Call::Begin,
     Call::Store,
-    Call::Convert,
     Call::Check,
     Call::CheckText,
     Call::Syndrome,
@@ -38,16 +36,6 @@ pub const CALLS: [Call; 12] = [
     Call::Build,
     Call::Draw,
 ];
-
-/// Where the numbers of a state stand, in the calls that have one; the key number that is asked for stands after them.
-pub const HELD_NUMBER: usize = 1;
-pub const FORM: usize = 2;
-pub const HELD_N: usize = 3;
-pub const HELD_K: usize = 4;
-pub const HELD_W: usize = 5;
-pub const ROWS: usize = 6;
-pub const STATE: usize = 7;
-pub const ASKED: usize = STATE;
 
 /// Where the gaps and the weight stand among the numbers of a build and of a draw.
 pub const GAP_V: usize = 3;
@@ -62,7 +50,6 @@ impl Call {
             Call::Stream => "wave_from_stream",
             Call::Begin => "wave_begin",
             Call::Store => "wave_store_row",
-            Call::Convert => "wave_convert",
             Call::Check => "wave_check",
             Call::CheckText => "wave_check_text",
             Call::Syndrome => "wave_syndrome",
@@ -75,11 +62,6 @@ impl Call {
     /// The answer is a verdict: yes or no, or a refusal.
     pub fn is_check(self) -> bool {
         matches!(self, Call::Check | Call::CheckText)
-    }
-
-    /// The call is about a held key, in the form that its state tells.
-    pub fn has_key(self) -> bool {
-        matches!(self, Call::Store | Call::Convert) || self.is_check()
     }
 
     /// Buffers that may have any length.
@@ -110,7 +92,6 @@ impl Call {
             Call::Stream => &[0, 1, 2, 6],
             Call::Begin => &[0, 1],
             Call::Store => &[0, 1, 2, 5, 15, 20, 21],
-            Call::Convert => &[0, 1, 2, 3, 4, 20, 22],
             Call::Check | Call::CheckText => &[0, 1, 2, 3, 4, 5, 15, 20, 22],
             Call::Syndrome => &[0, 1, 2],
             Call::Shake => &[0],
@@ -123,9 +104,9 @@ impl Call {
         match self {
             Call::Pack | Call::Unpack | Call::Stream | Call::Syndrome => &["m"],
             Call::Shake => &[],
-            Call::Begin => &["begun", "held number", "held form", "held n", "held k", "held w", "rows", "number", "form", "n", "k", "w"],
-            Call::Store => &["begun", "held number", "form", "n", "k", "w", "rows"],
-            Call::Convert | Call::Check | Call::CheckText => &["begun", "held number", "form", "n", "k", "w", "rows", "number"],
+            Call::Begin => &["begun", "held number", "held n", "held k", "held w", "rows", "number", "n", "k", "w"],
+            Call::Store => &["begun", "held number", "n", "k", "w", "rows"],
+            Call::Check | Call::CheckText => &["begun", "held number", "n", "k", "w", "rows", "number"],
             Call::Build | Call::Draw => &["n", "ku", "kv", "gv", "gu", "w"],
         }
     }
@@ -136,7 +117,6 @@ impl Call {
             Call::Unpack | Call::Stream => &["bytes", "ones", "twos"],
             Call::Begin => &[],
             Call::Store => &["key ones", "key twos", "row"],
-            Call::Convert => &["key ones", "key twos", "other ones", "other twos"],
             Call::Check => &["key ones", "key twos", "y", "s", "work ones", "work twos"],
             Call::CheckText => &["key ones", "key twos", "salt", "text", "s", "work ones", "work twos"],
             Call::Syndrome => &["salt", "text", "ones", "twos"],
@@ -306,15 +286,7 @@ impl Outcome {
 }
 
 pub fn held(numbers: &[u64]) -> Held {
-    Held {
-        begun: numbers[0],
-        number: numbers[HELD_NUMBER],
-        form: numbers[FORM],
-        n: numbers[HELD_N],
-        k: numbers[HELD_K],
-        w: numbers[HELD_W],
-        rows: numbers[ROWS],
-    }
+    Held { begun: numbers[0], number: numbers[1], n: numbers[2], k: numbers[3], w: numbers[4], rows: numbers[5] }
 }
 
 pub fn sizes(numbers: &[u64]) -> Sizes {
@@ -323,7 +295,7 @@ pub fn sizes(numbers: &[u64]) -> Sizes {
 
 pub fn stored(answer: Stored) -> Vec<u64> {
     let h = answer.held;
-    vec![answer.refusal, h.begun, h.number, h.form, h.n, h.k, h.w, h.rows]
+    vec![answer.refusal, h.begun, h.number, h.n, h.k, h.w, h.rows]
 }
 
 pub fn checked(answer: Checked) -> Vec<u64> {
@@ -338,18 +310,15 @@ pub fn second_outcome(case: &Case) -> Outcome {
         (Call::Pack, [ones, twos, bytes]) => vec![pack(x[0], ones.words(), twos.words(), bytes.bytes_mut())],
         (Call::Unpack, [bytes, ones, twos]) => vec![unpack(x[0], bytes.bytes(), ones.words_mut(), twos.words_mut())],
         (Call::Stream, [bytes, ones, twos]) => vec![from_stream(x[0], bytes.bytes(), ones.words_mut(), twos.words_mut())],
-        (Call::Begin, []) => stored(begin(held(x), x[7], x[8], x[9], x[10], x[11])),
+        (Call::Begin, []) => stored(begin(held(x), x[6], x[7], x[8], x[9])),
         (Call::Store, [ones, twos, row]) => stored(store_row(held(x), ones.words_mut(), twos.words_mut(), row.bytes())),
-        (Call::Convert, [ones, twos, other1, other2]) => {
-            stored(convert(held(x), x[ASKED], [ones.words(), twos.words()], [other1.words_mut(), other2.words_mut()]))
-        }
         (Call::Check, [ones, twos, y, s, w1, w2]) => {
-            checked(check(held(x), x[ASKED], ones.words(), twos.words(), y.bytes(), s.bytes(), w1.words_mut(), w2.words_mut()))
+            checked(check(held(x), x[6], ones.words(), twos.words(), y.bytes(), s.bytes(), w1.words_mut(), w2.words_mut()))
         }
         (Call::CheckText, [ones, twos, salt, text, s, w1, w2]) => {
             let (ones, twos, salt, text) = (ones.words(), twos.words(), salt.bytes(), text.bytes());
             let (w1, w2) = (w1.words_mut(), w2.words_mut());
-            checked(check_text(held(x), x[ASKED], ones, twos, salt, text, s.bytes(), w1, w2))
+            checked(check_text(held(x), x[6], ones, twos, salt, text, s.bytes(), w1, w2))
         }
         (Call::Syndrome, [salt, text, ones, twos]) => {
             vec![syndrome(x[0], salt.bytes(), text.bytes(), ones.words_mut(), twos.words_mut())]

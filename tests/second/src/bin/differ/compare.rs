@@ -1,10 +1,9 @@
 //! Makes a call both ways and compares the answer, the state and every buffer word by word.
 
 use crate::archive::Archives;
-use crate::case::{second_outcome, Buffer, Call, Case, Outcome, CALLS, FORM, GAP_U, GAP_V};
+use crate::case::{second_outcome, Buffer, Call, Case, Outcome, CALLS, GAP_U, GAP_V};
 use crate::damage::{faults, Fault};
 use crate::rng::Rng;
-use second::held::{M, R};
 use std::collections::{BTreeMap, BTreeSet};
 
 const MOST_REPORTS: usize = 10;
@@ -14,8 +13,6 @@ pub struct Comparer {
     pub rng: Rng,
     /// Calls compared, by call and by answer.
     counts: BTreeMap<(Call, String), u64>,
-    /// Those of them that are about a key held as M.
-    under_m: BTreeMap<(Call, String), u64>,
     /// Draws with sizes in their ranges and g_V other than g_U, and those of them that were released.
     unequal: u64,
     unequal_released: u64,
@@ -25,29 +22,12 @@ pub struct Comparer {
     pub trace: bool,
 }
 
-/// The refusal; for a check its verdict, and for a beginning and a conversion the form that is held then.
+/// The refusal, and for a check its verdict.
 fn told(call: Call, answer: &[u64]) -> String {
-    let forms = matches!(call, Call::Begin | Call::Convert);
     match answer {
         [0, 1, _, _] if call.is_check() => "yes".to_string(),
         [0, 0, _, _] if call.is_check() => "no".to_string(),
-        [0, state @ ..] if forms && state[FORM] == R => "to R".to_string(),
-        [0, state @ ..] if forms && state[FORM] == M => "to M".to_string(),
         _ => answer[0].to_string(),
-    }
-}
-
-/// The names by which this answer of a call is told.
-fn names(call: Call, answer: u64) -> Vec<String> {
-    let all: &[&str] = match call {
-        Call::Check | Call::CheckText => &["yes", "no"],
-        Call::Begin | Call::Convert => &["to M", "to R"],
-        _ => &["0"],
-    };
-    if answer == 0 {
-        all.iter().map(|name| name.to_string()).collect()
-    } else {
-        vec![answer.to_string()]
     }
 }
 
@@ -74,8 +54,7 @@ fn first_difference(a: &Buffer, b: &Buffer) -> String {
 
 impl Comparer {
     pub fn new(archives: Archives, rng: Rng, trace: bool) -> Comparer {
-        let (counts, under_m, provoked) = (BTreeMap::new(), BTreeMap::new(), BTreeSet::new());
-        Comparer { archives, rng, counts, under_m, unequal: 0, unequal_released: 0, provoked, mismatches: 0, trace }
+        Comparer { archives, rng, counts: BTreeMap::new(), unequal: 0, unequal_released: 0, provoked: BTreeSet::new(), mismatches: 0, trace }
     }
 
     /// Says what is wrong with a case, with its input.
@@ -105,11 +84,7 @@ impl Comparer {
         if self.trace {
             eprintln!("{} {:?} {why:?}", case.call.name(), case.numbers);
         }
-        let told = told(case.call, &second.answer);
-        if case.call.has_key() && case.numbers[FORM] == M {
-            *self.under_m.entry((case.call, told.clone())).or_default() += 1;
-        }
-        *self.counts.entry((case.call, told)).or_default() += 1;
+        *self.counts.entry((case.call, told(case.call, &second.answer))).or_default() += 1;
         if case.call == Call::Draw && second.refusal() != 1 && case.numbers[GAP_V] != case.numbers[GAP_U] {
             self.unequal += 1;
             self.unequal_released += (second.refusal() == 0) as u64;
@@ -188,8 +163,8 @@ impl Comparer {
     }
 
     /// The counts of calls compared. False if a call was not linked though it is needed, an answer of the paper was
-    /// never seen though it can be, fewer than a quarter of the calls about a key had it as M, or one of their answers
-    /// was never seen so, or g_V was other than g_U in fewer than a third of the draws, or of those that were released.
+    /// never seen though it can be, or g_V was other than g_U in fewer than a third of the draws, or of those that were
+    /// released.
     pub fn summary(&self, draw_needed: bool) -> bool {
         let mut whole = true;
         for call in CALLS {
@@ -204,13 +179,16 @@ impl Comparer {
             let list: Vec<&str> = parts.iter().map(|(_, s)| s.as_str()).collect();
             let faults = self.provoked.iter().filter(|(c, _)| *c == call).count();
             println!("{}: {} calls, {faults} kinds of fault; answers {}", call.name(), seen.iter().map(|(_, n)| **n).sum::<u64>(), list.join(", "));
-            for name in call.answers().iter().flat_map(|answer| names(call, *answer)) {
-                if !seen.iter().any(|(told, _)| **told == name) {
-                    println!("{}: the answer {name} was never seen", call.name());
-                    whole = false;
+            for answer in call.answers() {
+                let verdict = *answer == 0 && call.is_check();
+                let names: &[&str] = if verdict { &["yes", "no"] } else { &[&answer.to_string()] };
+                for name in names {
+                    if !seen.iter().any(|(told, _)| told.as_str() == *name) {
+                        println!("{}: the answer {name} was never seen", call.name());
+                        whole = false;
+                    }
                 }
             }
-            whole &= !call.has_key() || self.forms(call);
             if let Some(answer) = call.unseen() {
                 println!("{}: {answer} is not asked for, no text is known that makes it", call.name());
             }
@@ -225,27 +203,5 @@ impl Comparer {
             }
         }
         whole
-    }
-
-    /// How many calls about a key had it as M, by their answers. False if those are fewer than a quarter, or an answer was never seen; a conversion from M
-    /// is always to R.
-    fn forms(&self, call: Call) -> bool {
-        let all: u64 = self.counts.iter().filter(|((c, _), _)| *c == call).map(|(_, count)| count).sum();
-        let seen: Vec<(&String, &u64)> = self.under_m.iter().filter(|((c, _), _)| *c == call).map(|((_, told), count)| (told, count)).collect();
-        let under_m: u64 = seen.iter().map(|(_, count)| **count).sum();
-        let list: Vec<String> = seen.iter().map(|(told, count)| format!("{told}: {count}")).collect();
-        println!("{} of a key held as M: {under_m} of {all}; answers {}", call.name(), list.join(", "));
-        let mut enough = 4 * under_m >= all;
-        for name in call.answers().iter().flat_map(|answer| names(call, *answer)) {
-            let due = (call, name.as_str()) != (Call::Convert, "to M");
-            if due != seen.iter().any(|(told, _)| **told == name) {
-                println!("{}: the answer {name} was {} of a key held as M", call.name(), if due { "never seen" } else { "seen" });
-                enough = false;
-            }
-        }
-        if 4 * under_m < all {
-            println!("{}: too few keys are held as M", call.name());
-        }
-        enough
     }
 }

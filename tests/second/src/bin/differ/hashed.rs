@@ -1,10 +1,9 @@
 //! The calls that hash: lengths at every edge with every fault, and rules that hold between calls.
 
-use crate::case::{Buffer, Call, Case, Outcome, HELD_K, HELD_N, HELD_W};
+use crate::case::{Buffer, Call, Case, Outcome};
 use crate::compare::Comparer;
 use crate::make;
 use crate::plan::{answers, some_k, PLACES, TRITS, WIDE};
-use second::held::{M, R};
 use second::packing::bytes;
 use second::planes::words;
 use Buffer::{Bytes, Words};
@@ -66,9 +65,7 @@ pub fn checks(c: &mut Comparer) {
     }
     for (n, k) in [(4, 2), (6, 3), (66, 2), (130, 65), (130, 66)] {
         let case = make::check_text(&mut c.rng, n, k, 104);
-        for form in [R, M] {
-            c.pairs(&make::held_as(form, case.clone()));
-        }
+        c.pairs(&case);
     }
     let most = make::check_text(&mut c.rng, 16384, 2, 105);
     c.singles(&most);
@@ -101,14 +98,14 @@ pub fn between_calls(c: &mut Comparer) {
         let text = c.rng.pick(&TEXTS);
         let mut case = make::check_text(&mut c.rng, n, k, text);
         let weight = text_by_calls(c, &case).weight();
-        case.numbers[HELD_W] = weight.max(1);
+        case.numbers[4] = weight.max(1);
         text_by_calls(c, &case);
     }
 }
 
 /// The check of a text is that of y, packed, and y is what the stream call takes of m+136 bytes of the hash.
 fn text_by_calls(c: &mut Comparer, case: &Case) -> Outcome {
-    let m = (case.numbers[HELD_N] - case.numbers[HELD_K]) as usize;
+    let m = (case.numbers[2] - case.numbers[3]) as usize;
     let (salt, text) = (case.buffers[2].bytes(), case.buffers[3].bytes());
     let asked = make::syndrome_of(&mut c.rng, m, salt.to_vec(), text.to_vec());
     let made = c.compare(&asked, &[]);

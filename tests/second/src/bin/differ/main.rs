@@ -2,7 +2,6 @@
 //!
 //!     differ calls SEED COUNT [--draw] [--long] [--trace] LIBRARY...   every edge and fault, round trips, and COUNT calls by chance
 //!     differ lines SEED COUNT PROGRAM                                  the line program on listed texts and on COUNT texts by chance
-//!     differ convert SEED COUNT PROGRAM                                the converter likewise, and how much of each text it reads
 //!
 //! --draw: wave_draw must be in one of the libraries. --long: more round trips, and every fault at the largest sizes. --trace: each call is told before it is made.
 
@@ -10,7 +9,6 @@ mod archive;
 mod case;
 mod compare;
 mod damage;
-mod forms;
 mod hashed;
 mod make;
 mod plan;
@@ -21,7 +19,7 @@ mod worked;
 use std::process::exit;
 
 fn usage() -> ! {
-    eprintln!("differ calls SEED COUNT [--draw] [--long] [--trace] LIBRARY...\ndiffer lines SEED COUNT PROGRAM\ndiffer convert SEED COUNT PROGRAM");
+    eprintln!("differ calls SEED COUNT [--draw] [--long] [--trace] LIBRARY...\ndiffer lines SEED COUNT PROGRAM");
     exit(2)
 }
 
@@ -30,16 +28,13 @@ fn calls(seed: u64, count: u64, words: &[String]) -> bool {
     let libraries: Vec<String> = words.iter().filter(|w| !w.starts_with("--")).cloned().collect();
     let archives = archive::Archives::load(&libraries, seed ^ 0xA5A5);
     let mut c = compare::Comparer::new(archives, rng::Rng::new(seed), flag("--trace"));
-    let parts: [(&str, &dyn Fn(&mut compare::Comparer)); 22] = [
+    let parts: [(&str, &dyn Fn(&mut compare::Comparer)); 19] = [
         ("worked cases", &worked::cases),
         ("packing calls", &plan::packing),
         ("last bytes", &plan::last_bytes),
         ("past the length first", &plan::past_first),
         ("beginning a key", &plan::beginning),
-        ("rows, conversions and checks", &plan::held_key),
-        ("forms of a beginning", &forms::beginnings),
-        ("there and back", &|c| forms::there_and_back(c, flag("--long"))),
-        ("both forms", &|c| forms::verdicts(c, flag("--long"))),
+        ("rows and checks", &plan::held_key),
         ("hashes", &hashed::hashes),
         ("syndromes", &hashed::syndromes),
         ("salts", &hashed::salts),
@@ -73,7 +68,6 @@ fn main() {
     let agreed = match words[0].as_str() {
         "calls" => calls(seed, count, &words[3..]),
         "lines" => texts::compare(seed, count, &words[3]),
-        "convert" => texts::compare_converted(seed, count, &words[3]),
         _ => usage(),
     };
     exit(!agreed as i32)

@@ -1,6 +1,6 @@
 //! Sound cases of each call at given sizes. Outputs and working space hold anything at entry.
 
-use crate::case::{Buffer, Call, Case, Edge, Role, ASKED, FORM, GAP_U, GAP_V, HELD_K, HELD_N, HELD_NUMBER, HELD_W, ROWS, WEIGHT};
+use crate::case::{Buffer, Call, Case, Edge, Role, GAP_U, GAP_V, WEIGHT};
 use crate::rng::Rng;
 use second::algebra::weight;
 use second::draw::{drawn_word, Choices};
@@ -87,85 +87,52 @@ pub fn syndrome(rng: &mut Rng, m: usize, text: usize) -> Case {
 
 // ---- the held key
 
-/// A begun state of these sizes: its key number, its form and its weight by chance.
-fn state(rng: &mut Rng, n: usize, k: usize, rows: usize) -> Vec<u64> {
-    vec![1, rng.key_number(), rng.form(), n as u64, k as u64, rng.between(1, n) as u64, rows as u64]
-}
-
 /// What makes a begun state leave its ranges.
-fn state_edges(state: &[u64]) -> Vec<Edge> {
-    let (n, k) = (state[HELD_N], state[HELD_K]);
+fn state_edges(n: u64, k: u64, number: u64, w: u64) -> Vec<Edge> {
     let mut out = edges(0, 20, &[0]);
     out.extend(edges(0, 1, &[2, 3, 256, 1 << 32, u64::MAX]));
-    out.extend([edges(HELD_NUMBER, 1, &[MOST_KEY_NUMBER + 1]), far(HELD_NUMBER, state[HELD_NUMBER], 1)].concat());
-    out.extend([edges(FORM, 1, &[2, 3, 80, 81, 256, 257]), far(FORM, state[FORM], 1)].concat());
-    out.extend([edges(HELD_N, 1, &[0, 1, 2, 3, n + 1, 16385, 16386]), far(HELD_N, n, 1)].concat());
-    out.extend([edges(HELD_K, 1, &[0, 1, n - 1, n, 16384]), far(HELD_K, k, 1)].concat());
-    out.extend([edges(HELD_W, 1, &[0, n + 1, 16385]), far(HELD_W, state[HELD_W], 1)].concat());
-    out.extend([edges(ROWS, 1, &[k + 1, k + 2]), far(ROWS, k, 1)].concat());
+    out.extend([edges(1, 1, &[MOST_KEY_NUMBER + 1]), far(1, number, 1)].concat());
+    out.extend([edges(2, 1, &[0, 1, 2, 3, n + 1, 16385, 16386]), far(2, n, 1)].concat());
+    out.extend([edges(3, 1, &[0, 1, n - 1, n, 16384]), far(3, k, 1)].concat());
+    out.extend([edges(4, 1, &[0, n + 1, 16385]), far(4, w, 1)].concat());
+    out.extend([edges(5, 1, &[k + 1, k + 2]), far(5, k, 1)].concat());
     out
-}
-
-/// A whole key and the number asked for, which is its own.
-fn whole(rng: &mut Rng, n: usize, k: usize) -> Vec<u64> {
-    let mut numbers = state(rng, n, k, k);
-    numbers.push(numbers[HELD_NUMBER]);
-    numbers
-}
-
-/// What refuses a whole key: its state, rows that are missing, and another number: one bit changed, 256 or 2^32 more, out of its range.
-fn whole_edges(numbers: &[u64]) -> Vec<Edge> {
-    let (k, number) = (numbers[HELD_K], numbers[ASKED]);
-    let mut out = state_edges(numbers);
-    out.extend(edges(ROWS, 20, &[0, k - 1]));
-    out.extend(edges(ASKED, 22, &[number ^ 1, number ^ 128, number ^ (1 << 16), number ^ (1 << 31), number + 256, number + (1 << 32), u64::MAX]));
-    out
-}
-
-/// The same case with its key held in this form.
-pub fn held_as(form: u64, mut case: Case) -> Case {
-    case.numbers[FORM] = form;
-    case
 }
 
 pub fn store(rng: &mut Rng, n: usize, k: usize, stored: usize) -> Case {
     let m = n - k;
-    let state = state(rng, n, k, stored);
+    let (number, w) = (rng.key_number(), rng.between(1, n) as u64);
     let (ones, twos) = (rng.words(k * words(m)), rng.words(k * words(m)));
     let row = rng.packed(m);
-    let mut case = Case::new(Call::Store, state, vec![Words(ones), Words(twos), Bytes(row)]);
+    let mut case = Case::new(Call::Store, vec![1, number, n as u64, k as u64, w, stored as u64], vec![Words(ones), Words(twos), Bytes(row)]);
     case.roles = vec![Role::Packed { at: 2, m }];
-    case.edges = state_edges(&case.numbers);
-    case.edges.push(Edge { at: ROWS, value: k as u64, refusal: 21 });
-    case
-}
-
-pub fn convert(rng: &mut Rng, n: usize, k: usize) -> Case {
-    let m = n - k;
-    let numbers = whole(rng, n, k);
-    let (ones, twos) = rng.planes(k, m);
-    let (other_ones, other_twos) = (rng.words(k * words(m)), rng.words(k * words(m)));
-    let mut case = Case::new(Call::Convert, numbers, vec![Words(ones), Words(twos), Words(other_ones), Words(other_twos)]);
-    case.roles = vec![Role::Planes { at: 0, rows: k, m }];
-    case.edges = whole_edges(&case.numbers);
+    case.edges = state_edges(n as u64, k as u64, number, w);
+    case.edges.push(Edge { at: 5, value: k as u64, refusal: 21 });
     case
 }
 
 pub fn check(rng: &mut Rng, n: usize, k: usize) -> Case {
     let m = n - k;
-    let numbers = whole(rng, n, k);
+    let (number, w) = (rng.key_number(), rng.between(1, n) as u64);
     let (ones, twos) = rng.planes(k, m);
     let (y, s) = (rng.packed(m), rng.packed(k));
     let (w1, w2) = (rng.words(words(m)), rng.words(words(m)));
-    let mut case = Case::new(Call::Check, numbers, vec![Words(ones), Words(twos), Bytes(y), Bytes(s), Words(w1), Words(w2)]);
+    let mut case = Case::new(
+        Call::Check,
+        vec![1, number, n as u64, k as u64, w, k as u64, number],
+        vec![Words(ones), Words(twos), Bytes(y), Bytes(s), Words(w1), Words(w2)],
+    );
     case.roles = vec![Role::Planes { at: 0, rows: k, m }, Role::Packed { at: 2, m }, Role::Packed { at: 3, m: k }];
-    case.edges = whole_edges(&case.numbers);
+    case.edges = state_edges(n as u64, k as u64, number, w);
+    case.edges.extend(edges(5, 20, &[0, k as u64 - 1]));
+    // another number: one bit changed, 256 or 2^32 more, out of its range
+    case.edges.extend(edges(6, 22, &[number ^ 1, number ^ 128, number ^ (1 << 16), number ^ (1 << 31), number + 256, number + (1 << 32), u64::MAX]));
     case
 }
 
 /// The same check of a text: its salt and itself in place of y.
 pub fn about_text(mut case: Case, salt: Vec<u8>, text: Vec<u8>) -> Case {
-    let (n, k) = (case.numbers[HELD_N] as usize, case.numbers[HELD_K] as usize);
+    let (n, k) = (case.numbers[2] as usize, case.numbers[3] as usize);
     case.call = Call::CheckText;
     case.buffers.splice(2..3, [Bytes(salt), Bytes(text)]);
     case.roles = vec![Role::Planes { at: 0, rows: k, m: n - k }, Role::Packed { at: 4, m: k }];

@@ -1,14 +1,12 @@
 //! Which cases are run: sizes at every edge with every fault, pairs of faults, round trips, and cases by chance.
 
-use crate::case::{Buffer, Call, Case, Role, CALLS, GAP_U, GAP_V, HELD_W, STATE, WEIGHT};
+use crate::case::{Buffer, Call, Case, Role, CALLS, GAP_U, GAP_V, WEIGHT};
 use crate::compare::Comparer;
 use crate::damage::{faults, Fault};
-use crate::forms;
 use crate::hashed::TEXTS;
 use crate::make::{self, SecretPlanes, Shape};
 use crate::rng::Rng;
 use second::algebra::weight;
-use second::held::{M, R};
 use second::packing::{bytes, packed};
 use second::planes::words;
 
@@ -86,7 +84,6 @@ fn planes_rule(list: &[Fault]) -> u64 {
 pub fn past_first(c: &mut Comparer) {
     let mut cases = vec![make::pack(&mut c.rng, 2), make::pack(&mut c.rng, 130), make::check(&mut c.rng, 6, 3), make::check(&mut c.rng, 200, 70)];
     cases.extend([make::check_text(&mut c.rng, 6, 3, 0), make::check_text(&mut c.rng, 200, 70, 105)]);
-    cases.extend([make::convert(&mut c.rng, 6, 3), make::convert(&mut c.rng, 200, 70)]);
     for (n, ku, kv, gv, gu) in [(4, 1, 1, 0, 0), (6, 1, 1, 1, 1), (130, 32, 31, 0, 5), (260, 3, 5, 4, 2)] {
         let shape = Shape { n, ku, kv, gv, gu };
         cases.extend([make::build(&mut c.rng, &shape), make::draw(&mut c.rng, &shape)]);
@@ -116,14 +113,13 @@ pub fn past_first(c: &mut Comparer) {
 
 /// Beginning a key: numbers at every edge, over old states of every kind.
 pub fn beginning(c: &mut Comparer) {
-    let old = [[0; STATE], [1, 7, 0, 4, 2, 4, 2], [1, 9, 1, 256, 100, 30, 17], [2, 300, 5, 5, 0, 0, u64::MAX], [u64::MAX; STATE]];
+    let old = [[0; 6], [1, 7, 4, 2, 4, 2], [1, 9, 256, 100, 30, 17], [2, 300, 5, 0, 0, u64::MAX], [u64::MAX; 6]];
     for n in [0, 1, 2, 3, 4, 5, 6, 7, 64, 8492, 8576, 16382, 16383, 16384, 16385, 16386, 65536, 1 << 32 | 4, u64::MAX - 1, u64::MAX] {
         for k in [0, 1, 2, 3, n.wrapping_sub(3), n.wrapping_sub(2), n.wrapping_sub(1), n, 1 << 32 | 2, u64::MAX] {
             for w in [0, 1, n.wrapping_sub(1), n, n.wrapping_add(1), 1 << 32 | 1, u64::MAX] {
                 for number in [0, 1, 255, 256, 65535, 65536, (1 << 32) - 2, (1 << 32) - 1, 1 << 32, 1 << 32 | 7, u64::MAX] {
                     let mut numbers = c.rng.pick(&old).to_vec();
-                    let form = c.rng.pick(&[0, 0, 0, 1, 1, 1, 2, 3, 1 << 32, u64::MAX]);
-                    numbers.extend([number, form, n, k, w]);
+                    numbers.extend([number, n, k, w]);
                     c.compare(&Case::new(Call::Begin, numbers, vec![]), &[]);
                 }
             }
@@ -143,7 +139,7 @@ pub fn some_k(rng: &mut Rng, n: usize) -> Vec<usize> {
     out
 }
 
-/// Rows, conversions and checks: every fault at sizes of every edge, pairs at some.
+/// Rows and checks: every fault at sizes of every edge, pairs at some.
 pub fn held_key(c: &mut Comparer) {
     for n in PLACES {
         for k in some_k(&mut c.rng, n) {
@@ -151,49 +147,47 @@ pub fn held_key(c: &mut Comparer) {
                 let case = make::store(&mut c.rng, n, k, stored);
                 c.singles(&case);
             }
-            for case in [make::convert(&mut c.rng, n, k), make::check(&mut c.rng, n, k)] {
-                c.singles(&case);
-                c.content_pairs(&case);
-            }
+            let case = make::check(&mut c.rng, n, k);
+            c.singles(&case);
+            c.content_pairs(&case);
         }
     }
     for m in WIDE {
         let k = 2 * c.rng.between(1, 5) + m % 2;
         for (n, k) in [(m + k, k), (m + k, m)] {
             let stored = c.rng.below(k);
-            for case in [make::store(&mut c.rng, n, k, stored), make::convert(&mut c.rng, n, k), make::check(&mut c.rng, n, k)] {
-                c.singles(&case);
-            }
+            let case = make::store(&mut c.rng, n, k, stored);
+            c.singles(&case);
+            let case = make::check(&mut c.rng, n, k);
+            c.singles(&case);
         }
     }
     for (n, k) in [(4, 2), (6, 3), (66, 2), (130, 65), (130, 66)] {
-        for case in [make::store(&mut c.rng, n, k, k - 1), make::convert(&mut c.rng, n, k), make::check(&mut c.rng, n, k)] {
-            for form in [R, M] {
-                c.pairs(&make::held_as(form, case.clone()));
-            }
-        }
+        let case = make::store(&mut c.rng, n, k, k - 1);
+        c.pairs(&case);
+        let case = make::check(&mut c.rng, n, k);
+        c.pairs(&case);
     }
 }
 
-/// The published sizes and the largest: rows, conversions and checks, the work of each verdict included.
+/// The published sizes and the largest: checks and rows, the work of each verdict included.
 pub fn large_keys(c: &mut Comparer, thorough: bool) {
     for (n, k) in [(8492, 4246), (8576, 4288), (16384, 2), (16384, 16382), (16384, 8191)] {
         let case = make::store(&mut c.rng, n, k, k - 1);
         c.singles(&case);
-        for case in [make::convert(&mut c.rng, n, k), make::check(&mut c.rng, n, k)] {
-            if thorough || n < 16384 || k == 2 {
-                c.singles(&case);
-            } else {
-                let list = faults(&case);
-                for (fault, _) in list.iter().filter(|(f, refusal)| *refusal > 2 || matches!(f, Fault::Longer { .. } | Fault::Shorter { .. })).step_by(3) {
-                    c.damaged(&case, &[*fault]);
-                }
+        let case = make::check(&mut c.rng, n, k);
+        if thorough || n < 16384 || k == 2 {
+            c.singles(&case);
+        } else {
+            let list = faults(&case);
+            for (fault, _) in list.iter().filter(|(f, refusal)| *refusal > 2 || matches!(f, Fault::Longer { .. } | Fault::Shorter { .. })).step_by(3) {
+                c.damaged(&case, &[*fault]);
             }
         }
         // the weight that comes out is the one asked for
         let mut case = make::check(&mut c.rng, n, k);
         let weight = c.compare(&case, &[]).weight();
-        case.numbers[HELD_W] = weight.max(1);
+        case.numbers[4] = weight.max(1);
         c.compare(&case, &[]);
     }
 }
@@ -324,8 +318,8 @@ pub fn many_rows(c: &mut Comparer, long: bool) {
     }
 }
 
-/// Build, pack, make y of a text, draw until a word is released, store, check y and the text: always yes, under either form.
-/// Then one trit or one byte is changed. True if a word was released.
+/// Build, pack, make y of a text, draw until a word is released, store, check y and the text: always yes. Then one trit
+/// or one byte is changed. True if a word was released.
 pub fn round_trip(c: &mut Comparer, shape: &Shape) -> bool {
     let (n, k, m) = (shape.n, shape.ku + shape.kv, shape.n - shape.ku - shape.kv);
     let (secret, built) = loop {
@@ -380,7 +374,7 @@ pub fn round_trip(c: &mut Comparer, shape: &Shape) -> bool {
 
     // the rows are stored under some key number
     let number = c.rng.key_number();
-    let begun = c.compare(&Case::new(Call::Begin, [[0u64; STATE].to_vec(), vec![number, R, n as u64, k as u64, w as u64]].concat(), vec![]), &[]);
+    let begun = c.compare(&Case::new(Call::Begin, [[0u64; 6].to_vec(), vec![number, n as u64, k as u64, w as u64]].concat(), vec![]), &[]);
     let mut state = begun.answer[1..].to_vec();
     let (mut ones, mut twos) = (Buffer::Words(c.rng.words(k * words(m))), Buffer::Words(c.rng.words(k * words(m))));
     for row in packed_rows {
@@ -414,8 +408,6 @@ pub fn round_trip(c: &mut Comparer, shape: &Shape) -> bool {
     }
     let on_text = make::about_text(case.clone(), asked.buffers[0].bytes().to_vec(), asked.buffers[1].bytes().to_vec());
     check_of_text(c, &on_text, &verdict.answer);
-    let as_m = forms::converted(c, &case);
-    forms::same_answer(c, &as_m, &verdict);
     // one trit of s, of y, of the key changed
     for (buffer, length) in [(3, k), (3, k), (2, m), (2, m)] {
         let mut changed = case.clone();
@@ -503,18 +495,19 @@ fn by_chance(c: &mut Comparer) {
         Call::Unpack => make::unpack(&mut c.rng, m),
         Call::Stream => make::stream(&mut c.rng, m),
         Call::Begin => {
-            let mut numbers = c.rng.words(STATE);
-            let (number, form) = (c.rng.between(0, 300) as u64, c.rng.below(3) as u64);
-            let [any_n, any_k, w] = [0; 3].map(|_| c.rng.between(0, 300) as u64);
-            let (n, k) = if c.rng.one_in(2) { (n as u64, k as u64) } else { (any_n, any_k) };
-            numbers.extend([number, form, n, k, w]);
+            let mut numbers = c.rng.words(6);
+            let number = c.rng.between(0, 300) as u64;
+            numbers.extend([number, c.rng.between(0, 300) as u64, c.rng.between(0, 300) as u64, c.rng.between(0, 300) as u64]);
+            if c.rng.one_in(2) {
+                numbers[7] = n as u64;
+                numbers[8] = k as u64;
+            }
             Case::new(Call::Begin, numbers, vec![])
         }
         Call::Store => {
             let stored = c.rng.below(k);
             make::store(&mut c.rng, n, k, stored)
         }
-        Call::Convert => make::convert(&mut c.rng, n, k),
         Call::Check => make::check(&mut c.rng, n, k),
         Call::CheckText => make::check_text(&mut c.rng, n, k, text),
         Call::Syndrome => make::syndrome(&mut c.rng, m, text),
@@ -542,7 +535,7 @@ fn by_chance(c: &mut Comparer) {
     // a check that was not refused is asked for its own weight too
     if call.is_check() && count == 0 && outcome.weight() > 0 {
         let mut asked = case.clone();
-        asked.numbers[HELD_W] = outcome.weight();
+        asked.numbers[4] = outcome.weight();
         c.compare(&asked, &[]);
     }
 }

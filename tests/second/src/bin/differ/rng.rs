@@ -1,6 +1,6 @@
 //! Numbers from a seed.
 
-use second::held::{M, MOST_KEY_NUMBER, R};
+use second::held::MOST_KEY_NUMBER;
 use second::packing::bytes;
 use second::planes::words;
 
@@ -57,11 +57,6 @@ impl Rng {
             1 => self.pick(&[0, 255, 256, 65535, 65536, MOST_KEY_NUMBER - 1, MOST_KEY_NUMBER]),
             _ => self.word() % (MOST_KEY_NUMBER + 1),
         }
-    }
-
-    /// The form of a key: one of three is held as M.
-    pub fn form(&mut self) -> u64 {
-        self.pick(&[R, R, M])
     }
 
     /// Bytes of a text, a salt or a message: all 0, all 255, or mixed.

@@ -1,9 +1,8 @@
 //! The paper's worked cases, made by the proved code and held to the paper's own values; hashes that are published, and
 //! texts worked by hand from the bytes of Python's hashlib.
 
-use crate::case::{Buffer, Call, Case, FORM, GAP_U, GAP_V, HELD_NUMBER};
+use crate::case::{Buffer, Call, Case, GAP_U, GAP_V};
 use crate::compare::Comparer;
-use second::held::{M, R};
 use second::packing::packed;
 use second::planes::planes;
 use Buffer::{Bytes, Order, Words};
@@ -61,19 +60,10 @@ fn draw(w: u64, v_trit: &str, u_value: &str) -> Case {
     Case::new(Call::Draw, vec![4, 1, 1, 0, 0, w], buffers)
 }
 
-/// The check of y and s under the paper's first key, held as R.
 fn check(number: u64, w: u64, y: &str, s: &str) -> Case {
     let mut buffers = pair("02 22").to_vec();
     buffers.extend([Bytes(packed(&row(y))), Bytes(packed(&row(s))), one(5), one(6)]);
-    Case::new(Call::Check, vec![1, 7, R, 4, 2, w, 2, number], buffers)
-}
-
-/// The same key held as M.
-fn check_under_m(number: u64, w: u64, y: &str, s: &str) -> Case {
-    let mut case = check(number, w, y, s);
-    case.buffers[..2].clone_from_slice(&pair("21 10"));
-    case.numbers[FORM] = M;
-    case
+    Case::new(Call::Check, vec![1, 7, 4, 2, w, 2, number], buffers)
 }
 
 /// The bytes 0 to 31, and a text.
@@ -104,15 +94,11 @@ fn texts(c: &mut Comparer) {
     // y is 02, 10, 10 and 11, s is 11 or 00, and the word is 1111, 2211, 1000 and 2011
     let asked = |number: u64, text: &str, s: u8| {
         let buffers = [&pair("02 22")[..], &salted(text), &[Bytes(vec![s]), one(5), one(6)]].concat();
-        Case::new(Call::CheckText, vec![1, 7, R, 4, 2, 4, 2, number], buffers)
+        Case::new(Call::CheckText, vec![1, 7, 4, 2, 4, 2, number], buffers)
     };
     let words = [("", 4, 1, 4, 0), ("formula 7", 4, 1, 2, 2), ("formula 7", 0, 0, 1, 0), ("formula 29", 4, 0, 2, 1)];
     for (text, s, yes, ones, twos) in words {
-        let mut case = asked(7, text, s);
-        expect(c, case.clone(), &[0, yes, ones, twos], &[(5, one(0)), (6, one(0))]);
-        case.buffers[..2].clone_from_slice(&pair("21 10"));
-        case.numbers[FORM] = M;
-        expect(c, case, &[0, yes, ones, twos], &[(5, one(0)), (6, one(0))]);
+        expect(c, asked(7, text, s), &[0, yes, ones, twos], &[(5, one(0)), (6, one(0))]);
     }
     for (number, s, refusal) in [(8, 4, 22), (7, 243, 5), (7, 22, 15), (8, 243, 22)] {
         expect(c, asked(number, "formula 7", s), &[refusal, 0, 0, 0], &[(5, one(5)), (6, one(6))]);
@@ -122,61 +108,9 @@ fn texts(c: &mut Comparer) {
     expect(c, short, &[2, 0, 0, 0], &[(5, one(5)), (6, one(6))]);
 }
 
-/// A key of these rows is converted into these, and these back into those; the state has the sizes, and tells the form.
-fn converts(c: &mut Comparer, n: u64, as_r: &str, as_m: &str) {
-    let k = as_r.split(' ').count();
-    for (form, from, to) in [(R, as_r, as_m), (M, as_m, as_r)] {
-        let [ones, twos] = pair(from);
-        let buffers = vec![ones.clone(), twos.clone(), Words(vec![!0; k]), Words(vec![7; k])];
-        let case = Case::new(Call::Convert, vec![1, 7, form, n, k as u64, 4, k as u64, 7], buffers);
-        let [other_ones, other_twos] = pair(to);
-        let exit = [(0, ones), (1, twos), (2, other_ones), (3, other_twos)];
-        expect(c, case, &[0, 1, 7, 1 - form, n, k as u64, 4, k as u64], &exit);
-    }
-}
-
-/// The form of Wavelet, by hand. 02 + 22 = 21 and 02 - 22 = 10. At odd k, 012 + 211 = 220, 012 - 211 = 101, and 120 negated is 210; with two pairs,
-/// 120 + 201 = 021, 120 - 201 = 222, 222 + 211 = 100, 222 - 211 = 011, and 012 negated is 021.
-fn wavelet(c: &mut Comparer) {
-    converts(c, 4, "02 22", "21 10");
-    converts(c, 6, "012 211 120", "220 101 210");
-    converts(c, 8, "120 201 222 211 012", "021 222 100 011 021");
-    // s changes to 20, 02, 00 and 01: y = 12 with 2·21 is 21, with 2·10 is 02, alone is 12, and with 10 is 22
-    expect(c, check_under_m(7, 4, "12", "11"), &[0, 1, 3, 1], &[(4, one(0)), (5, one(0))]);
-    expect(c, check_under_m(7, 4, "12", "12"), &[0, 0, 1, 2], &[(4, one(0)), (5, one(0))]);
-    expect(c, check_under_m(7, 2, "12", "00"), &[0, 1, 1, 1], &[(4, one(0)), (5, one(0))]);
-    expect(c, check_under_m(7, 4, "12", "21"), &[0, 1, 1, 3], &[(4, one(0)), (5, one(0))]);
-    expect(c, check_under_m(8, 4, "12", "11"), &[22, 0, 0, 0], &[(4, one(5)), (5, one(6))]);
-    // M read as R makes 1111 of s = 11: the same weight, and yes, but other ones and twos
-    let mut read_as_r = check_under_m(7, 4, "12", "11");
-    read_as_r.numbers[FORM] = R;
-    expect(c, read_as_r, &[0, 1, 4, 0], &[(4, one(0)), (5, one(0))]);
-    // y = 201 and s = 122, which changes to 022: 201 with 2·101 and 2·210 is 220; under R less 012, 2·211 and 2·120
-    for (form, key) in [(R, "012 211 120"), (M, "220 101 210")] {
-        let buffers = [&pair(key)[..], &[Bytes(packed(&row("201"))), Bytes(packed(&row("122"))), one(5), one(6)]].concat();
-        expect(c, Case::new(Call::Check, vec![1, 7, form, 6, 3, 5, 3, 7], buffers), &[0, 1, 1, 4], &[(4, one(0)), (5, one(0))]);
-    }
-    // no form but 0 and 1, at each call; it is not looked at where no key is begun
-    for (begun, form, refusal) in [(1, 2, 1), (1, 257, 1), (1, 1 << 32, 1), (1, u64::MAX, 1), (0, 2, 20)] {
-        let mut asked = check_under_m(7, 4, "12", "11");
-        asked.numbers[0] = begun;
-        asked.numbers[FORM] = form;
-        let state = asked.numbers[..7].to_vec();
-        let told = [&[refusal], &state[..]].concat();
-        let [ones, twos] = pair("21 10");
-        let other = [Words(vec![8; 2]), Words(vec![9; 2])];
-        let convert = Case::new(Call::Convert, asked.numbers.clone(), [&[ones.clone(), twos.clone()][..], &other].concat());
-        expect(c, convert, &told, &[(2, Words(vec![8; 2])), (3, Words(vec![9; 2]))]);
-        let store = Case::new(Call::Store, state, vec![ones.clone(), twos.clone(), Bytes(vec![0])]);
-        expect(c, store, &told, &[(0, ones), (1, twos)]);
-        expect(c, asked, &[refusal, 0, 0, 0], &[(4, one(5)), (5, one(6))]);
-    }
-}
-
 pub fn cases(c: &mut Comparer) {
     hashes(c);
     texts(c);
-    wavelet(c);
     let [ones, twos] = pair("12001");
     expect(c, Case::new(Call::Pack, vec![5], vec![ones, twos, Bytes(vec![0])]), &[0], &[(2, Bytes(vec![88]))]);
     let reads = |byte: u8| Case::new(Call::Unpack, vec![5], vec![Bytes(vec![byte]), one(3), one(4)]);
@@ -244,18 +178,16 @@ pub fn cases(c: &mut Comparer) {
         asked.buffers[3] = Bytes(vec![s]);
         expect(c, asked, &[refusal, 0, 0, 0], &[(4, one(5)), (5, one(6))]);
     }
-    // the row 02 is 6, and 33 has a 1 past the length: the state and the planes stay; the form stays either way
-    for form in [R, M] {
-        for (byte, answer, plane) in [(6, vec![0, 1, 7, form, 4, 2, 4, 1], 2), (33, vec![15, 1, 7, form, 4, 2, 4, 0], 9)] {
-            let row = Case::new(Call::Store, vec![1, 7, form, 4, 2, 4, 0], vec![Words(vec![0, 8]), Words(vec![9, 8]), Bytes(vec![byte])]);
-            expect(c, row, &answer, &[(0, Words(vec![0, 8])), (1, Words(vec![plane, 8]))]);
-        }
+    // the row 02 is 6, and 33 has a 1 past the length: the state and the planes stay
+    for (byte, answer, plane) in [(6, vec![0, 1, 7, 4, 2, 4, 1], 2), (33, vec![15, 1, 7, 4, 2, 4, 0], 9)] {
+        let row = Case::new(Call::Store, vec![1, 7, 4, 2, 4, 0], vec![Words(vec![0, 8]), Words(vec![9, 8]), Bytes(vec![byte])]);
+        expect(c, row, &answer, &[(0, Words(vec![0, 8])), (1, Words(vec![plane, 8]))]);
     }
 
     // key numbers: at a beginning, and held and asked for at a check
     for (number, refusal) in [(255, 0), (256, 0), (65535, 0), (65536, 0), (4294967295, 0), (4294967296, 1), (4294967303, 1), (u64::MAX, 1)] {
-        let state = if refusal == 0 { vec![0, 1, number, R, 4, 2, 4, 0] } else { vec![1, 0, 0, 0, 0, 0, 0, 0] };
-        expect(c, Case::new(Call::Begin, vec![0, 0, 0, 0, 0, 0, 0, number, R, 4, 2, 4], vec![]), &state, &[]);
+        let state = if refusal == 0 { vec![0, 1, number, 4, 2, 4, 0] } else { vec![1, 0, 0, 0, 0, 0, 0] };
+        expect(c, Case::new(Call::Begin, vec![0, 0, 0, 0, 0, 0, number, 4, 2, 4], vec![]), &state, &[]);
     }
     for (held, asked, answer) in [
         (256, 256, [0, 1, 3, 1]),
@@ -265,13 +197,13 @@ pub fn cases(c: &mut Comparer) {
         (4294967296, 4294967296, [1, 0, 0, 0]),
     ] {
         let mut numbered = check(asked, 4, "12", "11");
-        numbered.numbers[HELD_NUMBER] = held;
+        numbered.numbers[1] = held;
         let [w1, w2] = if answer[0] == 0 { [one(0), one(0)] } else { [one(5), one(6)] };
         expect(c, numbered, &answer, &[(4, w1), (5, w2)]);
     }
 
     for (n, refusal) in [(4, 0), (16384, 0), (2, 1), (16386, 1)] {
-        let state = if refusal == 0 { vec![refusal, 1, 0, M, n, 2, 1, 0] } else { vec![refusal, 0, 0, 0, 0, 0, 0, 0] };
-        expect(c, Case::new(Call::Begin, vec![0, 0, 0, 0, 0, 0, 0, 0, M, n, 2, 1], vec![]), &state, &[]);
+        let state = if refusal == 0 { vec![refusal, 1, 0, n, 2, 1, 0] } else { vec![refusal, 0, 0, 0, 0, 0, 0] };
+        expect(c, Case::new(Call::Begin, vec![0, 0, 0, 0, 0, 0, 0, n, 2, 1], vec![]), &state, &[]);
     }
 }

@@ -86,7 +86,8 @@ lent_part {o} {t} {r} {w} g i h k e =
 
 -- the dot product of two rows that are lent, of one matrix or of two
 pub rows_product : {o t o' t' : List ℕ} {w i j k l n : ℕ} (a : Part o t w i k) (b : Part o' t' w j l)
-    → n ≡ number (dot_v (trit_at (mid_of (i * w) k o) (mid_of (i * w) k t)) (trit_at (mid_of (j * w) l o') (mid_of (j * w) l t')) (64 * length (mid_of (i * w) k o)))
+    → n ≡ number (dot_v (trit_at (mid_of (i * w) k o) (mid_of (i * w) k t)) (trit_at (mid_of (j * w) l o') (mid_of (j * w) l t'))
+    (64 * length (mid_of (i * w) k o)))
     → n ≡ number (dot_v (matrix_at w o t i) (matrix_at w o' t' j) (64 * w))
 rows_product {o} {t} {o'} {t'} {w} {i} {j} {k} a b d =
     d ∙ ap₂ (λ (u v : Vector). number (dot_v u v (64 * length (mid_of (i * w) k o)))) a.trits b.trits
@@ -104,7 +105,8 @@ module _ (j : ℕ) (v : Vector) (A : Matrix) (k : ℕ) where
 -- ---- one trit put into a row
 
 module _ {o₀ t₀ o t : List ℕ} {r w : ℕ} (i p : ℕ) (x : Trit) (g : Rows o₀ t₀ r w) (l : p < 64 * w) where
-  pub put_cell : Reads o t (length o₀) (put_v (trit_at o₀ t₀) (64 * (i * w) + p) x) → Grid o t r w (put_row i (put_v (matrix_at w o₀ t₀ i) p x) (matrix_at w o₀ t₀))
+  pub put_cell : Reads o t (length o₀) (put_v (trit_at o₀ t₀) (64 * (i * w) + p) x) →
+      Grid o t r w (put_row i (put_v (matrix_at w o₀ t₀ i) p x) (matrix_at w o₀ t₀))
   put_cell d =
       grid_by (record { row = d.row; size = d.size ∙ g.size })
       (λ k q h. ap (λ (u : Vector). u (64 * (k * w) + q)) d.trits ∙ at k q h (ℕ_discrete k i) (ℕ_discrete q p))
@@ -120,9 +122,11 @@ module _ {o₀ t₀ o t : List ℕ} {r w : ℕ} (i p : ℕ) (x : Trit) (g : Rows
       apart k q h (inl m) e = omega arith
       apart k q h (inr m) e = omega arith
 
-      at : (k q : ℕ) → q < 64 * w → Dec (k ≡ i) → Dec (q ≡ p) → put_v (trit_at o₀ t₀) (64 * (i * w) + p) x (64 * (k * w) + q) ≡ put_row i (put_v (A i) p x) A k q
+      at : (k q : ℕ) → q < 64 * w → Dec (k ≡ i) → Dec (q ≡ p) → put_v (trit_at o₀ t₀) (64 * (i * w) + p) x (64 * (k * w) + q)
+          ≡ put_row i (put_v (A i) p x) A k q
       at k q h (yes e) (yes f) =
-          ap (λ (b : Bool). cond b x (trit_at o₀ t₀ (64 * (k * w) + q))) (eq-eqb (64 * (k * w) + q) (64 * (i * w) + p) (ap₂ (λ (a b : ℕ). 64 * (a * w) + b) e f))
+          ap (λ (b : Bool). cond b x (trit_at o₀ t₀ (64 * (k * w) + q)))
+          (eq-eqb (64 * (k * w) + q) (64 * (i * w) + p) (ap₂ (λ (a b : ℕ). 64 * (a * w) + b) e f))
           ∙ sym (ap (λ (u : Vector). u q) (put_here i (put_v (A i) p x) A k e) ∙ ap (λ (b : Bool). cond b x (A i q)) (eq-eqb q p f))
       at k q h (yes e) (no f) =
           else k q (λ z. f (same z)) h ∙ ap (λ (n : ℕ). A n q) e

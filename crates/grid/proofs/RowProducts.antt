@@ -18,7 +18,8 @@ use Rattle.grid.proofs.RowParts.{put_grid, lent_trits, put_here, put_else}
 -- ---- one row multiplied
 
 module _ {o₀ t₀ : List ℕ} {r : ℕ} (w i : ℕ) (g : Rows o₀ t₀ r w) (h : i < r) where
-  pub mul_grid : {ys zs : List ℕ} {n : ℕ} (k : ℕ) (v : Vector) → k ≡ w → n ≡ k → Reads ys zs n (zip_v mul_t (trit_at (mid_of (i * w) k o₀) (mid_of (i * w) k t₀)) v)
+  pub mul_grid : {ys zs : List ℕ} {n : ℕ} (k : ℕ) (v : Vector) → k ≡ w → n ≡ k →
+      Reads ys zs n (zip_v mul_t (trit_at (mid_of (i * w) k o₀) (mid_of (i * w) k t₀)) v)
       → Grid (put_mid (i * w) k o₀ ys) (put_mid (i * w) k t₀ zs) r w (put_row i (zip_v mul_t (matrix_at w o₀ t₀ i) v) (matrix_at w o₀ t₀))
   mul_grid k v e f d =
       put_grid w i g h k e f (reads_to d (ap (λ (u : Vector). zip_v mul_t u v) (lent_trits w i k g h e)))
@@ -34,7 +35,8 @@ module _ (t i : ℕ) (f : t ≡ i → ⊥) (v : Vector) (A : Matrix) where
       ap (λ (b : Bool). cond b (add_t (put_row t zeros A t q) (put_row t zeros A i q)) (put_row t zeros A t q)) (eq-eqb t t refl)
       ∙ ap₂ (λ (x y : Vector). add_t (x q) (y q)) (put_here t zeros A t refl) (put_else t zeros A i (λ e. f (sym e))))
 
-  pub product_made : put_row t (zip_v mul_t (join_row add_t t i (put_row t zeros A) t) v) (join_row add_t t i (put_row t zeros A)) ≡ put_row t (zip_v mul_t (A i) v) A
+  pub product_made : put_row t (zip_v mul_t (join_row add_t t i (put_row t zeros A) t) v) (join_row add_t t i (put_row t zeros A))
+      ≡ put_row t (zip_v mul_t (A i) v) A
   product_made = fun_ext (λ k. by k (ℕ_discrete k t))
     where
       B : Matrix

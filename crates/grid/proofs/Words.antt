@@ -47,7 +47,8 @@ word_same : {x y : ℕ} {u v : Vector} → Word x y u → ((b : ℕ) → b < 64 
 word_same h e = record { apart = h.apart; bits = λ k l. h.bits k l ∙ e k l }
 
 -- word k of row i
-word_at : {o t : List ℕ} {r w : ℕ} → Rows o t r w → (i k : ℕ) → k < w → Word (get_or o (i * w + k) 0) (get_or t (i * w + k) 0) (λ b. matrix_at w o t i (64 * k + b))
+word_at : {o t : List ℕ} {r w : ℕ} → Rows o t r w → (i k : ℕ) → k < w →
+    Word (get_or o (i * w + k) 0) (get_or t (i * w + k) 0) (λ b. matrix_at w o t i (64 * k + b))
 word_at {o} {t} {w = w} g i k h = record {
   apart = g.row.apart.word (i * w + k);
   bits = λ b l.
@@ -128,7 +129,8 @@ module _ {v : Vector} {r w d k : ℕ} {o₀ t₀ o t : List ℕ} (m : Making v r
           rw e (word_like (get_or-set_same o (d * w + k) x 0 (omega (arith, m.ones_kept, m.own)))
           (get_or-set_same t (d * w + k) y 0 (omega (arith, m.twos_kept, m.same, m.own))) s)
       at j l n (no f) =
-          word_like (get_or-set_other o (d * w + k) (d * w + j) x 0 (λ z. f (omega arith))) (get_or-set_other t (d * w + k) (d * w + j) y 0 (λ z. f (omega arith)))
+          word_like (get_or-set_other o (d * w + k) (d * w + j) x 0 (λ z. f (omega arith)))
+          (get_or-set_other t (d * w + k) (d * w + j) y 0 (λ z. f (omega arith)))
           (m.new j (omega arith) n)
 
   -- where it ends row d has v, if the rest of the row had it before

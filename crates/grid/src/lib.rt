@@ -1,4 +1,6 @@
 // A matrix held in two planes, rows of as many words each, one after another: its rows and its places.
+#![tactic(auto)]
+
 pub mod places; // one place of a row
 pub mod one_row; // one row: made 0, made a copy of a lent row, negated
 pub mod two_rows; // two rows of one matrix: exchanged, added, subtracted, one taken from the other, and their dot product

@@ -1,4 +1,6 @@
 // The permutation Keccak-p[1600, 24] on five arrays of five lanes.
+#![tactic(auto)]
+
 pub mod tables; // the round constants and the offsets
 pub mod steps; // the five steps of a round
 

@@ -153,7 +153,8 @@ pub range_order : (n : ℕ) → Order n (range n)
 range_order n = record { size = range_length n; every = range_elem n }
 
 -- the values of e, put at places that are listed
-pub fill_own : (ps : List ℕ) (e v w : Vector) (q : ℕ) → Distinct ps → ((j : ℕ) → j < length ps → v j ≡ e (get_or ps j 0)) → elem q ps ≡ true → fill ps v w q ≡ e q
+pub fill_own : (ps : List ℕ) (e v w : Vector) (q : ℕ) → Distinct ps → ((j : ℕ) → j < length ps → v j ≡ e (get_or ps j 0)) → elem q ps ≡ true → fill ps v w q
+    ≡ e q
 fill_own ps e v w q d h m =
     let k = elem_index q ps m in
     ap (fill ps v w) (sym k.2) ∙ fill_at ps v w k.0 d k.1 ∙ h k.0 k.1 ∙ ap e k.2

@@ -125,7 +125,8 @@ pub less_entries : (q : ℕ → ℕ) (b : Matrix) (v : Vector) (t : ℕ)
 less_entries q b v t =
     ap₂ sub_t (ap₂ sub_t (ap (sub_t (v t)) (entry_base3 4 b u t)) (entry_base3 4 (λ j. b (4 + j)) (λ j. u (4 + j)) t))
     (entry_base3 4 (λ j. b (8 + j)) (λ j. u (8 + j)) t)
-    ∙ law4 (λ a x y z. sub_t (sub_t (sub_t a x) y) z) (λ a x y z. sub_t a (add_t (add_t x y) z)) tt (v t) (dot_v u s 4) (dot_v (λ j. u (4 + j)) (λ j. s (4 + j)) 4)
+    ∙ law4 (λ a x y z. sub_t (sub_t (sub_t a x) y) z) (λ a x y z.
+    sub_t a (add_t (add_t x y) z)) tt (v t) (dot_v u s 4) (dot_v (λ j. u (4 + j)) (λ j. s (4 + j)) 4)
     (dot_v (λ j. u (8 + j)) (λ j. s (8 + j)) 4)
     ∙ ap (sub_t (v t)) (sym (dot_split 8 4 u s ∙ ap (λ (x : Trit). add_t x (dot_v (λ j. u (8 + j)) (λ j. s (8 + j)) 4)) (dot_split 4 4 u s)))
   where

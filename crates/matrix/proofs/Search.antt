@@ -18,7 +18,8 @@ use Rattle.matrix.proofs.Places.{Supported, or_false_left, or_false_right, false
 pub agree_eq : (r : ℕ) (u v : Vector) → agree r u v ≡ true → (i : ℕ) → i < r → u i ≡ v i
 unfolding agree
 agree_eq r u v h i k =
-    sub_zero_eq (u i) (v i) (unset_zero (sub_t (u i) (v i)) (any_none r (λ i. is_set (sub_t (u i) (v i))) (not-true (any_to (λ i. is_set (sub_t (u i) (v i))) r) h) i
+    sub_zero_eq (u i) (v i) (unset_zero (sub_t (u i) (v i))
+    (any_none r (λ i. is_set (sub_t (u i) (v i))) (not-true (any_to (λ i. is_set (sub_t (u i) (v i))) r) h) i
     k))
 
 pub eq_agree : (r : ℕ) (u v : Vector) → ((i : ℕ) → i < r → u i ≡ v i) → agree r u v ≡ true

@@ -41,7 +41,8 @@ module _ (A : Matrix) (q : ℕ) where
   first_found at zero = record { above = omega arith; within = omega arith; zeros = λ i h l. absurd (omega arith); set = λ l. absurd (omega arith) }
   first_found at (suc k) = by (first_found (suc at) k) (is_set (A at q)) refl
     where
-      by : Found (suc at) k (first_row A q (suc at) k) → (t : Bool) → is_set (A at q) ≡ t → Found at (suc k) (cond (is_set (A at q)) at (first_row A q (suc at) k))
+      by : Found (suc at) k (first_row A q (suc at) k) → (t : Bool) → is_set (A at q) ≡ t →
+          Found at (suc k) (cond (is_set (A at q)) at (first_row A q (suc at) k))
       by f true e = rw e (record { above = omega arith; within = omega arith; zeros = λ i h l. absurd (omega arith); set = λ l. e })
       by f false e =
           rw e

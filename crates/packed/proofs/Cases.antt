@@ -97,7 +97,8 @@ no_byte = refl
 -- 242 as a stream of two trits is not refused, though as a packed row it is: what the last byte holds past them is not looked at
 pub stream_past : (packed_refusal 2 (242 ∷ []) ≡ 15) × (stream_refusal (stream_of 2 (242 ∷ []) (7 ∷ []) (9 ∷ [])) ≡ 0)
     × (stream_twos (stream_of 2 (242 ∷ []) (7 ∷ []) (9 ∷ [])) ≡ 3 ∷ [])
-unfolding stream_twos stream_refusal too_short kept twos_of tabulate from_bits stream_row packed_row digit_of up_to packed_refusal bad_byte packed_past_end any_to
+unfolding stream_twos stream_refusal too_short kept twos_of tabulate from_bits stream_row packed_row digit_of up_to packed_refusal bad_byte
+    packed_past_end any_to
 stream_past = (refl, refl, refl)
 
 -- a byte of 243 or more is skipped, and the last byte gives only what is missing

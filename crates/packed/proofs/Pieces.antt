@@ -84,7 +84,8 @@ module _ (bytes : List ℕ) where
       sym (ap (bytes_piece i) z)
 
   -- one byte more before them
-  pub piece_more : (k i to : ℕ) {x y : ℕ} → k + 1 ≡ i → i ≤ to → get_or bytes k 0 < 243 → y ≡ get_or byte_masks (get_or bytes k 0) 0 → x ≡ bytes_piece i (to - i)
+  pub piece_more : (k i to : ℕ) {x y : ℕ} → k + 1 ≡ i → i ≤ to → get_or bytes k 0 < 243 → y ≡ get_or byte_masks (get_or bytes k 0) 0 → x
+      ≡ bytes_piece i (to - i)
       → x * 32 + y ≡ bytes_piece k (to - k)
   piece_more k i to {x} {y} e h g f d =
       let c = 5 * (to - i) in

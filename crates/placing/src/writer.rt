@@ -5,7 +5,7 @@ ghost use Rattle.placing.specs.Steps.{Appended, Finished, ForAppend, ForFinish};
 pub const HALF: u64 = 4294967296;
 
 // The place that is reached, and of each plane the word that is begun there.
-#[derive(Drop)]
+#[derive(Clone, Copy)]
 pub struct Writer {
     pub at: usize,
     pub ones: u64,

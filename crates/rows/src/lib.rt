@@ -1,4 +1,6 @@
 // Operations on whole rows, sixty-four trits at a time by masks on the two planes.
+#![tactic(auto)]
+
 ghost use Rattle.std.specs.Prelude.{◌≡◌, ◌*◌, ◌≤◌, length};
 ghost use Rattle.trits.specs.Trit.{add_t, sub_t, mul_t, neg_v, zip_v, dot_v, weight_v, counts_v, number};
 ghost use Rattle.trits.specs.Planes.{trit_at, Row, Reads};

@@ -55,7 +55,8 @@ pub record Cases6 : Type 0 where
   pub released_above : draw_refusal (sizes6 2 0 3) secret6 order6 (vector (1 ∷ 2 ∷ 0 ∷ [])) choices6 ≡ 0
 
 pub cases6 : Cases6
-unfolding dot_v any_to sum_to tabulate agree find solve in_span keep pivots rank without fill range is_order digit_rows gaps_fit sizes_fit_under no_zero has_zero
+unfolding dot_v any_to sum_to tabulate agree find solve in_span keep pivots rank without fill range is_order digit_rows gaps_fit sizes_fit_under
+    no_zero has_zero
     secret_matrix arrange arranged row_of_r build_fits build_refusal choices_fit pivots_v supplied_v draw_v pivots_u supplied_u draw_u drawn draw_refusal
 cases6 = record {
   given = refl;
@@ -149,7 +150,8 @@ pub record Cases8 : Type 0 where
   pub both_any : choices_fit (sizes8 0 2 7) (choose good_v (2 ∷ []) good_u (0 ∷ 0 ∷ [])) ≡ true
 
 pub cases8 : Cases8
-unfolding dot_v any_to sum_to tabulate agree find solve in_span keep pivots rank without fill range is_order digit_rows gaps_fit sizes_fit_under no_zero has_zero
+unfolding dot_v any_to sum_to tabulate agree find solve in_span keep pivots rank without fill range is_order digit_rows gaps_fit sizes_fit_under
+    no_zero has_zero
     secret_matrix arrange arranged row_of_r build_fits build_refusal choices_fit pivots_v supplied_v draw_v pivots_u supplied_u draw_u drawn draw_refusal
 cases8 = record {
   given = refl;

@@ -4,7 +4,7 @@ ghost use Rattle.scheme.specs.Sizes.{sizes_fit, shape_of};
 
 // n places, k_U and k_V, the gaps g_V and g_U, the weight w.
 #[repr(C)]
-#[derive(Drop)]
+#[derive(Clone, Copy)]
 pub struct Sizes {
     pub n: u64,
     pub ku: u64,
@@ -52,7 +52,7 @@ pub fn sizes_fit(z: Sizes) -> bool
 }
 
 // N, the words of a row of N trits, and the rows of H_U and of H_V.
-#[derive(Drop)]
+#[derive(Clone, Copy)]
 pub struct Shape {
     pub half: usize,
     pub words: usize,

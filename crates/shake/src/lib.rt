@@ -1,4 +1,6 @@
 // SHAKE256 of FIPS 202.
+#![tactic(auto)]
+
 pub mod block; // a block added to a state
 pub mod padding; // the bytes of the padded message
 pub mod absorbing; // a message taken in

@@ -94,7 +94,8 @@ count_le {x} {y} hx hy = ones-le 64 _ (or_lt 64 x y hx.fits hy.fits)
 
 -- a turn of the loop that has counted the words before i
 module _ (os ts : List ℕ) (i : ℕ) (ho : Fits w64 (get_or os i 0)) (ht : Fits w64 (get_or ts i 0)) where
-  pub weight_turn : (s : ℕ) → s ≡ weight_v (trit_at os ts) (64 * i) → s + ones (bit_or (get_or os i 0) (get_or ts i 0)) ≡ weight_v (trit_at os ts) (64 * (i + 1))
+  pub weight_turn : (s : ℕ) → s ≡ weight_v (trit_at os ts) (64 * i) → s + ones (bit_or (get_or os i 0) (get_or ts i 0))
+      ≡ weight_v (trit_at os ts) (64 * (i + 1))
   weight_turn s =
       let o = get_or os i 0 in
       let t = get_or ts i 0 in

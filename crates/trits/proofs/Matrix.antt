@@ -3,7 +3,7 @@ use mathlib.Core.Path.{◌≡◌, sym, ap, ap₂, ◌∙◌, subst}
 use mathlib.Core.Logic.{◌⊎◌, inl, inr, ◌≢◌}
 use mathlib.Core.Bool.{Bool, false, not, ◌&&◌, ◌||◌, cond, and-false}
 use mathlib.Core.List.{List, []}
-use Prim.Native.Nat.{ℕ, zero, suc, ◌+◌, ◌-◌, ◌*◌, ◌/◌, ◌%◌, ◌^◌, ◌≤◌, ◌<◌}
+use Prim.Native.Nat.{ℕ, zero, suc, ◌+◌, ◌*◌, ◌/◌, ◌%◌, ◌^◌, ◌≤◌, ◌<◌}
 use native.Mathlib.Nat.{mul-le-mul_right, suc-mul}
 use native.Mathlib.Decide.{dec_lt}
 use native.Mathlib.Numerals.{add-one}
@@ -108,7 +108,8 @@ rows_full ones twos rows m e z =
 -- a turn that gathers the last words of row i, at q of the planes
 module _ (ones twos : List ℕ) (rows m i : ℕ) (eo : length ones ≡ rows * words_for m) (et : length twos ≡ rows * words_for m) (h : i < rows)
     (u : m % 64 ≡ 0 → ⊥) where
-  last_word : (plane : List ℕ) → length plane ≡ rows * words_for m → get_or (row_part plane rows (words_for m) i) (m / 64) 0 ≡ get_or plane (i * words_for m + m / 64) 0
+  last_word : (plane : List ℕ) → length plane ≡ rows * words_for m → get_or (row_part plane rows (words_for m) i) (m / 64) 0
+      ≡ get_or plane (i * words_for m + m / 64) 0
   last_word plane e =
       let n : m % 64 ≢ 0 = u in
       ap (λ (l : List ℕ). get_or l (m / 64) 0) (sym (part_there plane rows (words_for m) i e h))

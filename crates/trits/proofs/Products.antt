@@ -63,14 +63,16 @@ module _ {uo ut vo vt : List ℕ} {i : ℕ} (k : Known uo ut vo vt i) where
   other_le = ones-le 64 _ other_lt
 
   pub same_turn : (s : ℕ) → s ≡ ones_v (zip_v mul_t (trit_at uo ut) (trit_at vo vt)) (64 * i)
-      → s + ones (mul_ones (get_or uo i 0) (get_or ut i 0) (get_or vo i 0) (get_or vt i 0)) ≡ ones_v (zip_v mul_t (trit_at uo ut) (trit_at vo vt)) (64 * (i + 1))
+      → s + ones (mul_ones (get_or uo i 0) (get_or ut i 0) (get_or vo i 0) (get_or vt i 0))
+      ≡ ones_v (zip_v mul_t (trit_at uo ut) (trit_at vo vt)) (64 * (i + 1))
   same_turn s =
       count_word (λ p. one (mul_t (trit_at uo ut p) (trit_at vo vt p))) i _ s same_lt (λ b h.
       op_ones mul_op (get_or uo i 0) (get_or ut i 0) (get_or vo i 0) (get_or vt i 0) (k.ua.word i) (k.va.word i) b
       ∙ ap₂ (λ (x y : Trit). one (mul_t x y)) (sym (trit_at_place i b h uo ut)) (sym (trit_at_place i b h vo vt)))
 
   pub other_turn : (s : ℕ) → s ≡ twos_v (zip_v mul_t (trit_at uo ut) (trit_at vo vt)) (64 * i)
-      → s + ones (mul_twos (get_or uo i 0) (get_or ut i 0) (get_or vo i 0) (get_or vt i 0)) ≡ twos_v (zip_v mul_t (trit_at uo ut) (trit_at vo vt)) (64 * (i + 1))
+      → s + ones (mul_twos (get_or uo i 0) (get_or ut i 0) (get_or vo i 0) (get_or vt i 0))
+      ≡ twos_v (zip_v mul_t (trit_at uo ut) (trit_at vo vt)) (64 * (i + 1))
   other_turn s =
       count_word (λ p. two (mul_t (trit_at uo ut p) (trit_at vo vt p))) i _ s other_lt (λ b h.
       op_twos mul_op (get_or uo i 0) (get_or ut i 0) (get_or vo i 0) (get_or vt i 0) (k.ua.word i) (k.va.word i) b

@@ -15,7 +15,8 @@ use lib.Bits.{bit_and, bit_or, bit_xor, and_mask, and_lt, or_lt, xor_lt, and_zer
 use lib.Pow.{pow-lt}
 use Rattle.trits.specs.Trit.{Trit, number, trit_of, put_v, one, two}
 use Rattle.trits.specs.Planes.{bit, trit, bit_at, trit_at, with_bit, Row, Reads}
-use Rattle.trits.proofs.Bits.{bit_and_law, bit_or_law, bit_xor_law, bit_lt, bit_none, bit_first, bit_next, from_bits_law, from_lt, bit_from, bits_eq, one_shifted}
+use Rattle.trits.proofs.Bits.{bit_and_law, bit_or_law, bit_xor_law, bit_lt, bit_none, bit_first}
+use Rattle.trits.proofs.Bits.{bit_next, from_bits_law, from_lt, bit_from, bits_eq, one_shifted}
 use Rattle.trits.proofs.Reading.{one_lt, two_lt, trit_of_law, and_one_two}
 
 -- ---- what is read
@@ -108,7 +109,8 @@ module _ (b w : ℕ) (hb : b < 64) (hw : w < 2 ^ 64) where
   unfolding with_bit
   with_off =
       ap (λ (x : ℕ). bit_xor w (bit_and w x)) (one_shifted b hb)
-      ∙ from_bits_law 64 (bit_xor w (bit_and w (2 ^ b))) _ (xor_lt 64 w (bit_and w (2 ^ b)) hw (and_lt 64 w (2 ^ b) hw (pow-lt hb))) (λ k. chosen_lt k b 0 w (lit< tt))
+      ∙ from_bits_law 64 (bit_xor w (bit_and w (2 ^ b))) _ (xor_lt 64 w (bit_and w (2 ^ b)) hw (and_lt 64 w (2 ^ b) hw (pow-lt hb))) (λ k.
+      chosen_lt k b 0 w (lit< tt))
       (λ k l. bit_xor_law k w (bit_and w (2 ^ b)) ∙ ap (bit_xor (bit k w)) (bit_and_law k w (2 ^ b)) ∙ at k (ℕ_discrete k b))
     where
       at : (k : ℕ) → Dec (k ≡ b) → bit_xor (bit k w) (bit_and (bit k w) (bit k (2 ^ b))) ≡ cond (eqb k b) 0 (bit k w)
@@ -180,7 +182,8 @@ read_put os ts i x j lo lt =
 
 -- the planes after a place was written can be read
 pub put_reads : {os ts : List ℕ} (i : ℕ) (x : Trit) → Row os ts → i < 64 * length os
-    → Reads (set os (i / 64) (with_bit (i % 64) (one x) (get_or os (i / 64) 0))) (set ts (i / 64) (with_bit (i % 64) (two x) (get_or ts (i / 64) 0))) (length os)
+    → Reads (set os (i / 64) (with_bit (i % 64) (one x) (get_or os (i / 64) 0))) (set ts (i / 64) (with_bit (i % 64) (two x) (get_or ts (i / 64) 0)))
+    (length os)
     (put_v (trit_at os ts) i x)
 put_reads {os} {ts} i x r lo =
     let lt : i < 64 * length ts = omega (arith, r.same) in

@@ -239,11 +239,13 @@ pub read_holds : (ones twos : List ℕ) (n : ℕ) → Row ones twos → length o
 unfolding ones_of twos_of
 read_holds ones twos n r l ho hw = record {
   ones_are = tabulated n _ ones l (λ j _. ones_word_law (trit_at ones twos) j (get_or ones j 0) (ho j) (λ b h. (coded_at ones twos r.apart j b h).0));
-  twos_are = tabulated n _ twos (r.same ∙ l) (λ j _. twos_word_law (trit_at ones twos) j (get_or twos j 0) (hw j) (λ b h. (coded_at ones twos r.apart j b h).1));
+  twos_are = tabulated n _ twos (r.same ∙ l) (λ j _.
+      twos_word_law (trit_at ones twos) j (get_or twos j 0) (hw j) (λ b h. (coded_at ones twos r.apart j b h).1));
 }
 
 -- planes that read as v are those of v
-pub reads_holds : (ones twos : List ℕ) (n : ℕ) (v : ℕ → Trit) → Reads ones twos n v → ((j : ℕ) → get_or ones j 0 < 2 ^ 64) → ((j : ℕ) → get_or twos j 0 < 2 ^ 64)
+pub reads_holds : (ones twos : List ℕ) (n : ℕ) (v : ℕ → Trit) → Reads ones twos n v → ((j : ℕ) → get_or ones j 0 < 2 ^ 64) →
+    ((j : ℕ) → get_or twos j 0 < 2 ^ 64)
     → Holds ones twos n v
 reads_holds ones twos n v r ho hw = subst (λ (f : ℕ → Trit). Holds ones twos n f) r.trits (read_holds ones twos n r.row r.size ho hw)
 

@@ -57,7 +57,8 @@ unfolding any_to
 any_some zero p e = absurd (true≢false (sym e))
 any_some (suc m) p e = go (any_to p m) (p m) refl refl e (any_some m p)
   where
-    go : (a b : Bool) → any_to p m ≡ a → p m ≡ b → (a || b) ≡ true → (any_to p m ≡ true → (i : ℕ) × (i < m) × (p i ≡ true)) → (i : ℕ) × (i < suc m) × (p i ≡ true)
+    go : (a b : Bool) → any_to p m ≡ a → p m ≡ b → (a || b) ≡ true → (any_to p m ≡ true → (i : ℕ) × (i < m) × (p i ≡ true)) → (i : ℕ) × (i < suc m)
+        × (p i ≡ true)
     go true b q r t f = let s = f q in (s.0, omega (arith, s.1), s.2)
     go false b q r t f = (m, le_refl (suc m), r ∙ t)
 

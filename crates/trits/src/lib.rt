@@ -1,8 +1,10 @@
 // Trits, vectors and rows in two planes by definitions and laws, and the refusals: the lowest layer.
+#![tactic(auto)]
+
 pub mod refusal; // the refusals and their numbers
 
 // How many places of a row hold 1, and how many hold 2.
-#[derive(Drop)]
+#[derive(Clone, Copy)]
 pub struct Counts {
     pub ones: u64,
     pub twos: u64,

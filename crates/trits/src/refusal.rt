@@ -3,7 +3,7 @@ ghost use Rattle.std.specs.Prelude.{◌≡◌};
 ghost use Rattle.trits.specs.Refusal.{number_of, code_of};
 
 // Why a call was turned back.
-#[derive(Drop)]
+#[derive(Clone, Copy)]
 pub enum Refusal {
     Size, // a size outside its range
     Length, // a length differs from what the sizes say
@@ -26,7 +26,7 @@ pub enum Refusal {
 }
 
 // What a call that answers nothing else comes to.
-#[derive(Drop)]
+#[derive(Clone, Copy)]
 pub enum Outcome {
     Done,
     Refused(Refusal),

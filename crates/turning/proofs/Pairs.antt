@@ -129,7 +129,8 @@ lower_of j t x h =
 -- a run's next pair
 pub exchange_turn : {j mask : ℕ} (t x : ℕ) {l₀ l : List ℕ} → Laws j mask → ExchangedPairs j (j * t) (j * t + x) l₀ l → length l₀ ≡ 64 → x < j → j * t + j ≤ 32
     → (k : ℕ) → k ≡ 2 * (j * t) + x
-    → ExchangedPairs j (j * t) (j * t + (x + 1)) l₀ (set (set l k (bit_xor (get_or l k 0) (differing j mask (get_or l k 0) (get_or l (k + j) 0) * 2 ^ j % 2 ^ 64)))
+    → ExchangedPairs j (j * t) (j * t
+    + (x + 1)) l₀ (set (set l k (bit_xor (get_or l k 0) (differing j mask (get_or l k 0) (get_or l (k + j) 0) * 2 ^ j % 2 ^ 64)))
     (k + j) (bit_xor (get_or l (k + j) 0) (differing j mask (get_or l k 0) (get_or l (k + j) 0))))
 exchange_turn {j} t x n p e h g k d =
     let u : k ≡ lower j (j * t + x) = d ∙ sym (lower_of j t x h) in
@@ -145,7 +146,8 @@ exchange_join {j} {mask} {m} {n} {l₀} {l} {l'} z x y o = record {
   rest = off;
 }
   where
-    by : (i q : ℕ) → i < 64 → q < 64 → pair_number j i < n → Dec (pair_number j i < m) → bit q (get_or l' i 0) ≡ bit (crossed j q i) (get_or l₀ (crossed j i q) 0)
+    by : (i q : ℕ) → i < 64 → q < 64 → pair_number j i < n → Dec (pair_number j i < m) → bit q (get_or l' i 0)
+        ≡ bit (crossed j q i) (get_or l₀ (crossed j i q) 0)
     by i q h g v (yes d) = ap (bit q) (y.rest i h (inl d)) ∙ x.bits i q h g (omega arith) d
     by i q h g v (no d) =
         y.bits i q h g (omega arith) v

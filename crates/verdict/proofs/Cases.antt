@@ -34,7 +34,8 @@ none_12 f =
     absurd (omega arith)
 
 pub cases : Cases
-unfolding dot_v sum_to tabulate digit_rows times_key full_word full_counts says_yes in_pairs changed_trits rows_of_m rows_of_r full_word_m full_word_in full_counts_in says_yes_in
+unfolding dot_v sum_to tabulate digit_rows times_key full_word full_counts says_yes in_pairs changed_trits rows_of_m rows_of_r full_word_m
+    full_word_in full_counts_in says_yes_in
     other_form
 cases = record {
   full_11 = refl;

@@ -13,7 +13,8 @@ use Rattle.trits.specs.declared.Counts.{Counts}
 use Rattle.trits.proofs.Arithmetic.{eq_t, every, at, law1, law2, law3}
 use Rattle.trits.proofs.Counting.{counts_same}
 use Rattle.verdict.specs.Verdict.{Key, times_key, full_word, full_counts, says_yes, Found}
-use Rattle.verdict.specs.Wavelet.{PairRule, in_pairs, changing, changed_trits, to_m, rows_of_m, to_r, rows_of_r, full_word_m, is_r, full_word_in, full_counts_in}
+use Rattle.verdict.specs.Wavelet.{PairRule, in_pairs, changing, changed_trits, to_m, rows_of_m}
+use Rattle.verdict.specs.Wavelet.{to_r, rows_of_r, full_word_m, is_r, full_word_in, full_counts_in}
 use Rattle.verdict.specs.Wavelet.{says_yes_in, other_form, other_rows, as_r}
 use Rattle.verdict.proofs.FullWord.{times_key_cong, counts_cong, verifier}
 
@@ -84,7 +85,8 @@ module _ (k : ℕ) (X : Key) (i j : ℕ) (l : i < k) where
   pub r_and_back : rows_of_m k (rows_of_r k X) i j ≡ X i j
   unfolding rows_of_r rows_of_m
   r_and_back =
-      pairs_back to_r to_m (law2 (λ a b. add_t (neg_t (add_t a b)) (sub_t b a)) (λ a b. a) tt) (law2 (λ a b. sub_t (neg_t (add_t a b)) (sub_t b a)) (λ a b. b) tt)
+      pairs_back to_r to_m (law2 (λ a b. add_t (neg_t (add_t a b)) (sub_t b a)) (λ a b. a) tt)
+      (law2 (λ a b. sub_t (neg_t (add_t a b)) (sub_t b a)) (λ a b. b) tt)
       (law1 (λ a. neg_t (neg_t a)) (λ a. a) tt) k (λ q. X q j) i l
 
 -- ---- s·R-transposed is the negative of the changed trits times M
@@ -126,7 +128,8 @@ module _ (k : ℕ) (s r : ℕ → Trit) where
   even_product (suc (suc i)) e l =
       law3 (λ x y z. add_t (add_t x y) z) (λ x y z. add_t x (add_t y z)) tt (dot_v t m i) (mul_t (t i) (m i)) (mul_t (t (suc i)) (m (suc i)))
       ∙ ap₂ add_t (even_product i (omega arith) (omega arith)) (two_products i (omega arith) (omega arith))
-      ∙ law3 (λ x y z. add_t (neg_t x) (neg_t (add_t y z))) (λ x y z. neg_t (add_t (add_t x y) z)) tt (dot_v s r i) (mul_t (s i) (r i)) (mul_t (s (suc i)) (r (suc i)))
+      ∙ law3 (λ x y z. add_t (neg_t x) (neg_t (add_t y z))) (λ x y z.
+      neg_t (add_t (add_t x y) z)) tt (dot_v s r i) (mul_t (s i) (r i)) (mul_t (s (suc i)) (r (suc i)))
 
 changed_dot : (k : ℕ) (s r : ℕ → Trit) → dot_v (in_pairs changing k s) (in_pairs to_m k r) k ≡ neg_t (dot_v s r k)
 unfolding dot_v

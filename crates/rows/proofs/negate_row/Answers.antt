@@ -1,0 +1,26 @@
+-- The planes of a row, exchanged, are those of its negative (`neg_op`), and a turn of the loop exchanges one word.
+-- Assumes nothing.
+use Prim.Native.Nat.{◌+◌}
+use mathlib.Core.Path.{◌≡◌, refl}
+use native.Mathlib.Omega.{arith}
+use Rattle.trits.proofs.Patches.{patch_none, patch_more, patch_here, rows_read}
+use Rattle.trits.proofs.WordOps.{neg_op}
+use Rattle.rows.proofs.negate_row.Goals as goal
+
+pub loop-i-init : goal.loop-i-init
+loop-i-init c =
+    (omega arith, patch_none _ _ _, patch_none _ _ _)
+
+pub loop-i-preserved : goal.loop-i-preserved
+loop-i-preserved c =
+    let l = c.loop-i in
+    let po = l.invariant.1 in
+    let pt = l.invariant.2 in
+    let z : l.i ≡ 0 + l.i = omega arith in
+    (omega arith, patch_more po l.i _ z (omega arith) (patch_here pt l.i z), patch_more pt l.i _ z (omega arith) (patch_here po l.i z))
+
+pub returns : goal.returns
+returns c =
+    let l = c.loop-i in
+    let p = c.requires in
+    rows_read neg_op refl p p refl l.invariant.1 l.invariant.2 (omega arith)

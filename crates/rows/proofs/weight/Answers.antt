@@ -1,0 +1,35 @@
+-- A turn adds the number of bits set in one word of either plane, which is the number of its places that are not 0 (`weight_turn`).
+-- Assumes nothing.
+use Prim.Native.Nat.{◌*◌}
+use mathlib.Core.Path.{◌≡◌}
+use native.Mathlib.Omega.{arith}
+use lib.ListN.{length}
+use Rattle.trits.specs.Planes.{trit_at}
+use Rattle.trits.specs.Trit.{sum_to}
+use Rattle.trits.proofs.Counting.{count_le, weight_turn, weight_le}
+use Rattle.rows.proofs.weight.Goals as goal
+
+pub loop-i-init : goal.loop-i-init
+unfolding sum_to
+loop-i-init c =
+    omega arith
+
+pub overflow_cast-sum : goal.overflow_cast-sum
+overflow_cast-sum c =
+    let i = c.loop-i.i in
+    omega (arith, count_le (c.shared_slice_known-1.given i) (c.shared_slice_known-in-loop-i-1.given i))
+
+pub overflow_add-sum : goal.overflow_add-sum
+overflow_add-sum c =
+    let b = count_le (c.shared_slice_known-1.given c.loop-i.i) (c.shared_slice_known-in-loop-i-1.given c.loop-i.i) in
+    omega (arith, b, weight_le (trit_at c.args.ones.now c.args.twos.now) (64 * c.loop-i.i))
+
+pub loop-i-preserved : goal.loop-i-preserved
+loop-i-preserved c =
+    let s = c.loop-i in
+    (omega arith, weight_turn _ _ s.i (c.shared_slice_known-1.given s.i) (c.shared_slice_known-in-loop-i-1.given s.i) s.sum s.invariant.1)
+
+pub returns : goal.returns
+returns c =
+    let e : c.loop-i.i ≡ length c.args.ones.now = omega arith in
+    rw (← e) c.loop-i.invariant.1

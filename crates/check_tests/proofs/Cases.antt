@@ -33,5 +33,6 @@ abbrev in_bytes : ℕ → ℕ → ℕ → ℕ → ℕ → ℕ → ℕ
 in_bytes o1 o2 t1 t2 y s = packed_contents whole (o1 ∷ o2 ∷ []) (t1 ∷ t2 ∷ []) (y ∷ []) (s ∷ [])
 
 packed_after_law : (in_bytes 4 1 0 1 243 243 ≡ 4) × (in_bytes 0 1 2 3 243 243 ≡ 3) × (in_bytes 0 0 2 3 243 9 ≡ 5) × (in_bytes 0 0 2 3 9 243 ≡ 15)
-unfolding packed_contents_under first planes_refusal rows_past_end row_part past_end both_set any_to bit_at bit packed_refusal bad_byte packed_past_end packed_row digit_of
+unfolding packed_contents_under first planes_refusal rows_past_end row_part past_end both_set any_to bit_at bit packed_refusal bad_byte
+    packed_past_end packed_row digit_of
 packed_after_law = (refl, refl, refl, refl)

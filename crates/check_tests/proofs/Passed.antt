@@ -18,14 +18,14 @@ use Rattle.check_tests.specs.Check.{call_refusal, call_refusal_under, planes_len
 use Rattle.check_tests.specs.Check.{packed_contents_under}
 use Rattle.held_key.specs.Steps.{Whole}
 
-pub record Called (h : Held) (number ones twos work_ones work_twos : ℕ) : Type 0 where
+pub record Called (h : Held) (number ones twos wo wt : ℕ) : Type 0 where
   pub is_sound : sound h ≡ true
   pub all_rows : h.rows ≡ h.k
   pub named : number ≡ h.number
   pub ones_are : ones ≡ key_words h
   pub twos_are : twos ≡ key_words h
-  pub work_ones : work_ones ≡ row_words h
-  pub work_twos : work_twos ≡ row_words h
+  pub work_ones : wo ≡ row_words h
+  pub work_twos : wt ≡ row_words h
 
 pub called : (h : Held) (number ones twos work_ones work_twos : ℕ) → call_refusal h number ones twos work_ones work_twos ≡ 0
     → Called h number ones twos work_ones work_twos
@@ -53,11 +53,11 @@ pub whole : {h : Held} {number : ℕ} {ones twos : List ℕ} {wo wt : ℕ} → C
 whole p = record { is_sound = p.is_sound; all_rows = p.all_rows; ones_size = p.ones_are; twos_size = p.twos_are }
 
 -- y and s in planes have their lengths
-pub record Fitted (h : Held) (y_ones y_twos s_ones s_twos : ℕ) : Type 0 where
-  pub y_ones : y_ones ≡ row_words h
-  pub y_twos : y_twos ≡ row_words h
-  pub s_ones : s_ones ≡ words_for h.k
-  pub s_twos : s_twos ≡ words_for h.k
+pub record Fitted (h : Held) (yo yt so st : ℕ) : Type 0 where
+  pub y_ones : yo ≡ row_words h
+  pub y_twos : yt ≡ row_words h
+  pub s_ones : so ≡ words_for h.k
+  pub s_twos : st ≡ words_for h.k
 
 pub fitted : (h : Held) (y_ones y_twos s_ones s_twos : ℕ) → planes_lengths h y_ones y_twos s_ones s_twos ≡ 0 → Fitted h y_ones y_twos s_ones s_twos
 unfolding planes_lengths

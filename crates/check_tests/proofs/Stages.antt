@@ -65,7 +65,8 @@ module _ {old new : ℕ} {there : Bool} (h : FourForThree ℕ 3 4 old new there)
           let k : ◌≡◌ {A = ℕ} 3 4 = sym (ap number e) ∙ (ap (λ (c : Checked). c.refusal) g ∙ ap number f) in
           omega arith
 
-pub check_four_for_three : (c : Check) → AnswersFourForThree (check_answer_under most_key_number both_first c) (check_answer c) (first_has_both (check_stages c))
+pub check_four_for_three : (c : Check) →
+    AnswersFourForThree (check_answer_under most_key_number both_first c) (check_answer c) (first_has_both (check_stages c))
 unfolding check_answer_under
 check_four_for_three c =
     answered_four_for_three
@@ -77,5 +78,6 @@ pub check_packed_four_for_three : (c : PackedCheck)
 unfolding check_packed_answer_under
 check_packed_four_for_three c =
     answered_four_for_three
-    (stages_four_for_three (λ (test : PlanesTest). check_packed_refusal_under most_key_number test c) (check_packed_stages c) (λ test. check_packed_stages_law test c))
+    (stages_four_for_three (λ (test : PlanesTest). check_packed_refusal_under most_key_number test c) (check_packed_stages c) (λ test.
+    check_packed_stages_law test c))
     (check_packed_counts c) c.held.w

@@ -1,4 +1,6 @@
 // A check's tests in the paper's order, and its answer.
+#![tactic(auto)]
+
 ghost use Rattle.std.specs.Prelude.{◌≡◌, true, ◌≤◌, length};
 ghost use Rattle.trits.specs.Trit.{sum_of};
 ghost use Rattle.trits.specs.Refusal.{code_of, planes_refusal};
@@ -12,7 +14,7 @@ use trits::Counts;
 use trits::refusal::{Outcome, Refusal};
 
 // What a check answers: the ones and twos of the full word, or the refusal.
-#[derive(Drop)]
+#[derive(Clone, Copy)]
 pub enum Verdict {
     Yes(Counts),
     No(Counts),
@@ -21,7 +23,7 @@ pub enum Verdict {
 
 // The same in numbers.
 #[repr(C)]
-#[derive(Drop)]
+#[derive(Clone, Copy)]
 pub struct Checked {
     pub refusal: u64, // its number, or 0
     pub yes: u64, // 1 for yes, 0 for all else

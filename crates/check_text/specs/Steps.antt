@@ -16,10 +16,10 @@ tested_refusal h number ones twos salt s work_ones work_twos =
     (text_contents h ones twos s))
 
 -- a whole key and packed s that were tested, a salt and a text, and working space
-pub record ForJudgeText (held : Held) (ones twos salt text s work_ones work_twos : List ℕ) : Type 0 where
+pub record ForJudgeText (held : Held) (ones twos salt text s wo wt : List ℕ) : Type 0 where
   pub whole : Whole held ones twos
   pub lengths : text_lengths held (length salt) (length s) ≡ 0
   pub contents : text_contents held ones twos s ≡ 0
   pub message : ForMessage salt text
-  pub work_ones : length work_ones ≡ row_words held
-  pub work_twos : length work_twos ≡ row_words held
+  pub work_ones : length wo ≡ row_words held
+  pub work_twos : length wt ≡ row_words held

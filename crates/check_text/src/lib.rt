@@ -1,4 +1,6 @@
 // The check of a salt and a text under a held key.
+#![tactic(auto)]
+
 ghost use Rattle.std.specs.Prelude.{◌≡◌, true, length};
 ghost use Rattle.trits.specs.Refusal.{code_of};
 ghost use Rattle.packed.specs.Packed.{bytes_for, packed_row};

@@ -1,7 +1,7 @@
 -- y - s·R-transposed, one row after the other, and the ones and twos of the full word. Assumes nothing.
 use mathlib.Core.Path.{◌≡◌, refl, sym, ap, ap₂, ◌∙◌, fun_ext}
 use mathlib.Core.List.{List}
-use Prim.Native.Nat.{ℕ, ◌+◌, ◌-◌, ◌≤◌, ◌<◌}
+use Prim.Native.Nat.{ℕ, ◌+◌, ◌≤◌, ◌<◌}
 use native.Mathlib.Numerals.{add-one}
 use native.Mathlib.Omega.{arith}
 use Rattle.trits.specs.Trit.{Trit, t0, t2, add_t, sub_t, mul_t, zip_v, dot_v, one, two, sum_to, counts_v, trit_of}

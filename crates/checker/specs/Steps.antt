@@ -26,12 +26,12 @@ abbrev pub more_counts : Counts → Trit → Counts
 more_counts c x = record { ones = c.ones + one x; twos = c.twos + two x }
 
 -- a whole key, the word under work, and s in planes
-pub record ForTakeRows (held : Held) (ones twos s_ones s_twos work_ones work_twos : List ℕ) : Type 0 where
+pub record ForTakeRows (held : Held) (ones twos s_ones st work_ones work_twos : List ℕ) : Type 0 where
   pub whole : Whole held ones twos
   pub readable : Row ones twos
   pub work : Work held work_ones work_twos
   pub s_trits : held.k ≤ 64 * length s_ones
-  pub s_twos : length s_twos ≡ length s_ones
+  pub s_twos : length st ≡ length s_ones
 
 -- a whole key, the word under work, packed s that was tested, and the byte table
 pub record ForTakeByTable (held : Held) (ones twos s work_ones work_twos table : List ℕ) : Type 0 where
@@ -51,12 +51,12 @@ pub record ForTakePackedRows (held : Held) (ones twos s work_ones work_twos : Li
   pub s_tested : packed_refusal held.k s ≡ 0
 
 -- a whole key, y and s in planes that were tested, and working space
-pub record ForWeigh (held : Held) (ones twos y_ones y_twos s_ones s_twos work_ones work_twos : List ℕ) : Type 0 where
+pub record ForWeigh (held : Held) (ones twos y_ones y_twos s_ones s_twos wo wt : List ℕ) : Type 0 where
   pub whole : Whole held ones twos
   pub lengths : planes_lengths held (length y_ones) (length y_twos) (length s_ones) (length s_twos) ≡ 0
   pub contents : planes_contents held ones twos y_ones y_twos s_ones s_twos ≡ 0
-  pub work_ones : length work_ones ≡ row_words held
-  pub work_twos : length work_twos ≡ row_words held
+  pub work_ones : length wo ≡ row_words held
+  pub work_twos : length wt ≡ row_words held
 
 -- a whole key that was tested, packed s that was tested, and y in the working space, 0 past its length
 pub record ForWeighMade (held : Held) (ones twos s work_ones work_twos : List ℕ) : Type 0 where
@@ -68,9 +68,9 @@ pub record ForWeighMade (held : Held) (ones twos s work_ones work_twos : List �
   pub ended : (q : ℕ) → row_trits held ≤ q → trit_at work_ones work_twos q ≡ t0
 
 -- a whole key, packed y and s that were tested, and working space
-pub record ForWeighPacked (held : Held) (ones twos y s work_ones work_twos : List ℕ) : Type 0 where
+pub record ForWeighPacked (held : Held) (ones twos y s wo wt : List ℕ) : Type 0 where
   pub whole : Whole held ones twos
   pub lengths : packed_lengths held (length y) (length s) ≡ 0
   pub contents : packed_contents held ones twos y s ≡ 0
-  pub work_ones : length work_ones ≡ row_words held
-  pub work_twos : length work_twos ≡ row_words held
+  pub work_ones : length wo ≡ row_words held
+  pub work_twos : length wt ≡ row_words held

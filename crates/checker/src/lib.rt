@@ -1,4 +1,6 @@
 // The check under a held key.
+#![tactic(auto)]
+
 pub mod weighing; // the ones and twos of the full word
 
 ghost use Rattle.std.specs.Prelude.{◌≡◌};

@@ -1,4 +1,6 @@
 // The held key of the module's half: its state, its beginning and its rows.
+#![tactic(auto)]
+
 pub mod state; // the state and its sizes
 pub mod key; // the rows of the held key
 
@@ -11,7 +13,7 @@ use state::Held;
 use trits::refusal::{Outcome, Refusal};
 
 // What a beginning or a row comes to, and the state after it.
-#[derive(Drop)]
+#[derive(Clone, Copy)]
 pub struct Stored {
     pub outcome: Outcome,
     pub held: Held,

@@ -4,7 +4,7 @@ ghost use Rattle.held_key.specs.Held.{numbers_fit, sound, row_trits, row_words, 
 
 // The state: begun is 0 or 1, and all zero is no key begun.
 #[repr(C)]
-#[derive(Drop)]
+#[derive(Clone, Copy)]
 pub struct Held {
     pub begun: u64,
     pub number: u64,

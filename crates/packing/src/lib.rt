@@ -1,4 +1,6 @@
 // Trits packed five to a byte, and trits of a byte stream: the calls.
+#![tactic(auto)]
+
 pub mod table; // the five trits of each byte
 pub mod faults; // the tests for 5, 15 and 6
 pub mod read; // bytes made from a row

@@ -1,4 +1,6 @@
 // The syndrome of a salt and a text.
+#![tactic(auto)]
+
 pub mod reading; // trits read from the output of a state
 
 ghost use Rattle.std.specs.Prelude.{◌≡◌};

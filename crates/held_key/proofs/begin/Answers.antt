@@ -1,0 +1,23 @@
+-- The sizes decide: the new key, or the state as it was.
+-- Assumes nothing.
+use mathlib.Core.Path.{sym, ◌∙◌}
+use Rattle.held_key.specs.Store.{begin_refusal_under, begun_held, begin_held}
+use Rattle.held_key.proofs.begin.Goals as goal
+
+pub returns-then-numbers_fit : goal.returns-then-numbers_fit
+unfolding begin_held begin_refusal_under begun_held
+returns-then-numbers_fit c =
+    let e = sym c.numbers_fit.ensures ∙ c.if-numbers_fit.true in
+    record {
+      outcome_value = rw e;
+      held_value = rw e;
+    }
+
+pub returns : goal.returns
+unfolding begin_held begin_refusal_under begun_held
+returns c =
+    let e = sym c.numbers_fit.ensures ∙ c.if-numbers_fit.false in
+    record {
+      outcome_value = rw e;
+      held_value = rw e;
+    }

@@ -58,7 +58,7 @@ pub fn clear_below(
     while at < r {
         let k = pivoting::pivot::least(12, r - at);
         left = take_pivots(ones, twos, rows, w, r, at, order, left);
-        blocks::rows::clear_block(ones, twos, rows, w, at / 64, w, r, k, at, at + k, r);
+        blocks::block_rows::clear_block(ones, twos, rows, w, at / 64, w, r, k, at, at + k, r);
         at += k;
     }
 }

@@ -26,7 +26,8 @@ less_next : (k c j : ℕ) (b : Matrix) → UnitAt k (from c) b → j < k → (v 
 unfolding dot_v
 less_next k c j b u h v t =
     ap (λ (x : Trit). sub_t (less_of j (from c) b v t) (mul_t x (b j t))) same
-    ∙ law4 (λ a s x y. sub_t (sub_t a s) (mul_t x y)) (λ a s x y. sub_t a (add_t s (mul_t x y))) tt (v t) (dot_v (λ l. v (c + l)) (λ l. b l t) j) (v (c + j)) (b j t)
+    ∙ law4 (λ a s x y. sub_t (sub_t a s) (mul_t x y)) (λ a s x y.
+    sub_t a (add_t s (mul_t x y))) tt (v t) (dot_v (λ l. v (c + l)) (λ l. b l t) j) (v (c + j)) (b j t)
   where
     none : (l : ℕ) → l < j → b l (c + j) ≡ t0
     none l g = u l j (omega arith) h ∙ put_other zeros j t1 l (λ z. omega arith)

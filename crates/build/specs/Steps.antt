@@ -10,11 +10,13 @@ use Rattle.calls.specs.Steps.{SecretLengths, Readable}
 -- sizes that fit, and the lengths of the secret and of the starting order
 pub record ForTestContentsBuild (z : Sizes) (hu_ones hu_twos hv_ones hv_twos b_ones b_twos c_ones c_twos start : List ℕ) : Type 0 where
   pub sizes : sizes_fit z ≡ true
-  pub secret : SecretLengths z (length hu_ones) (length hu_twos) (length hv_ones) (length hv_twos) (length b_ones) (length b_twos) (length c_ones) (length c_twos)
+  pub secret : SecretLengths z (length hu_ones) (length hu_twos) (length hv_ones) (length hv_twos) (length b_ones) (length b_twos) (length c_ones)
+      (length c_twos)
   pub start_size : length start ≡ places z
 
 -- sizes that fit, a secret that was tested, an order, and all that the key is written to
-pub record ForFinishBuild (z : Sizes) (hu_ones hu_twos hv_ones hv_twos b_ones b_twos c_ones c_twos start p key_ones key_twos work_ones work_twos : List ℕ) : Type 0 where
+pub record ForFinishBuild (z : Sizes) (hu_ones hu_twos hv_ones hv_twos b_ones b_twos c_ones c_twos start p key_ones key_twos work_ones work_twos : List ℕ) :
+    Type 0 where
   pub sizes : sizes_fit z ≡ true
   pub secret : Readable z (planes hu_ones hu_twos hv_ones hv_twos b_ones b_twos c_ones c_twos)
   pub is_order : Order (places z) start

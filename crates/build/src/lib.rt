@@ -1,4 +1,6 @@
 // The build of a key: the call, and its tests.
+#![tactic(auto)]
+
 pub mod tests; // lengths and contents
 pub mod finish; // ranks, key, working space
 

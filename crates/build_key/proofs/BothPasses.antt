@@ -34,7 +34,8 @@ use Rattle.build_key.specs.Steps.{FirstPass, Keyed}
 -- ---- the columns gathered in the order stand for the places
 
 pub gathered_placed : (r half hw w : ℕ) (o t order : List ℕ) {A B : Matrix}
-    → Front r (columns_by (λ j. col_of half hw (get_or order j 0)) (length order) (matrix_at w o t)) A B → InOrder r (length order) B (placed_at half hw w o t) order
+    → Front r (columns_by (λ j. col_of half hw (get_or order j 0)) (length order) (matrix_at w o t)) A B →
+    InOrder r (length order) B (placed_at half hw w o t) order
 unfolding placed_at
 gathered_placed r half hw w o t order f i j h l = ap (λ (v : Vector). v j) (f.front i h) ∙ rw (lt-ltb j (length order) l)
 
@@ -44,7 +45,8 @@ module _ (r n : ℕ) (order : List ℕ) (fits : r ≤ n) (size : length order �
   above_placed : (c : ℕ) (X Y : Matrix) → c < r → InOrder r n X Y order
       → InOrder r n (take_above c (get_or (range r) c 0) X) (take_above c (get_or (take r order) c 0) Y) order
   above_placed c X Y h z i t l m =
-      ap (λ (q : ℕ). take_above c q X i t) (range_at r c h) ∙ by (ltb i c) ∙ ap (λ (q : ℕ). take_above c q Y i (get_or order t 0)) (sym (get_or-take r order c 0 h))
+      ap (λ (q : ℕ). take_above c q X i t) (range_at r c h) ∙ by (ltb i c)
+      ∙ ap (λ (q : ℕ). take_above c q Y i (get_or order t 0)) (sym (get_or-take r order c 0 h))
     where
       by : (b : Bool) → cond b (sub_t (X i t) (mul_t (X i c) (X c t))) (X i t)
           ≡ cond b (sub_t (Y i (get_or order t 0)) (mul_t (Y i (get_or order c 0)) (Y c (get_or order t 0)))) (Y i (get_or order t 0))

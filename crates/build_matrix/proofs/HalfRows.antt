@@ -49,7 +49,8 @@ module _ {ho ht o t o₂ t₂ : List ℕ} {n : ℕ} (v : Vector) (e : o ≡ ho) 
   scaled_done c d s = record {
     row = s.row;
     size = s.size ∙ d.size ∙ m.size ∙ ap length e ∙ l;
-    trits = s.trits ∙ ap (λ (u : Vector). zip_v add_t u (trit_at ho ht)) (d.trits ∙ ap (λ (u : Vector). zip_v mul_t u c) times) ∙ scaled_trits (trit_at ho ht) v c;
+    trits = s.trits ∙ ap (λ (u : Vector). zip_v add_t u (trit_at ho ht)) (d.trits ∙ ap (λ (u : Vector). zip_v mul_t u c) times)
+        ∙ scaled_trits (trit_at ho ht) v c;
   }
 
 -- ---- row after row

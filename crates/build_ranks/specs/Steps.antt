@@ -26,41 +26,41 @@ pub record ForCopyFront (plane : List ℕ) (w rows v : ℕ) (work : List ℕ) : 
   pub room : rows * v ≤ length work
 
 -- a grid, the first v words of its rows, in which its first n columns stand, and working space for these words and for tables
-pub record ForRankIn (ones twos : List ℕ) (rows w v n : ℕ) (work_ones work_twos : List ℕ) : Type 0 where
+pub record ForRankIn (ones twos : List ℕ) (rows w v n : ℕ) (ones_work twos_work : List ℕ) : Type 0 where
   pub grid : Rows ones twos rows w
-  pub small : length work_ones ≤ 4294967296
+  pub small : length ones_work ≤ 4294967296
   pub narrow : v ≤ 65536
   pub some : 0 < v
   pub width : v ≤ w
   pub columns : n ≤ 64 * v
-  pub work_ones : length work_ones ≡ (rows + 243) * v
-  pub work_twos : length work_twos ≡ (rows + 243) * v
+  pub work_ones : length ones_work ≡ (rows + 243) * v
+  pub work_twos : length twos_work ≡ (rows + 243) * v
 
 -- a grid, the first v words of its rows, in which its first n columns stand, and working space that is large enough
-pub record ForFrontRank (ones twos : List ℕ) (rows w v n : ℕ) (work_ones work_twos : List ℕ) : Type 0 where
+pub record ForFrontRank (ones twos : List ℕ) (rows w v n : ℕ) (ones_work twos_work : List ℕ) : Type 0 where
   pub grid : Rows ones twos rows w
   pub small : (rows + 243) * v ≤ 4294967296
   pub narrow : v ≤ 65536
   pub some : 0 < v
   pub width : v ≤ w
   pub columns : n ≤ 64 * v
-  pub work_ones : (rows + 243) * v ≤ length work_ones
-  pub work_twos : (rows + 243) * v ≤ length work_twos
+  pub work_ones : (rows + 243) * v ≤ length ones_work
+  pub work_twos : (rows + 243) * v ≤ length twos_work
 
 -- a grid, and working space that is large enough
-pub record ForRankOf (ones twos : List ℕ) (rows w n : ℕ) (work_ones work_twos : List ℕ) : Type 0 where
+pub record ForRankOf (ones twos : List ℕ) (rows w n : ℕ) (ones_work twos_work : List ℕ) : Type 0 where
   pub grid : Rows ones twos rows w
   pub small : (rows + 243) * w ≤ 4294967296
   pub narrow : w ≤ 65536
   pub some : 0 < w
   pub columns : n ≤ 64 * w
-  pub work_ones : (rows + 243) * w ≤ length work_ones
-  pub work_twos : (rows + 243) * w ≤ length work_twos
+  pub work_ones : (rows + 243) * w ≤ length ones_work
+  pub work_twos : (rows + 243) * w ≤ length twos_work
 
 -- sizes that fit, H_U and H_V, and working space
-pub record ForTestRanks (z : Sizes) (hu_ones hu_twos hv_ones hv_twos work_ones work_twos : List ℕ) : Type 0 where
+pub record ForTestRanks (z : Sizes) (hu_ones hu_twos hv_ones hv_twos ones_work twos_work : List ℕ) : Type 0 where
   pub sizes : sizes_fit z ≡ true
   pub hu_grid : Rows hu_ones hu_twos (ru z) (half_words z)
   pub hv_grid : Rows hv_ones hv_twos (rv z) (half_words z)
-  pub work_ones : length work_ones ≡ build_work_words z
-  pub work_twos : length work_twos ≡ build_work_words z
+  pub work_ones : length ones_work ≡ build_work_words z
+  pub work_twos : length twos_work ≡ build_work_words z

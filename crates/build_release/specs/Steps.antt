@@ -39,18 +39,20 @@ pub record ForMakeKey (ones twos : List ℕ) (r w half hw : ℕ) (order : List �
   pub twos_size : length kt ≡ k * kw
 
 -- sizes that fit, a secret that was tested, and working space
-pub record ForFillMatrix (z : Sizes) (hu_ones hu_twos hv_ones hv_twos b_ones b_twos c_ones c_twos work_ones work_twos : List ℕ) : Type 0 where
+pub record ForFillMatrix (z : Sizes) (hu_ones hu_twos hv_ones hv_twos b_ones b_twos c_ones c_twos ones_work twos_work : List ℕ) : Type 0 where
   pub sizes : sizes_fit z ≡ true
   pub secret : Readable z (planes hu_ones hu_twos hv_ones hv_twos b_ones b_twos c_ones c_twos)
-  pub work_ones : length work_ones ≡ build_work_words z
-  pub work_twos : length work_twos ≡ build_work_words z
+  pub work_ones : length ones_work ≡ build_work_words z
+  pub work_twos : length twos_work ≡ build_work_words z
 
 -- sizes that fit, a secret that was tested and has full rank, an order, and all that the key is written to
-pub record ForRelease (z : Sizes) (hu_ones hu_twos hv_ones hv_twos b_ones b_twos c_ones c_twos start p key_ones key_twos work_ones work_twos : List ℕ) : Type 0 where
+pub record ForRelease (z : Sizes) (hu_ones hu_twos hv_ones hv_twos b_ones b_twos c_ones c_twos start p key_ones key_twos work_ones work_twos : List ℕ) :
+    Type 0 where
   pub sizes : sizes_fit z ≡ true
   pub secret : Readable z (planes hu_ones hu_twos hv_ones hv_twos b_ones b_twos c_ones c_twos)
   pub is_order : Order (places z) start
-  pub rank_full : rank (codim z) (places z) (secret_matrix z (secret_of z (planes hu_ones hu_twos hv_ones hv_twos b_ones b_twos c_ones c_twos))) (range (places z)) ≡
+  pub rank_full : rank (codim z) (places z) (secret_matrix z (secret_of z (planes hu_ones hu_twos hv_ones hv_twos b_ones b_twos c_ones c_twos)))
+      (range (places z)) ≡
       codim z
   pub p_size : length p ≡ places z
   pub key_ones_size : length key_ones ≡ dim z * key_row_words z

@@ -61,6 +61,7 @@ draw_as_before o i = same_draw gaps_fit (one_gap_fits o.g) (in_both o) (both_fit
 
 pub build_any_gaps : (z : Sizes) (gv gu w : ℕ) (i : BuildCall) → sizes_fit z ≡ true → sizes_fit (sized z gv gu w) ≡ true
     → build_now (sized z gv gu w) i ≡ build_now z i
-unfolding build_answer_under build_lengths_differ key_differs secret_differs secret_refusal_under build_refusal secret_matrix order_exit_under key_exit_under key_ones_of
+unfolding build_answer_under build_lengths_differ key_differs secret_differs secret_refusal_under build_refusal secret_matrix order_exit_under
+    key_exit_under key_ones_of
     key_twos_of build_work_exit_under
 build_any_gaps z gv gu w i h k = rw (h, k)

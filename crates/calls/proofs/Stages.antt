@@ -70,8 +70,10 @@ module _ (test : PlanesTest) where
 
 pub build_four_for_three : (z : Sizes) (i : BuildCall)
     → FourForThree ℕ 3 4 (build_answer_under gaps_fit both_first z i) (build_answer z i) (first_has_both (build_stages z i))
-build_four_for_three z i = stages_four_for_three (λ (test : PlanesTest). build_answer_under gaps_fit test z i) (build_stages z i) (λ test. build_stages_here test z i)
+build_four_for_three z i =
+    stages_four_for_three (λ (test : PlanesTest). build_answer_under gaps_fit test z i) (build_stages z i) (λ test. build_stages_here test z i)
 
 pub draw_four_for_three : (z : Sizes) (i : DrawCall)
     → FourForThree ℕ 3 4 (draw_answer_under gaps_fit both_first z i) (draw_answer z i) (first_has_both (draw_stages z i))
-draw_four_for_three z i = stages_four_for_three (λ (test : PlanesTest). draw_answer_under gaps_fit test z i) (draw_stages z i) (λ test. draw_stages_here test z i)
+draw_four_for_three z i =
+    stages_four_for_three (λ (test : PlanesTest). draw_answer_under gaps_fit test z i) (draw_stages z i) (λ test. draw_stages_here test z i)

@@ -1,4 +1,6 @@
 // The two calls of the editor's half: what they are lent and answer, by definitions, and the tests that both make.
+#![tactic(auto)]
+
 pub mod order; // the test of an order
 pub mod tests; // the lengths and the contents of a secret
 pub mod work; // the working space

@@ -1,4 +1,6 @@
 // One draw: the call.
+#![tactic(auto)]
+
 ghost use Rattle.std.specs.Prelude.{◌≡◌};
 ghost use Rattle.trits.specs.Planes.{pair_of};
 ghost use Rattle.trits.specs.Refusal.{code_of};

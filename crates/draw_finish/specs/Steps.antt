@@ -8,7 +8,8 @@ use Rattle.calls.specs.DrawCall.{draw_work_words}
 use Rattle.draw_tests.specs.Steps.{given, Ready}
 
 -- sizes that fit, all that a draw is given, tested, and all that is written to
-pub record ForFinishDraw (z : Sizes) (hu_ones hu_twos hv_ones hv_twos b_ones b_twos c_ones c_twos p y_ones y_twos v_order v_ones v_twos u_order u_ones u_twos word_ones word_twos
+pub record ForFinishDraw (z : Sizes)
+    (hu_ones hu_twos hv_ones hv_twos b_ones b_twos c_ones c_twos p y_ones y_twos v_order v_ones v_twos u_order u_ones u_twos word_ones word_twos
     s_ones s_twos work_ones work_twos : List ℕ) : Type 0 where
   pub sizes : sizes_fit z ≡ true
   pub ready : Ready z (given (planes hu_ones hu_twos hv_ones hv_twos b_ones b_twos c_ones c_twos) p y_ones y_twos v_order v_ones v_twos u_order u_ones u_twos)

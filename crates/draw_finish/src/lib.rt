@@ -1,4 +1,6 @@
 // The end of a draw whose tests have passed: the word is made and released, and the working space made 0.
+#![tactic(auto)]
+
 ghost use Rattle.std.specs.Prelude.{◌≡◌, length};
 ghost use Rattle.trits.specs.Trit.{up_to};
 ghost use Rattle.trits.specs.Planes.{words_for, ones_of, twos_of, zero_words};

@@ -77,7 +77,8 @@ unfolding backed
 same_rows n A B ps zero u e = refl
 same_rows n A B ps (suc c) u e =
     same_rows n A B ps c (put_v u (pivot_place A ps c) (sub_t (u (pivot_place A ps c)) (times n A u c))) (λ i h. e i (omega arith))
-    ∙ ap (λ (v : Vector). backed n B (pivot_place B ps) c (put_v u (first_set v (drop c ps)) (sub_t (u (first_set v (drop c ps))) (dot_v v u n)))) (e c (omega arith))
+    ∙ ap (λ (v : Vector). backed n B (pivot_place B ps) c (put_v u (first_set v (drop c ps)) (sub_t (u (first_set v (drop c ps))) (dot_v v u n))))
+    (e c (omega arith))
 
 -- the five matrices, one after another
 module _ (M : Matrix) (N r : ℕ) (order : List ℕ) (m : ℕ) (v : Vector) (x t e : ℕ) (rt : r ≤ t) (xe : x ≡ e → ⊥) (te : t ≡ e → ⊥)
@@ -245,7 +246,8 @@ module _ (r : ℕ) (H A : Matrix) (order : List ℕ) (o : Order (length order) o
     unmarked : (j : ℕ) → (j ≡ m → ⊥) → start j ≡ firsts_of r B order m v (A x) zeros j
     unmarked j f = by (ltb m (length order))
       where
-        by : (b : Bool) → cond b (put_v (firsts_of r B order m v (A x) zeros) m t1) (firsts_of r B order m v (A x) zeros) j ≡ firsts_of r B order m v (A x) zeros j
+        by : (b : Bool) → cond b (put_v (firsts_of r B order m v (A x) zeros) m t1) (firsts_of r B order m v (A x) zeros) j
+            ≡ firsts_of r B order m v (A x) zeros j
         by true = put_other (firsts_of r B order m v (A x) zeros) m t1 j f
         by false = refl
 
@@ -265,7 +267,8 @@ module _ (r : ℕ) (H A : Matrix) (order : List ℕ) (o : Order (length order) o
           ∙ ap (sub_t (A x (at j))) (sym (first_supplied j h));
       last = λ j h l. ap (sub_t (A x (at j))) (fill_off (without (pivots r (length order) H (take m order)) (take m order)) v (A e) (at j) (not_first j h l))
           ∙ sym (last_value j h l);
-      one = λ h. ap (λ (b : Bool). cond b (put_v (firsts_of r B order m v (A x) zeros) m t1) (firsts_of r B order m v (A x) zeros) m) (lt-ltb m (length order) h)
+      one = λ h. ap (λ (b : Bool).
+          cond b (put_v (firsts_of r B order m v (A x) zeros) m t1) (firsts_of r B order m v (A x) zeros) m) (lt-ltb m (length order) h)
           ∙ put_same (firsts_of r B order m v (A x) zeros) m t1;
       rest = λ j h l. rest j h l (dec_lt m (length order));
       past = λ q h. ap₂ sub_t (ends.past q h) (fill_off (without (pivots r (length order) H (take m order)) (take m order)) v (A e) q (past_out q h)

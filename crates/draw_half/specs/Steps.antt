@@ -1,4 +1,5 @@
--- One half of a draw with its own numbers ("One draw"): r rows of H, n places, a gap g. The laws say that these words are `draw_v` and `draw_u`. Assumes nothing.
+-- One half of a draw with its own numbers ("One draw"): r rows of H, n places, a gap g. The laws say that these words are `draw_v` and `draw_u`. Assumes
+-- nothing.
 use Rattle.std.specs.Prelude.{◌≡◌, Bool, true, false, cond, List, ◌⊎◌, ◌≢◌, ℕ, ◌+◌, ◌-◌, ◌*◌, ◌≤◌, ◌<◌, ltb, get_or, take, drop, length}
 use Rattle.trits.specs.Trit.{t0, t1, sub_t, put_v, zip_v}
 use Rattle.trits.specs.Planes.{Row}

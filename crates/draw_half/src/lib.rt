@@ -1,3 +1,5 @@
 // One half of a draw.
+#![tactic(auto)]
+
 pub mod first; // the first part, gathered and lowered
 pub mod halves; // V and U

@@ -53,7 +53,8 @@ module _ (z : Sizes) (s : Secret) (x : Vector) where
       by : (q : ℕ) → Dec (q < half z) → sub_t (X q) (mul_t (up_to (half z) (v_of z s x) q) (s.b q)) ≡ up_to (half z) (u_of z s x) q
       by q (yes h) =
           ap₂ (λ (a b : Trit). sub_t a (mul_t b (s.b q))) (upto_in x (half z) q h) (upto_in (v_of z s x) (half z) q h)
-          ∙ law4 (λ l r b c. sub_t l (mul_t (sub_t r (mul_t c l)) b)) (λ l r b c. sub_t (mul_t (add_t t1 (mul_t b c)) l) (mul_t b r)) tt (x q) (x (half z + q)) (s.b q)
+          ∙ law4 (λ l r b c. sub_t l (mul_t (sub_t r (mul_t c l)) b)) (λ l r b c.
+          sub_t (mul_t (add_t t1 (mul_t b c)) l) (mul_t b r)) tt (x q) (x (half z + q)) (s.b q)
           (s.c q)
           ∙ sym (upto_in (u_of z s x) (half z) q h)
       by q (no f) =

@@ -84,7 +84,8 @@ module _ (l N q : ℕ) (x : Vector) (y : Trit) (A : Matrix) where
   low : q < N → put_row l (put_v (B l) q y) B ≡ placed_rows l N (put_v x q y) A
   low h =
       rows_alike l (l + 1) (put_row l (put_v (B l) q y) B) (placed_rows l N (put_v x q y) A)
-      (put_here l (put_v (B l) q y) B l refl ∙ ap (λ (v : Vector). put_v v q y) (placed_left l N x A) ∙ put_upto N q x y h ∙ sym (placed_left l N (put_v x q y) A))
+      (put_here l (put_v (B l) q y) B l refl ∙ ap (λ (v : Vector). put_v v q y) (placed_left l N x A) ∙ put_upto N q x y h
+      ∙ sym (placed_left l N (put_v x q y) A))
       (put_else l (put_v (B l) q y) B (l + 1) (λ z. omega arith) ∙ placed_right l N x A
       ∙ upto_same N (λ j. x (N + j)) (λ j. put_v x q y (N + j)) (λ j i. sym (put_other x q y (N + j) (λ z. omega arith)))
       ∙ sym (placed_right l N (put_v x q y) A))
@@ -109,7 +110,8 @@ module _ (l N q : ℕ) (x : Vector) (y : Trit) (A : Matrix) where
   unfolding put_place
   place_more h = by (dec_lt q N)
     where
-      by : Dec (q < N) → cond (lib.Dec.ltb q N) (put_row l (put_v (B l) q y) B) (put_row (l + 1) (put_v (B (l + 1)) (q - N) y) B) ≡ placed_rows l N (put_v x q y) A
+      by : Dec (q < N) → cond (lib.Dec.ltb q N) (put_row l (put_v (B l) q y) B) (put_row (l + 1) (put_v (B (l + 1)) (q - N) y) B)
+          ≡ placed_rows l N (put_v x q y) A
       by (yes m) = ap (λ (b : Bool). cond b (put_row l (put_v (B l) q y) B) (put_row (l + 1) (put_v (B (l + 1)) (q - N) y) B)) (lt-ltb q N m) ∙ low m
       by (no f) =
           ap (λ (b : Bool). cond b (put_row l (put_v (B l) q y) B) (put_row (l + 1) (put_v (B (l + 1)) (q - N) y) B)) (le-ltb q N (omega arith))

@@ -1,4 +1,6 @@
 // The release of a drawn word: from rows of a grid to the word and its signature.
+#![tactic(auto)]
+
 ghost use Rattle.std.specs.Prelude.{◌≡◌, ◌+◌};
 ghost use Rattle.trits.specs.Trit.{up_to};
 ghost use Rattle.trits.specs.Planes.{words_for, ones_of, twos_of};

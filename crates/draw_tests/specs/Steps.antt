@@ -49,9 +49,12 @@ pub record ChosenLengths (z : Sizes) (p y1 y2 ov v1 v2 ou u1 u2 : ℕ) : Type 0 
   pub u_twos : u2 ≡ words_for z.ku
 
 -- sizes that fit, and every length that they say
-pub record ForTestContentsDraw (z : Sizes) (hu_ones hu_twos hv_ones hv_twos b_ones b_twos c_ones c_twos p y_ones y_twos v_order v_ones v_twos u_order u_ones u_twos : List ℕ)
+pub record ForTestContentsDraw (z : Sizes)
+    (hu_ones hu_twos hv_ones hv_twos b_ones b_twos c_ones c_twos p y_ones y_twos v_order v_ones v_twos u_order u_ones u_twos : List ℕ)
     : Type 0 where
   pub sizes : sizes_fit z ≡ true
-  pub secret : SecretLengths z (length hu_ones) (length hu_twos) (length hv_ones) (length hv_twos) (length b_ones) (length b_twos) (length c_ones) (length c_twos)
-  pub chosen_sizes : ChosenLengths z (length p) (length y_ones) (length y_twos) (length v_order) (length v_ones) (length v_twos) (length u_order) (length u_ones)
+  pub secret : SecretLengths z (length hu_ones) (length hu_twos) (length hv_ones) (length hv_twos) (length b_ones) (length b_twos) (length c_ones)
+      (length c_twos)
+  pub chosen_sizes : ChosenLengths z (length p) (length y_ones) (length y_twos) (length v_order) (length v_ones) (length v_twos) (length u_order)
+      (length u_ones)
       (length u_twos)

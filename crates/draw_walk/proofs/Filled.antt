@@ -74,7 +74,8 @@ module _ (e : ℕ) (u : Vector) (A : Matrix) where
 
 -- a turn that put one trit in row e
 pub put_turn : {os ts o t : List ℕ} {n w : ℕ} (e q : ℕ) (A : Matrix) (u : Vector) (x : Matrix → Trit) → Grid os ts n w (put_row e u A)
-    → Grid o t n w (put_row e (put_v (matrix_at w os ts e) q (x (matrix_at w os ts))) (matrix_at w os ts)) → Grid o t n w (put_row e (put_v u q (x (put_row e u A))) A)
+    → Grid o t n w (put_row e (put_v (matrix_at w os ts e) q (x (matrix_at w os ts))) (matrix_at w os ts)) →
+    Grid o t n w (put_row e (put_v u q (x (put_row e u A))) A)
 put_turn e q A u x g h =
     grid_to h
     (ap (λ (B : Matrix). put_row e (put_v (B e) q (x B)) B) g.cells
@@ -134,7 +135,8 @@ module _ (l : List ℕ) (A : Matrix) (a i e : ℕ) (la : a ≤ i) where
       ∙ ap (λ (q : ℕ). forced_by b c (A ev) q (y (g + (i - a)))) (sym (last_place l a i la))
 
   pub less_value : (x : ℕ) (val : Vector) → Order (length l) l → i < length l → (x ≡ e → ⊥)
-      → sub_t (put_row e (fill (take (i - a) (drop a l)) val (A e)) A x (get_or l i 0)) (put_row e (fill (take (i - a) (drop a l)) val (A e)) A e (get_or l i 0))
+      → sub_t (put_row e (fill (take (i - a) (drop a l)) val (A e)) A x (get_or l i 0))
+      (put_row e (fill (take (i - a) (drop a l)) val (A e)) A e (get_or l i 0))
       ≡ less_at l A a x e (i - a)
   less_value x val o h ne =
       let u : Vector = fill (take (i - a) (drop a l)) val (A e) in

@@ -34,7 +34,8 @@ module _ {rows w : ℕ} (H A : Matrix) (m e : ℕ) where
   -- row i takes its product
   pub products_turn : {os ts o t : List ℕ} {i x : ℕ} → i < e → Grid os ts rows w (with_products i m (64 * w) H (A e) A)
       → x ≡ number (dot_v (H i) (matrix_at w os ts e) (64 * w))
-      → Grid o t rows w (put_row i (put_v (matrix_at w os ts i) m (trit_of x)) (matrix_at w os ts)) → Grid o t rows w (with_products (i + 1) m (64 * w) H (A e) A)
+      → Grid o t rows w (put_row i (put_v (matrix_at w os ts i) m (trit_of x)) (matrix_at w os ts)) →
+      Grid o t rows w (with_products (i + 1) m (64 * w) H (A e) A)
   products_turn {os} {ts} {i = i} {x = x} l k d g =
       let C : Matrix = λ i. put_v (A i) m (times (64 * w) H (A e) i) in
       let row_e : matrix_at w os ts e ≡ A e = ap (λ (B : Matrix). B e) k.cells ∙ over_rest i C A e (omega arith) in

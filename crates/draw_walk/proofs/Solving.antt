@@ -57,7 +57,8 @@ module _ {rows w e : ℕ} {A : Matrix} {ps : List ℕ} {r c : ℕ} {os ts : List
 
   -- one row more
   module _ {o t : List ℕ} {d q : ℕ} (h : suc d ≡ c) (z : c ≤ e) (f : q ≡ pivot_place (matrix_at w os ts) ps d)
-      (g : Grid o t rows w (put_row e (put_v (matrix_at w os ts e) q (sub_t (matrix_at w os ts e q) (dot_v (matrix_at w os ts d) (matrix_at w os ts e) (64 * w))))
+      (g : Grid o t rows w (put_row e
+      (put_v (matrix_at w os ts e) q (sub_t (matrix_at w os ts e q) (dot_v (matrix_at w os ts d) (matrix_at w os ts e) (64 * w))))
       (matrix_at w os ts))) where
     abbrev next : Vector
     next = put_v (B e) q (sub_t (B e q) (dot_v (B d) (B e) (64 * w)))

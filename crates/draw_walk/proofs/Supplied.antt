@@ -151,7 +151,8 @@ firsts_more r A order i v x u s e = fun_ext (λ j. by j (ℕ_discrete j i) (dec_
 
     by : (j : ℕ) → Dec (j ≡ i) → Dec (j < i) → put_v (firsts_of r A order i v x u) i (sub_t (x (get_or order i 0)) s) j ≡ firsts_of r A order (i + 1) v x u j
     by j (yes d) l =
-        ap (put_v (firsts_of r A order i v x u) i (sub_t (x (get_or order i 0)) s)) d ∙ put_same (firsts_of r A order i v x u) i (sub_t (x (get_or order i 0)) s)
+        ap (put_v (firsts_of r A order i v x u) i (sub_t (x (get_or order i 0)) s)) d
+        ∙ put_same (firsts_of r A order i v x u) i (sub_t (x (get_or order i 0)) s)
         ∙ sym (ap (firsts_of r A order (i + 1) v x u) d
         ∙ ap (λ (b : Bool). cond b (sub_t (x (get_or order i 0)) (fill (passed r A 0 (range (i + 1))) v zeros i)) (u i)) (lt-ltb i (i + 1) (omega arith))
         ∙ ap (λ (w : Vector). sub_t (x (get_or order i 0)) (w i)) e ∙ ap (sub_t (x (get_or order i 0))) (put_same S i s))

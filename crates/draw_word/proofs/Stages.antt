@@ -184,7 +184,8 @@ module _ (z : Sizes) (i : DrawCall) where
     module _ (l : ℕ) {A B C : Matrix} (r : Ready z i) (a : Parted z l P (start_word z i.p (syndrome_of i)) A) {n : ℕ} (n0 : n ≡ 0)
         (h : SolvedHalves n z l S (choices_of i) (A l) (A (l + 1)) B) (j : Joined l P B C) where
       row_e_v : B (l + 3) ≡ e_v_of z i
-      row_e_v = h.e_v n0 ∙ ap (λ (x : Vector). draw_v z S x (choices_of i)) a.right ∙ draw_v_half z S (v_of z S (start_word z i.p (syndrome_of i))) (choices_of i)
+      row_e_v = h.e_v n0 ∙ ap (λ (x : Vector). draw_v z S x (choices_of i)) a.right
+          ∙ draw_v_half z S (v_of z S (start_word z i.p (syndrome_of i))) (choices_of i)
 
       row_e_u : B (l + 4) ≡ e_u_of z i
       row_e_u =

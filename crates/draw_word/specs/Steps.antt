@@ -67,7 +67,7 @@ pub record ForPartWord (z : Sizes) (l : ℕ) (b_ones b_twos c_ones c_twos p y_on
   pub c_size_here : length c_ones ≡ half_words z
   pub is_order : Order (places z) p
   pub y_size_here : length y_ones ≡ words_for (codim z)
-  pub y_twos : length y_twos ≡ length y_ones
+  pub y_twos_here : length y_twos ≡ length y_ones
   pub small : l ≤ 8435
   pub work_ones_size : length work_ones ≡ (l + 5) * half_words z
   pub work_twos_size : length work_twos ≡ (l + 5) * half_words z
@@ -103,7 +103,8 @@ pub record ForJoinWord (z : Sizes) (l : ℕ) (b_ones b_twos c_ones c_twos work_o
   pub grid : Rows work_ones work_twos (l + 5) (half_words z)
 
 -- sizes that fit, all that a draw is given, tested, and working space
-pub record ForMakeWord (z : Sizes) (l : ℕ) (hu_ones hu_twos hv_ones hv_twos b_ones b_twos c_ones c_twos p y_ones y_twos v_order v_ones v_twos u_order u_ones u_twos work_ones
+pub record ForMakeWord (z : Sizes) (l : ℕ)
+    (hu_ones hu_twos hv_ones hv_twos b_ones b_twos c_ones c_twos p y_ones y_twos v_order v_ones v_twos u_order u_ones u_twos work_ones
     work_twos : List ℕ) : Type 0 where
   pub sizes : sizes_fit z ≡ true
   pub ready : Ready z (given (planes hu_ones hu_twos hv_ones hv_twos b_ones b_twos c_ones c_twos) p y_ones y_twos v_order v_ones v_twos u_order u_ones u_twos)

@@ -41,7 +41,8 @@ columns_turn {h} {l₀} {l} {ys} {i} {w} {c} n d a t e = record { kept = p.kept 
     p : Patched (λ j. get_or ys j 0) (64 * c) n l (put_mid (64 * c) n l ys)
     p = put_patched (64 * c) n l (omega arith) ys (t.size ∙ sym d)
 
-    by : (q x : ℕ) → q < 64 * (c + 1) → x < 64 → Dec (q < 64 * c) → bit x (get_or (put_mid (64 * c) n l ys) q 0) ≡ bit (q % 64) (get_or h ((i + x) * w + q / 64) 0)
+    by : (q x : ℕ) → q < 64 * (c + 1) → x < 64 → Dec (q < 64 * c) → bit x (get_or (put_mid (64 * c) n l ys) q 0)
+        ≡ bit (q % 64) (get_or h ((i + x) * w + q / 64) 0)
     by q x g f (yes o) = ap (bit x) (p.below q o) ∙ a.bits q x o f
     by q x g f (no o) =
         let u : q ≡ 64 * c + q % 64 = omega arith in

@@ -1,3 +1,5 @@
 // The columns of a matrix gathered in another order, 64 rows at a time.
+#![tactic(auto)]
+
 pub mod gather; // the rows become those of a lent matrix with its columns in an order's places
 pub mod own; // the columns of a plane's own rows

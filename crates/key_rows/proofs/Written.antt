@@ -82,13 +82,13 @@ written_all {kw} {i} {f} {l₀} {l} k a e h =
     sym (take_all (k * kw) l (omega (arith, a.kept))) ∙ rows_taken f kw l k (omega (arith, a.kept)) (λ j g o. a.words j g (omega arith) (omega arith))
 
 module _ (r : ℕ) (A : Matrix) (k : ℕ) {kw i : ℕ} {l₀ l : List ℕ} where
-  pub key_ones : Written kw 0 i (λ j. ones_word (read_down r A j)) l₀ l → i ≡ k → length l₀ ≡ k * kw → l ≡ key_ones k kw (read_down r A)
+  pub key_ones_law : Written kw 0 i (λ j. ones_word (read_down r A j)) l₀ l → i ≡ k → length l₀ ≡ k * kw → l ≡ key_ones k kw (read_down r A)
   unfolding key_ones ones_of
-  key_ones a e h = written_all k a e h
+  key_ones_law a e h = written_all k a e h
 
-  pub key_twos : Written kw 0 i (λ j. twos_word (read_down r A j)) l₀ l → i ≡ k → length l₀ ≡ k * kw → l ≡ key_twos k kw (read_down r A)
+  pub key_twos_law : Written kw 0 i (λ j. twos_word (read_down r A j)) l₀ l → i ≡ k → length l₀ ≡ k * kw → l ≡ key_twos k kw (read_down r A)
   unfolding key_twos twos_of
-  key_twos a e h = written_all k a e h
+  key_twos_law a e h = written_all k a e h
 
 -- ---- group after group
 

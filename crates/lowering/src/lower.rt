@@ -27,7 +27,7 @@ pub fn pass_block(
     if k == 0 {
         return 0;
     }
-    blocks::rows::clear_block(ones, twos, rows, w, c / 64, v, r, k, c, at + k, r);
+    blocks::block_rows::clear_block(ones, twos, rows, w, c / 64, v, r, k, c, at + k, r);
     k
 }
 

@@ -24,10 +24,10 @@ pub fn join(
     ensures rows { Rows ones.new twos.new rows w }
     ensures joined_rows { JoinedRows r k c k (matrix_at w ones.old twos.old) (matrix_at w ones.new twos.new) }
 {
-    let p = blocks::rows::basis_row(r, k);
+    let p = blocks::block_rows::basis_row(r, k);
     let mut j = 0;
     while j < k {
-        let b = blocks::rows::basis_row(r, j);
+        let b = blocks::block_rows::basis_row(r, j);
         elimination::step::clear_row(ones, twos, rows, w, f, v, c + k, p, b);
         j += 1;
     }
@@ -51,7 +51,7 @@ pub fn bring_pivot(
     ensures { Grid ones.new twos.new rows w
         (pivot_taken at k c (basis r (matrix_at w ones.old twos.old)) i (matrix_at w ones.old twos.old)) }
 {
-    blocks::rows::bring(ones, twos, rows, w, f, v, r, k, c, i);
+    blocks::block_rows::bring(ones, twos, rows, w, f, v, r, k, c, i);
     two_rows::swap_rows(ones, twos, rows, w, at + k, i);
     elimination::step::scale_row(ones, twos, rows, w, c + k, at + k);
 }
@@ -78,7 +78,7 @@ pub fn next_pivot(
         return false;
     }
     bring_pivot(ones, twos, rows, w, f, v, r, at, k, c, i);
-    let p = blocks::rows::basis_row(r, k);
+    let p = blocks::block_rows::basis_row(r, k);
     grid::sums::copy_row(ones, twos, rows, w, p, at + k);
     join(ones, twos, rows, w, f, v, r, k, c);
     true

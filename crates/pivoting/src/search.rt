@@ -40,7 +40,7 @@ pub fn trit_now(
     let mut t = number_of(ones, twos, rows, w, i, c + k);
     let mut j = 0;
     while j < k {
-        let p = blocks::rows::basis_row(r, j);
+        let p = blocks::block_rows::basis_row(r, j);
         let a = number_of(ones, twos, rows, w, i, c + j);
         let b = number_of(ones, twos, rows, w, p, c + k);
         t = (t + 2 * (a * b)) % 3;

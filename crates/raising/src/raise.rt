@@ -34,7 +34,7 @@ pub fn copy_block(
 {
     let mut j = 0;
     while j < 12 {
-        let p = blocks::rows::basis_row(r, j);
+        let p = blocks::block_rows::basis_row(r, j);
         grid::one_row::zero_row(ones, twos, rows, w, p);
         grid::sums::copy_words(ones, twos, rows, w, f, w, p, c + j);
         j += 1;

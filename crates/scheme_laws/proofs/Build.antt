@@ -213,7 +213,8 @@ module _ (r n : ℕ) (H : Matrix) (f j : ℕ) (order : List ℕ) where
   unfolding arrange
   arrange_back m e = rw (ne_eqb j r m, e, arrange)
 
-  arrange_next : (j ≡ r → ⊥) → in_span r n H (take j order) (column H (get_or order j 0)) ≡ false → arrange r n H (suc f) j order ≡ arrange r n H f (suc j) order
+  arrange_next : (j ≡ r → ⊥) → in_span r n H (take j order) (column H (get_or order j 0)) ≡ false → arrange r n H (suc f) j order
+      ≡ arrange r n H f (suc j) order
   unfolding arrange
   arrange_next m e = rw (ne_eqb j r m, e, arrange)
 

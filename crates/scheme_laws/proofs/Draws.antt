@@ -22,7 +22,8 @@ use Rattle.matrix.proofs.Field.{refuted}
 use Rattle.scheme.specs.declared.sizes.Sizes.{Sizes}
 use Rattle.scheme.specs.Sizes.{half, places, ru, rv, gap_v, gap_u}
 use Rattle.scheme.specs.Secret.{Secret, left_of, right_of}
-use Rattle.scheme.specs.Draw.{Choices, choices_fit, first_v, pivots_v, supplied_v, draw_v, first_u, pivots_u, last_u, forced, supplied_u, draw_u, drawn, draw_refusal}
+use Rattle.scheme.specs.Draw.{Choices, choices_fit, first_v, pivots_v, supplied_v, draw_v, first_u}
+use Rattle.scheme.specs.Draw.{pivots_u, last_u, forced, supplied_u, draw_u, drawn, draw_refusal}
 use Rattle.scheme_laws.proofs.Pairs.{no_zero_law, zero_no, forced_pair}
 use Rattle.scheme.proofs.Ranges.{Ranges}
 

@@ -65,11 +65,13 @@ module _ (s : Secret) where
   pub forced_pair : (u v : Vector) (q : ℕ) (x : Trit) → is_set (s.c q) ≡ true → is_set x ≡ true → u q ≡ forced s v q x
       → (is_set (left_of s u v q) ≡ true) × (is_set (right_of s u v q) ≡ true)
   forced_pair u v q x h k e =
-      (and-eq-true_iff _ _).0 (ap (λ (u : Trit). is_set (add_t u (mul_t (s.b q) (v q))) && is_set (add_t (mul_t (s.c q) (add_t u (mul_t (s.b q) (v q)))) (v q))) e
+      (and-eq-true_iff _ _).0 (ap (λ (u : Trit).
+      is_set (add_t u (mul_t (s.b q) (v q))) && is_set (add_t (mul_t (s.c q) (add_t u (mul_t (s.b q) (v q)))) (v q))) e
       ∙ implied (is_set (s.c q) && is_set x)
       (is_set (add_t (forced s v q x) (mul_t (s.b q) (v q))) && is_set (add_t (mul_t (s.c q) (add_t (forced s v q x) (mul_t (s.b q) (v q)))) (v q)))
       (test4 (λ b c v x. not (is_set c && is_set x)
-      || (is_set (add_t (cond (is_set v) (mul_t (sub_t c b) v) x) (mul_t b v)) && is_set (add_t (mul_t c (add_t (cond (is_set v) (mul_t (sub_t c b) v) x) (mul_t b v))) v)))
+      || (is_set (add_t (cond (is_set v) (mul_t (sub_t c b) v) x) (mul_t b v)) && is_set
+      (add_t (mul_t c (add_t (cond (is_set v) (mul_t (sub_t c b) v) x) (mul_t b v))) v)))
       tt (s.b q) (s.c q) (v q) x)
       ((and-eq-true_iff (is_set (s.c q)) (is_set x)).1 (h, k)))
 

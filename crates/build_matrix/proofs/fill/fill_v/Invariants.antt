@@ -1,0 +1,17 @@
+-- Each turn makes both halves of one row more (`halves_turn`).
+-- Assumes nothing.
+use Prim.Native.Nat.{◌-◌, ◌≤◌}
+use Rattle.trits.specs.Planes.{trit_at}
+use Rattle.trits.specs.Rows.{matrix_at}
+use Rattle.grid.specs.Steps.{Grid}
+use Rattle.build_matrix.specs.Steps.{halves_in, left_v}
+use Rattle.build_matrix.proofs.fill.fill_v.Given as goal
+
+abbrev pub invariant-loop-i : goal.invariant-loop-i
+invariant-loop-i l =
+    (l.i ≤ l.rv)
+    × Grid l.ones l.twos l.rows l.w
+    (halves_in l.ru l.i (left_v (matrix_at l.w l.ho l.ht) (trit_at l.co l.ct)) (matrix_at l.w l.ho l.ht) (matrix_at l.w l.initial.ones l.initial.twos))
+
+abbrev pub decreases-loop-i : goal.decreases-loop-i
+decreases-loop-i l = l.rv - l.i

@@ -30,7 +30,8 @@ pub record Addable (ones twos so st : List ℕ) : Type 0 where
   pub source : Row so st
   pub same : length so ≡ length ones
 
-pub addable : (ones twos so st : List ℕ) → ((j : ℕ) → Fits w64 (get_or ones j 0)) → ((j : ℕ) → Fits w64 (get_or twos j 0)) → ((j : ℕ) → Fits w64 (get_or so j 0))
+pub addable : (ones twos so st : List ℕ) → ((j : ℕ) → Fits w64 (get_or ones j 0)) → ((j : ℕ) → Fits w64 (get_or twos j 0)) →
+    ((j : ℕ) → Fits w64 (get_or so j 0))
     → ((j : ℕ) → Fits w64 (get_or st j 0))
     → sum_refusal ones twos so st ≡ 0 → Addable ones twos so st
 unfolding sum_refusal

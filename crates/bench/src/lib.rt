@@ -1,4 +1,6 @@
 // Row functions exported for the benchmark in C, and for nothing else.
+#![tactic(auto)]
+
 ghost use Rattle.std.specs.Prelude.{◌≡◌, length};
 ghost use Rattle.trits.specs.Planes.{trit_at, Reads};
 ghost use Rattle.bench.specs.{added_to, flag, sum_refusal, sum_ones, sum_twos, weight_of, both_of, past_of};

@@ -1,4 +1,6 @@
 // The check in planes, and the counts of both checks with their tests made once: exported for the benchmark in C, and for nothing else.
+#![tactic(auto)]
+
 ghost use Rattle.std.specs.Prelude.{◌≡◌};
 ghost use Rattle.trits.specs.Planes.{trit_at};
 ghost use Rattle.packed.specs.Packed.{packed_row};

@@ -1,23 +1,32 @@
 // Runs the packing calls on worked cases, and prints what each answers and leaves.
+#![tactic(auto)]
+
 mod show; // what is printed
 
 ghost use Rattle.std.specs.Prelude.{◌≡◌, ◌+◌, ◌-◌, ◌*◌, ◌%◌, ◌<◌, length, set};
 ghost use Rattle.trits.specs.Planes.{tabulate};
 
-use libc::STDOUT_FILENO;
+use std::io;
 
 // Bytes 3, 10, 17 and so on, modulo 243, and 1 at the end, are unpacked into planes that hold other words, and packed again.
-fn there_and_back(m: usize, bytes: &mut [u8], ones: &mut [u64], twos: &mut [u64], out: &mut [u8]) {
+fn there_and_back(
+    rt: &impl Print,
+    m: usize,
+    bytes: &mut [u8],
+    ones: &mut [u64],
+    twos: &mut [u64],
+    out: &mut [u8],
+) -> io::Result<()> {
     fill(bytes);
     end_in_one(bytes);
-    show::unpack(m, bytes, ones, twos);
-    show::pack(m, ones, twos, out);
+    show::unpack(rt, m, bytes, ones, twos)?;
+    show::pack(rt, m, ones, twos, out)
 }
 
 // The same for a row of m trits.
-fn round_trip(m: usize) {
+fn round_trip(rt: &impl Print, m: usize) -> io::Result<()> {
     if m > 16384 {
-        return;
+        return Ok(());
     }
     let b = (m + 4) / 5;
     let w = (m + 63) / 64;
@@ -26,12 +35,13 @@ fn round_trip(m: usize) {
     let mut twos = [6u64; 256];
     let mut out = [7u8; 3277];
     there_and_back(
+        rt,
         m,
         &mut bytes[0..b],
         &mut ones[0..w],
         &mut twos[0..w],
         &mut out[0..b],
-    );
+    )
 }
 
 // Byte j is 7 j + 3 modulo 243.
@@ -70,142 +80,142 @@ fn next(x: u8) -> u8
 }
 
 // One word of each plane is packed into one byte.
-fn pack_word(m: usize, one: u64, two: u64) {
-    show::pack(m, &[one], &[two], &mut [9]);
+fn pack_word(rt: &impl Print, m: usize, one: u64, two: u64) -> io::Result<()> {
+    show::pack(rt, m, &[one], &[two], &mut [9])
 }
 
 // One byte is unpacked into one word of each plane.
-fn unpack_byte(m: usize, byte: u8) {
-    show::unpack(m, &[byte], &mut [9], &mut [9]);
+fn unpack_byte(rt: &impl Print, m: usize, byte: u8) -> io::Result<()> {
+    show::unpack(rt, m, &[byte], &mut [9], &mut [9])
 }
 
 // Bytes of a stream are read into one word of each plane.
-fn stream_word(m: usize, bytes: &[u8]) {
-    show::stream(m, bytes, &mut [9], &mut [9]);
+fn stream_word(rt: &impl Print, m: usize, bytes: &[u8]) -> io::Result<()> {
+    show::stream(rt, m, bytes, &mut [9], &mut [9])
 }
 
 // The rule at its edges: the paper's bytes, and the last byte.
-fn pack_edges() {
-    pack_word(5, 17, 2);
-    pack_word(5, 0, 31);
-    pack_word(4, 0, 15);
-    show::pack(6, &[0], &[63], &mut [9, 9]);
-    pack_word(1, 0, 1);
+fn pack_edges(rt: &impl Print) -> io::Result<()> {
+    pack_word(rt, 5, 17, 2)?;
+    pack_word(rt, 5, 0, 31)?;
+    pack_word(rt, 4, 0, 15)?;
+    show::pack(rt, 6, &[0], &[63], &mut [9, 9])?;
+    pack_word(rt, 1, 0, 1)
 }
 
 // The same, read back.
-fn unpack_edges() {
-    unpack_byte(5, 88);
-    unpack_byte(5, 242);
-    unpack_byte(2, 8);
-    unpack_byte(1, 2);
+fn unpack_edges(rt: &impl Print) -> io::Result<()> {
+    unpack_byte(rt, 5, 88)?;
+    unpack_byte(rt, 5, 242)?;
+    unpack_byte(rt, 2, 8)?;
+    unpack_byte(rt, 1, 2)
 }
 
 // What pack refuses: sizes and each length.
-fn pack_lengths() {
-    pack_word(16385, 0, 0);
-    show::pack(5, &[0, 0], &[0], &mut [9]);
-    show::pack(5, &[0], &[0, 0], &mut [9]);
-    show::pack(5, &[0], &[0], &mut [9, 9]);
-    pack_word(6, 0, 0);
+fn pack_lengths(rt: &impl Print) -> io::Result<()> {
+    pack_word(rt, 16385, 0, 0)?;
+    show::pack(rt, 5, &[0, 0], &[0], &mut [9])?;
+    show::pack(rt, 5, &[0], &[0, 0], &mut [9])?;
+    show::pack(rt, 5, &[0], &[0], &mut [9, 9])?;
+    pack_word(rt, 6, 0, 0)?;
     show::pack(
+        rt,
         65,
         &[0],
         &[0, 0],
         &mut [9, 9, 9, 9, 9, 9, 9, 9, 9, 9, 9, 9, 9],
-    );
+    )
 }
 
 // And a bit in both planes, a bit past the length, and which comes first.
-fn pack_contents() {
-    pack_word(5, 4, 6);
-    pack_word(5, 32, 0);
-    pack_word(5, 0, 9223372036854775808);
-    pack_word(5, 32, 32);
-    pack_word(5, 33, 1);
+fn pack_contents(rt: &impl Print) -> io::Result<()> {
+    pack_word(rt, 5, 4, 6)?;
+    pack_word(rt, 5, 32, 0)?;
+    pack_word(rt, 5, 0, 9223372036854775808)?;
+    pack_word(rt, 5, 32, 32)?;
+    pack_word(rt, 5, 33, 1)
 }
 
 // What unpack refuses: sizes and each length.
-fn unpack_lengths() {
-    unpack_byte(16385, 0);
-    unpack_byte(6, 0);
-    show::unpack(5, &[0, 0], &mut [9], &mut [9]);
-    show::unpack(5, &[0], &mut [9, 9], &mut [9]);
-    show::unpack(5, &[0], &mut [9], &mut [9, 9]);
+fn unpack_lengths(rt: &impl Print) -> io::Result<()> {
+    unpack_byte(rt, 16385, 0)?;
+    unpack_byte(rt, 6, 0)?;
+    show::unpack(rt, 5, &[0, 0], &mut [9], &mut [9])?;
+    show::unpack(rt, 5, &[0], &mut [9, 9], &mut [9])?;
+    show::unpack(rt, 5, &[0], &mut [9], &mut [9, 9])
 }
 
 // And a byte above 242, a trit past the length, and which comes first.
-fn unpack_contents() {
-    unpack_byte(5, 243);
-    show::unpack(6, &[0, 255], &mut [9], &mut [9]);
-    unpack_byte(1, 243);
-    unpack_byte(2, 242);
-    unpack_byte(1, 241);
-    show::unpack(6, &[0, 3], &mut [9], &mut [9]);
-    show::unpack(6, &[243, 3], &mut [9], &mut [9]);
+fn unpack_contents(rt: &impl Print) -> io::Result<()> {
+    unpack_byte(rt, 5, 243)?;
+    show::unpack(rt, 6, &[0, 255], &mut [9], &mut [9])?;
+    unpack_byte(rt, 1, 243)?;
+    unpack_byte(rt, 2, 242)?;
+    unpack_byte(rt, 1, 241)?;
+    show::unpack(rt, 6, &[0, 3], &mut [9], &mut [9])?;
+    show::unpack(rt, 6, &[243, 3], &mut [9], &mut [9])
 }
 
 // Every last byte, at every number of trits in it: alone, and after another byte.
-fn last_bytes() {
-    show::last_bytes(1);
-    show::last_bytes(2);
-    show::last_bytes(3);
-    show::last_bytes(4);
-    show::last_bytes(5);
-    show::last_bytes(6);
-    show::last_bytes(7);
-    show::last_bytes(8);
-    show::last_bytes(9);
-    show::last_bytes(10);
+fn last_bytes(rt: &impl Print) -> io::Result<()> {
+    show::last_bytes(rt, 1)?;
+    show::last_bytes(rt, 2)?;
+    show::last_bytes(rt, 3)?;
+    show::last_bytes(rt, 4)?;
+    show::last_bytes(rt, 5)?;
+    show::last_bytes(rt, 6)?;
+    show::last_bytes(rt, 7)?;
+    show::last_bytes(rt, 8)?;
+    show::last_bytes(rt, 9)?;
+    show::last_bytes(rt, 10)
 }
 
 // Streams: skipped bytes, a last byte that gives less, whatever its other trits are, bytes that are not looked at.
-fn streams() {
-    stream_word(9, &[255, 88, 243, 242, 7]);
-    stream_word(10, &[88, 244, 242]);
-    stream_word(6, &[1, 1, 255]);
-    stream_word(5, &[243, 250, 80]);
-    stream_word(1, &[2]);
-    stream_word(1, &[242]);
+fn streams(rt: &impl Print) -> io::Result<()> {
+    stream_word(rt, 9, &[255, 88, 243, 242, 7])?;
+    stream_word(rt, 10, &[88, 244, 242])?;
+    stream_word(rt, 6, &[1, 1, 255])?;
+    stream_word(rt, 5, &[243, 250, 80])?;
+    stream_word(rt, 1, &[2])?;
+    stream_word(rt, 1, &[242])
 }
 
 // Streams that end too soon.
-fn short_streams() {
-    stream_word(6, &[1, 243]);
-    stream_word(1, &[243, 255]);
-    stream_word(11, &[1, 2]);
+fn short_streams(rt: &impl Print) -> io::Result<()> {
+    stream_word(rt, 6, &[1, 243])?;
+    stream_word(rt, 1, &[243, 255])?;
+    stream_word(rt, 11, &[1, 2])
 }
 
 // And sizes and each length.
-fn stream_lengths() {
-    stream_word(16385, &[1]);
-    show::stream(5, &[1], &mut [9, 9], &mut [9]);
-    show::stream(5, &[1], &mut [9], &mut [9, 9]);
-    stream_word(65, &[1]);
+fn stream_lengths(rt: &impl Print) -> io::Result<()> {
+    stream_word(rt, 16385, &[1])?;
+    show::stream(rt, 5, &[1], &mut [9, 9], &mut [9])?;
+    show::stream(rt, 5, &[1], &mut [9], &mut [9, 9])?;
+    stream_word(rt, 65, &[1])
 }
 
-fn main() {
-    io::write_all(
-        STDOUT_FILENO,
-        b"what the packing calls answer and leave; expected by tests/packing_cases.py, from the paper's rules on lists of trits\n",
-    );
-    pack_edges();
-    unpack_edges();
-    pack_lengths();
-    pack_contents();
-    unpack_lengths();
-    unpack_contents();
-    last_bytes();
-    streams();
-    short_streams();
-    stream_lengths();
-    round_trip(0);
-    round_trip(1);
-    round_trip(4);
-    round_trip(5);
-    round_trip(6);
-    round_trip(63);
-    round_trip(64);
-    round_trip(65);
-    round_trip(16384);
+fn main(rt: HostRuntime) -> io::Result<()> {
+    println!(rt;
+        "what the packing calls answer and leave; expected by tests/packing_cases.py, from the paper's rules on lists of trits"
+    )?;
+    pack_edges(&rt)?;
+    unpack_edges(&rt)?;
+    pack_lengths(&rt)?;
+    pack_contents(&rt)?;
+    unpack_lengths(&rt)?;
+    unpack_contents(&rt)?;
+    last_bytes(&rt)?;
+    streams(&rt)?;
+    short_streams(&rt)?;
+    stream_lengths(&rt)?;
+    round_trip(&rt, 0)?;
+    round_trip(&rt, 1)?;
+    round_trip(&rt, 4)?;
+    round_trip(&rt, 5)?;
+    round_trip(&rt, 6)?;
+    round_trip(&rt, 63)?;
+    round_trip(&rt, 64)?;
+    round_trip(&rt, 65)?;
+    round_trip(&rt, 16384)
 }

@@ -28,7 +28,7 @@ after_more bytes i m h =
 
 -- what is reached from a machine that some bytes lead to is reached from the one before them
 module _ (m n : Machine) (e : (text : List ℕ) × (n ≡ after text m)) where
-  further : (k : Machine) → (text : List ℕ) × (k ≡ after text n) → (text : List ℕ) × (k ≡ after text m)
+  pub further : (k : Machine) → (text : List ℕ) × (k ≡ after text n) → (text : List ℕ) × (k ≡ after text m)
   further k q = (e.0 ++ q.0, q.1 ∙ ap (after q.0) e.1 ∙ sym (after_append e.0 q.0 m))
 
   pub reached_from : (line ones twos : List ℕ) (r : Read) → Reached n line ones twos r → Reached m line ones twos r

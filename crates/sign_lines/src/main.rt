@@ -1,11 +1,13 @@
 // Builds a key from a stored secret, draws until a word is released, and prints the lines that hand the key and the signature to a module.
+#![tactic(auto)]
+
 mod secret; // the secret, the starting order and the syndrome
 mod samples; // choices for draws
 
 ghost use Rattle.std.specs.Prelude.{◌≡◌, ◌*◌, ◌≤◌, length};
 
-use libc::STDOUT_FILENO;
 use scheme::sizes::Sizes;
+use std::io;
 
 // The sizes of the secret, with two gaps and a weight.
 fn sizes() -> Sizes {
@@ -133,44 +135,46 @@ fn wide(x: u8) -> u64
 }
 
 // The first m trits of a row as digits.
-fn digits(ones: &[u64], twos: &[u64], m: usize)
+fn digits(rt: &impl Print, ones: &[u64], twos: &[u64], m: usize) -> io::Result<()>
     requires { (length twos.now ≡ length ones.now) × (m ≤ 64 * length ones.now) }
 {
     let mut i = 0;
     while i < m {
-        io::print_decimal(STDOUT_FILENO, wide(planes::places::trit_at(ones, twos, i)));
+        print!(rt; "{}", wide(planes::places::trit_at(ones, twos, i)))?;
         i += 1;
     }
+    Ok(())
 }
 
 // The key's rows, one line for each.
-fn show_key(key_ones: &[u64; 26], key_twos: &[u64; 26]) {
+fn show_key(rt: &impl Print, key_ones: &[u64; 26], key_twos: &[u64; 26]) -> io::Result<()> {
     let mut i = 0;
     while i < 26 {
-        io::write_all(STDOUT_FILENO, b"K\t");
-        digits(&[key_ones[i]], &[key_twos[i]], 38);
-        io::write_all(STDOUT_FILENO, b"\n");
+        print!(rt; "K\t")?;
+        digits(rt, &[key_ones[i]], &[key_twos[i]], 38)?;
+        println!(rt; "")?;
         i += 1;
     }
+    Ok(())
 }
 
-fn main() {
+fn main(rt: HostRuntime) -> io::Result<()> {
     let mut p = [0u16; 64];
     let mut key_ones = [0u64; 26];
     let mut key_twos = [0u64; 26];
     let mut s_ones = [0u64; 1];
     let mut s_twos = [0u64; 1];
     if build(&mut p, &mut key_ones, &mut key_twos) != 0 {
-        return;
+        return Ok(());
     }
     if !sign(&p, &mut s_ones, &mut s_twos) {
-        return;
+        return Ok(());
     }
-    io::write_all(STDOUT_FILENO, b"P\t7\t64\t26\t52\n");
-    show_key(&key_ones, &key_twos);
-    io::write_all(STDOUT_FILENO, b"S\t7\t12\t");
-    digits(&secret::Y_ONES, &secret::Y_TWOS, 38);
-    io::write_all(STDOUT_FILENO, b"\t");
-    digits(&s_ones, &s_twos, 26);
-    io::write_all(STDOUT_FILENO, b"\n");
+    println!(rt; "P\t7\t64\t26\t52")?;
+    show_key(&rt, &key_ones, &key_twos)?;
+    print!(rt; "S\t7\t12\t")?;
+    digits(&rt, &secret::Y_ONES, &secret::Y_TWOS, 38)?;
+    print!(rt; "\t")?;
+    digits(&rt, &s_ones, &s_twos, 26)?;
+    println!(rt; "")
 }

@@ -34,7 +34,7 @@ pub fn fill_bytes(bytes: &mut [u8], x: u64) -> u64
 }
 
 // What became of a row: the number of a refusal, or 0; and the last number of the sequence.
-#[derive(Drop)]
+#[derive(Clone, Copy)]
 pub struct Filled {
     pub refusal: u64,
     pub last: u64,

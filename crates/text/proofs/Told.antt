@@ -61,9 +61,9 @@ module _ (f : List ℕ) {r : ℕ} (e : r ≡ read_number f) where
 -- ---- four fields
 
 module _ (line : List ℕ) (b c d e : ℕ) (h : 2 ≤ length line) (hb : b ≡ 2 + before 9 (drop 2 line)) where
-  pub one_field : b ≡ length line → NotFour line
+  pub one_field_law : b ≡ length line → NotFour line
   unfolding four_fields
-  one_field z = λ f. ap (four_fields f) (field_last line 2 b hb h z)
+  one_field_law z = λ f. ap (four_fields f) (field_last line 2 b hb h z)
 
   module _ (nb : b ≡ length line → ⊥) (hc : c ≡ b + 1 + before 9 (drop (b + 1) line)) where
     pub two_fields : c ≡ length line → NotFour line
@@ -104,8 +104,8 @@ module _ (line : List ℕ) (b c d e : ℕ) (h : 2 ≤ length line) (hb : b ≡ 2
             (field_room line (c + 1) d hd (field_room line (b + 1) c hc (field_room line 2 b hb h nb) nc) nd) ne
             ∙ ap (λ (x : List (List ℕ)). part (d + 1) e line ∷ x) q.2))
 
-        pub four_fields : e ≡ length line → Four line b c d
-        four_fields z = record {
+        pub four_fields_law : e ≡ length line → Four line b c d
+        four_fields_law z = record {
           two_b = (field_within line 2 b hb h).0;
           b_c = omega (arith, field_within line (b + 1) c hc (field_room line 2 b hb h nb));
           c_d = omega (arith, field_within line (c + 1) d hd (field_room line (b + 1) c hc (field_room line 2 b hb h nb) nc));

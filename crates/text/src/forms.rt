@@ -7,7 +7,7 @@ ghost use Rattle.text.specs.Steps.{large, Four, EndsOf, says, Placed, bounded};
 use super::fields::{LARGE, find_tab, is_digits, read_number};
 
 // What a line says, its digit fields given as places of the line.
-#[derive(Drop)]
+#[derive(Clone, Copy)]
 pub enum Form {
     Neither, // none of the three forms
     Key(u64, u64, u64, u64), // key number, n, k, w
@@ -16,7 +16,7 @@ pub enum Form {
 }
 
 // Where the first three of four fields after the letter end; found is 0 where they are not four.
-#[derive(Drop)]
+#[derive(Clone, Copy)]
 pub struct Ends {
     pub found: usize,
     pub number: usize,

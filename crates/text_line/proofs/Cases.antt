@@ -78,7 +78,8 @@ answers_largest : ((sign_answer largest 4294967295 (49 ∷ 50 ∷ []) (49 ∷ 49
     × (line_prints largest (sign_line 255 12 (49 ∷ 50 ∷ []) (49 ∷ 49 ∷ [])) ≡ sign_refused 255 12 22)
     × (line_prints none (sign_line 4294967295 12 (49 ∷ 50 ∷ []) (49 ∷ 49 ∷ [])) ≡ sign_refused 4294967295 12 20)
 unfolding line_prints_under sign_prints sign_answer_under check_answer_under answered check_refusal_under first call_refusal_under sound_under numbers_fit_under
-    planes_lengths planes_contents_under planes_refusal both_set any_to bit_at bit rows_past_end row_part past_end up_to key_part asked offered_ones offered_twos ones_of twos_of
+    planes_lengths planes_contents_under planes_refusal both_set any_to bit_at bit rows_past_end row_part past_end up_to key_part asked offered_ones
+    offered_twos ones_of twos_of
     tabulate from_bits digit_row digit_at zero_words
 answers_largest = (refl, refl, refl, refl)
 

@@ -94,11 +94,11 @@ module _ (h : Held) (ones twos : List ℕ) {p q : List ℕ} (ep : p ≡ key_part
     unfolding digits_refusal_under
     row_refusal = λ i. store_refusal (store_of h (ep i) (eq i) (ex i) (ey i))
 
-    pub row_kept : {g : Held} {o t u v : List ℕ} → g ≡ store_held (store_of h p q x y) → o ≡ store_ones (store_of h p q x y)
+    pub row_kept_law : {g : Held} {o t u v : List ℕ} → g ≡ store_held (store_of h p q x y) → o ≡ store_ones (store_of h p q x y)
         → t ≡ store_twos (store_of h p q x y)
         → u ≡ after_key h ones → v ≡ after_key h twos → holding g (o ++ u) (t ++ v) ≡ row_kept (holding h ones twos) digits
     unfolding row_kept_under
-    row_kept {g} {o} {t} {u} {v} eg eo et eu ev =
+    row_kept_law {g} {o} {t} {u} {v} eg eo et eu ev =
         (λ i. holding (eg i) (eo i ++ u) (et i ++ v))
         ∙ (λ i. let c = store_of h (ep i) (eq i) (ex i) (ey i) in holding (store_held c) (store_ones c ++ eu i) (store_twos c ++ ev i))
 

@@ -139,8 +139,8 @@ kept_same kept (sign_line number formula y s) = refl
 
 -- the answer to a line from what its form says
 module _ (kept : Holding) (l : Line) {f : Line} (e : f ≡ bounded l) where
-  pub line_kept : line_kept kept f ≡ line_kept kept l
-  line_kept = ap (line_kept kept) e ∙ kept_same kept l
+  pub line_kept_law : line_kept kept f ≡ line_kept kept l
+  line_kept_law = ap (line_kept kept) e ∙ kept_same kept l
 
   pub line_prints_here : line_prints kept f ≡ line_prints kept l
   line_prints_here = ap (line_prints kept) e ∙ prints_same kept l

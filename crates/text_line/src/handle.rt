@@ -11,14 +11,14 @@ use held_key::state::Held;
 use text::forms::Form;
 
 // What a P or a K line comes to: a refusal's number or 0, and the state after it.
-#[derive(Drop)]
+#[derive(Clone, Copy)]
 pub struct Changed {
     pub refusal: u64,
     pub held: Held,
 }
 
 // The state after a line, and how many bytes of the lent buffer are to be printed.
-#[derive(Drop)]
+#[derive(Clone, Copy)]
 pub struct Handled {
     pub held: Held,
     pub count: usize,

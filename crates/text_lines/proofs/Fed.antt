@@ -134,7 +134,8 @@ module _ {m : Machine} {p : List ℕ} (g : Gathers m p) where
 
 -- a line, and then the others
 next_line : (kept : Holding) (p t : List ℕ)
-    → answers kept (without_empty_end (p ∷ split 10 t)) ≡ line_prints kept (read_line p) ++ answers (line_kept kept (read_line p)) (without_empty_end (split 10 t))
+    → answers kept (without_empty_end (p ∷ split 10 t)) ≡ line_prints kept (read_line p) ++ answers (line_kept kept (read_line p))
+    (without_empty_end (split 10 t))
 unfolding without_empty_end answers_under
 next_line kept p t =
     let s = some_part 10 t in

@@ -22,7 +22,8 @@ lines_of text = without_empty_end (split 10 text)
 -- what lines print, one after another, where key numbers go from 0 to most
 unfoldable pub answers_under : ℕ → Holding → List (List ℕ) → List ℕ
 answers_under most kept [] = []
-answers_under most kept (line ∷ rest) = line_prints_under most kept (line_of most line) ++ answers_under most (line_kept_under most kept (line_of most line)) rest
+answers_under most kept (line ∷ rest) =
+    line_prints_under most kept (line_of most line) ++ answers_under most (line_kept_under most kept (line_of most line)) rest
 
 abbrev pub answers : Holding → List (List ℕ) → List ℕ
 answers kept lines = answers_under most_key_number kept lines

@@ -1,4 +1,6 @@
 // Lines of text about a held key, taken byte by byte.
+#![tactic(auto)]
+
 ghost use Rattle.std.specs.Prelude.{◌≡◌, length};
 ghost use Rattle.trits.specs.Rows.{put_words};
 ghost use Rattle.text.specs.Answers.{header};
@@ -8,14 +10,14 @@ ghost use Rattle.text_lines.specs.Machine.{machine, gathered, ended, stepped, st
 use held_key::state::Held;
 
 // What is held between two bytes: the length of the line so far, up to 1,025, and the module's state.
-#[derive(Drop)]
+#[derive(Clone, Copy)]
 pub struct State {
     pub len: usize,
     pub held: Held,
 }
 
 // The state after a call, and how many bytes of the lent buffer are to be printed.
-#[derive(Drop)]
+#[derive(Clone, Copy)]
 pub struct Next {
     pub state: State,
     pub count: usize,

@@ -1,8 +1,11 @@
 // The module's half for C: each call in numbers. Nothing but what a host needs is exported.
+#![tactic(auto)]
+
 ghost use Rattle.std.specs.Prelude.{◌≡◌, length};
 ghost use Rattle.packed.specs.Calls.{pack_of, pack_refusal, pack_exit, unpack_of, unpack_refusal, unpack_ones, unpack_twos};
 ghost use Rattle.packed.specs.Calls.{stream_of, stream_refusal, stream_ones, stream_twos};
-ghost use Rattle.held_key.specs.Store.{begin_refusal, begin_held, packed_store_of, store_packed_refusal, store_packed_held, store_packed_ones, store_packed_twos};
+ghost use Rattle.held_key.specs.Store.{begin_refusal, begin_held, packed_store_of};
+ghost use Rattle.held_key.specs.Store.{store_packed_refusal, store_packed_held, store_packed_ones, store_packed_twos};
 ghost use Rattle.check_tests.specs.Check.{packed_check_of, check_packed_answer, check_packed_work_ones, check_packed_work_twos};
 ghost use Rattle.shake.specs.Shake.{shake256};
 ghost use Rattle.syndrome.specs.Syndrome.{syndrome_of, syndrome_refusal, syndrome_ones, syndrome_twos};
@@ -13,7 +16,7 @@ use held_key::state::Held;
 
 // A beginning or a row in numbers.
 #[repr(C)]
-#[derive(Drop)]
+#[derive(Clone, Copy)]
 pub struct StoredNumbers {
     pub refusal: u64, // its number, or 0
     pub held: Held, // the state after the call

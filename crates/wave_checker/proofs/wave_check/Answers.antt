@@ -1,0 +1,9 @@
+-- The verdict of `check_packed`, told in numbers.
+-- Assumes nothing.
+use mathlib.Core.Path.{◌∙◌}
+use Rattle.wave_checker.proofs.wave_check.Goals as goal
+
+pub returns : goal.returns
+returns c =
+    let (answer, work_ones, work_twos) = c.check_packed.ensures in
+    (c.tell.ensures ∙ answer, work_ones, work_twos)

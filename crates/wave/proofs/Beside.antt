@@ -1,6 +1,6 @@
 -- The cases beside the stars, by computation. Assumes nothing.
 use mathlib.Core.Path.{◌≡◌, refl, sym, ap}
-use mathlib.Core.Bool.{true, false, true≢false}
+use mathlib.Core.Bool.{true, true≢false}
 use mathlib.Core.Logic.{◌⊎◌, inl, inr}
 use mathlib.Core.List.{List, [], ◌∷◌}
 use Prim.Native.Nat.{ℕ, zero, suc, ◌<◌}
@@ -28,8 +28,10 @@ use Rattle.scheme.specs.Secret.{no_zero, secret_matrix, has_zero}
 use Rattle.scheme.specs.Build.{arrange, arranged, row_of_r, build_refusal}
 use Rattle.scheme.specs.Draw.{choices_fit, placed, pivots_v, supplied_v, draw_v, pivots_u, supplied_u, draw_u, drawn, draw_refusal}
 use Rattle.calls.specs.Lent.{secret_differs, secret_refusal_under}
-use Rattle.calls.specs.BuildCall.{key_differs, build_lengths_differ, build_answer_under, order_exit_under, key_ones_of, key_twos_of, key_exit_under, build_work_exit_under}
-use Rattle.calls.specs.DrawCall.{choices_differ, draw_lengths_differ, choices_refusal_under, draw_answer_under, word_of, word_exit, word_exit_under, s_exit_under}
+use Rattle.calls.specs.BuildCall.{key_differs, build_lengths_differ, build_answer_under, order_exit_under}
+use Rattle.calls.specs.BuildCall.{key_ones_of, key_twos_of, key_exit_under, build_work_exit_under}
+use Rattle.calls.specs.DrawCall.{choices_differ, draw_lengths_differ, choices_refusal_under, draw_answer_under}
+use Rattle.calls.specs.DrawCall.{word_of, word_exit, word_exit_under, s_exit_under}
 use Rattle.calls.specs.DrawCall.{draw_work_exit_under}
 use Rattle.wave.specs.Terms.{Terms, built_key, LentSyndrome, HandsOut}
 use Rattle.wave.specs.Examples.{sizes4, secret4, start1, key1, p2, key2, y4, draw4}
@@ -148,19 +150,23 @@ unfolding any_to bit bit_at both_set past_end row_part rows_past_end planes_refu
 refused_both t = let three : ◌≡◌ {A = ℕ} 3 0 = t.contents in absurd (omega arith)
 
 not_2221 : HandsOut (sizes4 0 0 4) (draw4 start1 0 1 1 0) (vector (2 ∷ 2 ∷ 2 ∷ 1 ∷ [])) → ⊥
-unfolding dot_v any_to sum_to up_to bit from_bits bit_at trit_at tabulate ones_of twos_of both_set past_end row_part matrix_at rows_past_end first planes_refusal agree find
+unfolding dot_v any_to sum_to up_to bit from_bits bit_at trit_at tabulate ones_of twos_of both_set past_end row_part matrix_at rows_past_end first
+    planes_refusal agree find
     solve in_span keep pivots rank without fill range is_order gaps_fit sizes_fit_under pivots_v supplied_v draw_v pivots_u supplied_u draw_u drawn draw_refusal
     secret_differs has_zero secret_refusal_under choices_differ draw_lengths_differ choices_refusal_under draw_answer_under word_of word_exit_under
 not_2221 h = let other : ◌≡◌ {A = ℕ} 1 2 = ap number (h.word 1 (omega arith)) in absurd (omega arith)
 
 none_0212 : (e : Vector) → HandsOut (sizes4 0 0 4) (draw4 start1 1 0 1 0) e → ⊥
-unfolding dot_v any_to sum_to up_to bit from_bits bit_at trit_at tabulate both_set past_end row_part matrix_at rows_past_end first planes_refusal agree find solve in_span
-    keep pivots rank without fill range is_order gaps_fit sizes_fit_under pivots_v supplied_v draw_v pivots_u supplied_u draw_u drawn draw_refusal secret_differs
+unfolding dot_v any_to sum_to up_to bit from_bits bit_at trit_at tabulate both_set past_end row_part matrix_at rows_past_end first planes_refusal
+    agree find solve in_span
+    keep pivots rank without fill range is_order gaps_fit sizes_fit_under pivots_v supplied_v draw_v pivots_u supplied_u draw_u drawn draw_refusal
+    secret_differs
     has_zero secret_refusal_under choices_differ draw_lengths_differ choices_refusal_under draw_answer_under
 none_0212 e h = let fourteen : ◌≡◌ {A = ℕ} 14 0 = h.passed in absurd (omega arith)
 
 hands_2111 : HandsOut (sizes4 0 0 4) (draw4 start1 0 1 1 0) (vector (2 ∷ 1 ∷ 1 ∷ 1 ∷ []))
-unfolding dot_v any_to sum_to up_to bit from_bits bit_at trit_at tabulate ones_of twos_of both_set past_end row_part matrix_at rows_past_end first planes_refusal agree find
+unfolding dot_v any_to sum_to up_to bit from_bits bit_at trit_at tabulate ones_of twos_of both_set past_end row_part matrix_at rows_past_end first
+    planes_refusal agree find
     solve in_span keep pivots rank without fill range is_order gaps_fit sizes_fit_under pivots_v supplied_v draw_v pivots_u supplied_u draw_u drawn draw_refusal
     secret_differs has_zero secret_refusal_under choices_differ draw_lengths_differ choices_refusal_under draw_answer_under word_of word_exit_under
 hands_2111 = record { passed = refl; word = λ q h. by q (places_below q h) }
@@ -183,11 +189,16 @@ hands_2111 = record { passed = refl; word = λ q h. by q (places_below q h) }
 -- ---- all of them
 
 pub beside : Beside
-unfolding dot_v any_to sum_to up_to bit from_bits bit_at trit_at tabulate ones_of twos_of zero_words both_set past_end rows_of row_part matrix_at put_words rows_past_end
-    first planes_refusal byte_of digit_of packed_row packed_bytes bad_byte packed_past_end packed_refusal pack_refusal_under pack_exit agree find solve in_span keep
-    pivots rank without fill range is_order digit_rows times_key full_word full_counts numbers_fit_under sound_under held_row_under held_key_under begin_refusal_under
-    begun_held begin_held row_refusal_under store_packed_refusal next_held stored_held stored_plane offer offer_all call_refusal_under packed_lengths packed_contents_under
-    check_packed_refusal_under held_counts_under answered check_packed_answer_under gaps_fit sizes_fit_under no_zero secret_matrix arrange arranged row_of_r build_refusal
+unfolding dot_v any_to sum_to up_to bit from_bits bit_at trit_at tabulate ones_of twos_of zero_words both_set past_end rows_of row_part matrix_at
+    put_words rows_past_end
+    first planes_refusal byte_of digit_of packed_row packed_bytes bad_byte packed_past_end packed_refusal pack_refusal_under pack_exit agree find solve
+    in_span keep
+    pivots rank without fill range is_order digit_rows times_key full_word full_counts numbers_fit_under sound_under held_row_under held_key_under
+    begin_refusal_under
+    begun_held begin_held row_refusal_under store_packed_refusal next_held stored_held stored_plane offer offer_all call_refusal_under packed_lengths
+    packed_contents_under
+    check_packed_refusal_under held_counts_under answered check_packed_answer_under gaps_fit sizes_fit_under no_zero secret_matrix arrange arranged row_of_r
+    build_refusal
     choices_fit pivots_v supplied_v draw_v pivots_u supplied_u draw_u drawn draw_refusal secret_differs has_zero secret_refusal_under space_exit key_differs
     build_lengths_differ build_answer_under order_exit_under key_ones_of key_twos_of key_exit_under build_work_exit_under choices_differ draw_lengths_differ
     choices_refusal_under draw_answer_under word_of word_exit_under s_exit_under draw_work_exit_under built_key

@@ -16,7 +16,8 @@ use Rattle.matrix.proofs.Places.{fill_same}
 use Rattle.scheme.specs.declared.sizes.Sizes.{Sizes}
 use Rattle.scheme.specs.Sizes.{half, places, ru, rv, codim, gap_v, gap_u}
 use Rattle.scheme.specs.Secret.{Secret, join, u_of, v_of, whole}
-use Rattle.scheme.specs.Draw.{Choices, placed, first_v, pivots_v, supplied_v, draw_v, first_u, pivots_u, last_u, forced, supplied_u, draw_u, drawn, draw_refusal}
+use Rattle.scheme.specs.Draw.{Choices, placed, first_v, pivots_v, supplied_v, draw_v, first_u}
+use Rattle.scheme.specs.Draw.{pivots_u, last_u, forced, supplied_u, draw_u, drawn, draw_refusal}
 use Rattle.scheme.proofs.Ranges.{Ranges}
 use Rattle.scheme_laws.proofs.Draws.{Valid, choices_valid, Passes, passes_released, released_passes, parts, first_in, kept_v, kept_u}
 use Rattle.wave.specs.Vectors.{Releases}
@@ -39,9 +40,9 @@ module _ (z : Sizes) (s : Secret) (ch : Choices) (ra : Ranges z) (va : Valid z c
     supplied_v_here = fill_same (without (pivots_v z s ch) ch.order_v) (up_to z.kv ch.trits_v) ch.trits_v zeros
         (λ j l. upto_in ch.trits_v z.kv j (omega (arith, l, others_v)))
 
-    draw_v : (x : Vector) → draw_v z s x (cut z ch) ≡ draw_v z s x ch
+    draw_v_law : (x : Vector) → draw_v z s x (cut z ch) ≡ draw_v z s x ch
     unfolding draw_v pivots_v
-    draw_v x = ap (λ (f : Vector). or_zeros (solve (rv z) (half z) s.hv (times (half z) s.hv x) (pivots_v z s ch) f)) supplied_v_here
+    draw_v_law x = ap (λ (f : Vector). or_zeros (solve (rv z) (half z) s.hv (times (half z) s.hv x) (pivots_v z s ch) f)) supplied_v_here
 
   module _ (full : length (pivots_u z s ch) ≡ ru z) where
     first_size : length (first_u z ch) ≡ ru z + gap_u z
@@ -68,9 +69,9 @@ module _ (z : Sizes) (s : Secret) (ch : Choices) (ra : Ranges z) (va : Valid z c
         (fill (without (pivots_u z s ch) (first_u z ch)) ch.values_u zeros)
         (λ j l. ap (forced s e_v (get_or (last_u z ch) j 0)) (upto_in ch.values_u z.ku (gap_u z + j) (omega (arith, l, last_size, ra.gu_low))))
 
-    draw_u : (x e_v : Vector) → draw_u z s x e_v (cut z ch) ≡ draw_u z s x e_v ch
+    draw_u_law : (x e_v : Vector) → draw_u z s x e_v (cut z ch) ≡ draw_u z s x e_v ch
     unfolding draw_u pivots_u
-    draw_u x e_v = ap (λ (f : Vector). or_zeros (solve (ru z) (half z) s.hu (times (half z) s.hu x) (pivots_u z s ch) f)) (supplied_u_here e_v)
+    draw_u_law x e_v = ap (λ (f : Vector). or_zeros (solve (ru z) (half z) s.hu (times (half z) s.hu x) (pivots_u z s ch) f)) (supplied_u_here e_v)
 
   -- the word is the same
   drawn_cut : (p : List ℕ) (y : Vector) → length (pivots_v z s ch) ≡ rv z → length (pivots_u z s ch) ≡ ru z → (i : ℕ)
@@ -79,8 +80,8 @@ module _ (z : Sizes) (s : Secret) (ch : Choices) (ra : Ranges z) (va : Valid z c
   drawn_cut p y fv fu i =
       let x = placed p (join (codim z) y zeros) in
       let e_v = draw_v z s (v_of z s x) ch in
-      ap (λ (v : Vector). whole z s (draw_u z s (u_of z s x) v (cut z ch)) v (get_or p i 0)) (draw_v fv (v_of z s x))
-      ∙ ap (λ (u : Vector). whole z s u e_v (get_or p i 0)) (draw_u fu (u_of z s x) e_v)
+      ap (λ (v : Vector). whole z s (draw_u z s (u_of z s x) v (cut z ch)) v (get_or p i 0)) (draw_v_law fv (v_of z s x))
+      ∙ ap (λ (u : Vector). whole z s u e_v (get_or p i 0)) (draw_u_law fu (u_of z s x) e_v)
 
 -- a draw that releases a word releases it with those choices too
 module _ (z : Sizes) (s : Secret) (p : List ℕ) (y e : Vector) (ra : Ranges z) (re : Releases z s p y e) where

@@ -131,7 +131,8 @@ module _ (z : Sizes) (i : BuildCall) (b : Built z i) (gv gu w : ℕ) (l : DrawCa
   unfolding built_key
   row_is j h =
       let v : Vector = up_to (codim z) (key_row z (secret_of z i.secret) i.start j) in
-      pack_writes (codim z) (row_part (key_exit z i).ones (dim z) (key_row_words z) j) (row_part (key_exit z i).twos (dim z) (key_row_words z) j) (m.row_bytes j)
+      pack_writes (codim z) (row_part (key_exit z i).ones (dim z) (key_row_words z) j) (row_part (key_exit z i).twos (dim z) (key_row_words z) j)
+      (m.row_bytes j)
       few_codim
       (ap length (sym (built_ones z i b j h)) ∙ length_ones v (key_row_words z)) (ap length (sym (built_twos z i b j h)) ∙ length_twos v (key_row_words z))
       (m.row_bytes_size j h)

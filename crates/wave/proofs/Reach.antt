@@ -240,7 +240,8 @@ module _ (z : Sizes) (s : Secret) (order : List ℕ) (y e : Vector) (bu : Builds
         order_v = order_v_f;
         trits_v = λ j. e_v_f (get_or (without (pivots (rv z) (half z) s.hv (take (rv z + gap_v z) order_v_f)) order_v_f) j 0);
         order_u = order_u_f;
-        values_u = λ j. cond (ltb j (gap_u z)) (e_u_f (get_or (without (pivots (ru z) (half z) s.hu first_f) first_f) j 0)) (pair_f (get_or pairs_f (j - gap_u z) 0));
+        values_u = λ j. cond (ltb j (gap_u z)) (e_u_f (get_or (without (pivots (ru z) (half z) s.hu first_f) first_f) j 0))
+            (pair_f (get_or pairs_f (j - gap_u z) 0));
       }
 
   order_v_f_good : Order (half z) order_v_f

@@ -31,7 +31,8 @@ use Rattle.scheme.proofs.Zeros.{has_zero_of}
 use Rattle.scheme_laws.proofs.Draws.{Valid}
 use Rattle.calls.specs.Lent.{secret_of, secret_differs, secret_refusal, secret_refusal_under}
 use Rattle.calls.specs.BuildCall.{BuildCall, key_row_words, order_exit, order_exit_under, key_ones_of, key_twos_of, key_exit, key_exit_under}
-use Rattle.calls.specs.DrawCall.{DrawCall, choices_of, draw_work_words, draw_lengths_differ, draw_answer, word_of, word_exit, word_exit_under, s_exit, s_exit_under}
+use Rattle.calls.specs.DrawCall.{DrawCall, choices_of, draw_work_words, draw_lengths_differ, draw_answer}
+use Rattle.calls.specs.DrawCall.{word_of, word_exit, word_exit_under, s_exit, s_exit_under}
 use Rattle.wave.specs.Terms.{Built, built_key, LentSyndrome, LentAs, Under, HandsOut, Bits, SomeDraw, KeyTerms}
 use Rattle.wave.specs.Vectors.{Released, Releases}
 use Rattle.wave.proofs.Written.{written_back, written_passes, ones_words, twos_words, zero_words_law, rows_part}

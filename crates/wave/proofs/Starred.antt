@@ -37,12 +37,14 @@ use Rattle.wave.proofs.ReachCalls.{handed_signature, drawn_terms}
 -- ---- the first key as a call, by computation
 
 first_built : build_answer (sizes4 0 0 4) (build4 start1) ≡ 0
-unfolding dot_v any_to bit bit_at trit_at both_set past_end row_part matrix_at rows_past_end first planes_refusal agree find solve in_span keep pivots rank range
+unfolding dot_v any_to bit bit_at trit_at both_set past_end row_part matrix_at rows_past_end first planes_refusal agree find solve in_span keep
+    pivots rank range
     is_order gaps_fit sizes_fit_under build_refusal secret_differs has_zero secret_refusal_under key_differs build_lengths_differ build_answer_under
 first_built = refl
 
 first_order : order_exit (sizes4 0 0 4) (build4 start1) ≡ start1
-unfolding dot_v any_to bit bit_at trit_at both_set past_end row_part matrix_at rows_past_end first planes_refusal agree find solve in_span keep pivots rank range
+unfolding dot_v any_to bit bit_at trit_at both_set past_end row_part matrix_at rows_past_end first planes_refusal agree find solve in_span keep
+    pivots rank range
     is_order gaps_fit sizes_fit_under secret_matrix arrange arranged build_refusal secret_differs has_zero secret_refusal_under key_differs build_lengths_differ
     build_answer_under order_exit_under
 first_order = refl
@@ -80,12 +82,17 @@ never gu one gv l u d s1 s2 =
 -- ---- the table
 
 pub starred : Starred
-unfolding dot_v any_to sum_to up_to bit from_bits bit_at trit_at tabulate ones_of twos_of zero_words both_set past_end rows_of row_part matrix_at rows_past_end first
-    planes_refusal byte_of digit_of packed_row packed_bytes bad_byte packed_past_end packed_refusal pack_refusal_under pack_exit unpack_refusal unpack_ones unpack_twos
+unfolding dot_v any_to sum_to up_to bit from_bits bit_at trit_at tabulate ones_of twos_of zero_words both_set past_end rows_of row_part matrix_at
+    rows_past_end first
+    planes_refusal byte_of digit_of packed_row packed_bytes bad_byte packed_past_end packed_refusal pack_refusal_under pack_exit unpack_refusal unpack_ones
+    unpack_twos
     agree find solve in_span keep pivots rank without fill range is_order digit_rows times_key full_word full_counts says_yes numbers_fit_under sound_under
-    held_row_under held_key_under call_refusal_under packed_lengths packed_contents_under check_packed_refusal_under held_counts_under answered check_packed_answer_under
-    gaps_fit sizes_fit_under secret_matrix arrange arranged row_of_r build_refusal pivots_v supplied_v draw_v pivots_u supplied_u draw_u drawn draw_refusal secret_differs
-    has_zero secret_refusal_under space_exit key_differs build_lengths_differ build_answer_under order_exit_under key_ones_of key_twos_of key_exit_under build_work_exit_under
+    held_row_under held_key_under call_refusal_under packed_lengths packed_contents_under check_packed_refusal_under held_counts_under answered
+    check_packed_answer_under
+    gaps_fit sizes_fit_under secret_matrix arrange arranged row_of_r build_refusal pivots_v supplied_v draw_v pivots_u supplied_u draw_u drawn draw_refusal
+    secret_differs
+    has_zero secret_refusal_under space_exit key_differs build_lengths_differ build_answer_under order_exit_under key_ones_of key_twos_of key_exit_under
+    build_work_exit_under
     choices_differ draw_lengths_differ choices_refusal_under draw_answer_under word_of word_exit_under s_exit_under draw_work_exit_under
 starred = record {
   packs_88 = refl;

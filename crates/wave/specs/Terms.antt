@@ -93,12 +93,12 @@ pub record Lendable (l : DrawCall) : Type 0 where
   pub work_twos : Bits 64 l.work.twos
 
 -- some draw under the key releases e for y, with any V order, V trits, U order and U values
-pub record SomeDraw (z : Sizes) (i : BuildCall) (gv gu w : ℕ) (y_ones y_twos : List ℕ) (e : Vector) : Type 0 where
+pub record SomeDraw (z : Sizes) (i : BuildCall) (gv gu w : ℕ) (ones twos : List ℕ) (e : Vector) : Type 0 where
   pub call : DrawCall
   pub lendable : Lendable call
   pub under : Under z i call
-  pub y_ones : call.y.ones ≡ y_ones
-  pub y_twos : call.y.twos ≡ y_twos
+  pub y_ones : call.y.ones ≡ ones
+  pub y_twos : call.y.twos ≡ twos
   pub releases : HandsOut (sized z gv gu w) call e
 
 -- the terms of the word e for y under that key, at that g_U and w

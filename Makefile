@@ -4,10 +4,10 @@
 
 PREFIX ?= /usr/local
 HALVES := wave_checker wave_signer
-CODE := crates.txt $(shell find crates -name '*.rt')
+CODE := crates.txt $(shell find crates -name out -prune -o -name '*.rt' -print)
 
 run:
-	rt check sign_lines check_lines
+	tests/programs sign_lines check_lines
 	target/bin/sign_lines | target/bin/check_lines
 	target/bin/sign_lines | sed '$$s/1$$/2/' | target/bin/check_lines
 

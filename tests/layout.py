@@ -9,8 +9,8 @@ import sys
 
 WIDEST = 160
 LONGEST = 6
-PATH = re.compile(r'(?:\s+\.before\b){%d,}' % (LONGEST + 1))
-ANSWER = re.compile(r'^\S+ : tie\.Need-', re.M)
+PATH = re.compile(r'(?:\s*\.before\b){%d,}' % (LONGEST + 1))
+ANSWER = re.compile(r'^(?:pub )?\S+ : (?:goal\.|tie\.Need-)', re.M)
 HELPER = re.compile(r'^(?:abbrev )?\S+ : (?:\(\S+ : )?tie\.', re.M)
 
 
@@ -63,7 +63,7 @@ SOUND = (
 
 def files():
     for folder, below, names in os.walk('.'):
-        below[:] = sorted(d for d in below if d not in ('.git', 'target'))
+        below[:] = sorted(d for d in below if d not in ('.git', 'target', 'out'))
         for name in sorted(names):
             if name.endswith(('.rt', '.antt', '.md')):
                 yield os.path.join(folder, name)

@@ -2,7 +2,7 @@
 
 # an archive of this crate, no older than the code
 need_archive() {
-    if [ ! -e "target/staticlib/lib$1.a" ] || [ -n "$(find crates crates.txt \( -name '*.rt' -o -name crates.txt \) -newer "target/staticlib/lib$1.a")" ]; then
+    if [ ! -e "target/staticlib/lib$1.a" ] || [ -n "$(find crates crates.txt -name out -prune -o \( -name '*.rt' -o -name crates.txt \) -newer "target/staticlib/lib$1.a" -print)" ]; then
         echo "$0: target/staticlib/lib$1.a is missing or older than the code: run tests/archives first"
         exit 1
     fi
@@ -11,7 +11,7 @@ need_archive() {
 # a program
 need_program() {
     if [ ! -x "target/bin/$1" ]; then
-        echo "$0: target/bin/$1 is missing: run rt check $1 first"
+        echo "$0: target/bin/$1 is missing: run tests/programs $1 first"
         exit 1
     fi
 }

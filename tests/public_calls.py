@@ -17,7 +17,7 @@ NOT_OF_THE_PRODUCT = ('bench', 'bench_check')
 def heads(path):
     """Each public function of a file: its name, and its text up to its body."""
     text = open(path, encoding='utf-8').read()
-    for found in re.finditer(r'^(#\[no_mangle\]\n)?pub (?:extern "C" )?fn (\w+)', text, re.M):
+    for found in re.finditer(r'^(#\[unsafe\(no_mangle\)\]\n)?pub (?:extern "C" )?fn (\w+)', text, re.M):
         body = re.search(r'\n\{\n', text[found.end():])
         yield found.group(2), bool(found.group(1)), text[found.start():found.end() + body.start()]
 
@@ -30,7 +30,7 @@ def faults_of(head):
     if not clauses:
         yield 'has no ensures'
     for name in re.findall(r'\b(\w+): &(?:\'\w+ )?mut ', head):
-        if not re.search(r'now \(«?%s»? \.exit\)' % name, clauses):
+        if not re.search(r'(?<![\w.])«?%s»?\.new\b' % name, clauses):
             yield 'does not say what %s is at exit' % name
 
 

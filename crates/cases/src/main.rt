@@ -7,6 +7,7 @@ ghost use Rattle.std.specs.Prelude.{◌≡◌, ◌+◌, ◌-◌, ◌*◌, ◌%�
 ghost use Rattle.trits.specs.Planes.{tabulate};
 
 use std::io;
+use trits::Planes;
 
 // Bytes 3, 10, 17 and so on, modulo 243, and 1 at the end, are unpacked into planes that hold other words, and packed again.
 fn there_and_back(
@@ -20,7 +21,7 @@ fn there_and_back(
     fill(bytes);
     end_in_one(bytes);
     show::unpack(rt, m, bytes, ones, twos)?;
-    show::pack(rt, m, ones, twos, out)
+    show::pack(rt, m, Planes { ones, twos }, out)
 }
 
 // The same for a row of m trits.
@@ -48,12 +49,10 @@ fn round_trip(rt: &impl Print, m: usize) -> io::Result<()> {
 fn fill(bytes: &mut [u8])
     ensures { bytes.new ≡ tabulate (λ j. (7 * j + 3) % 243) (length bytes.old) }
 {
-    let mut j = 0;
     let mut x: u8 = 3;
-    while j < bytes.len() {
-        bytes[j] = x;
+    for byte in bytes.iter_mut() {
+        *byte = x;
         x = next(x);
-        j += 1;
     }
 }
 
@@ -62,10 +61,9 @@ fn end_in_one(bytes: &mut [u8])
     ensures { bytes.new ≡ set bytes.old (length bytes.old - 1) 1 }
 {
     let count = bytes.len();
-    if count == 0 {
-        return;
+    if count > 0 {
+        bytes[count - 1] = 1;
     }
-    bytes[count - 1] = 1;
 }
 
 // Seven more, modulo 243.
@@ -73,15 +71,23 @@ fn next(x: u8) -> u8
     requires { x < 243 }
     ensures { result ≡ (x + 7) % 243 }
 {
-    if x < 236 {
-        return x + 7;
-    }
-    x - 236
+    if x < 236 { x + 7 } else { x - 236 }
+}
+
+// A row in these planes is packed into these bytes.
+fn pack_words(
+    rt: &impl Print,
+    m: usize,
+    ones: &[u64],
+    twos: &[u64],
+    bytes: &mut [u8],
+) -> io::Result<()> {
+    show::pack(rt, m, Planes { ones, twos }, bytes)
 }
 
 // One word of each plane is packed into one byte.
 fn pack_word(rt: &impl Print, m: usize, one: u64, two: u64) -> io::Result<()> {
-    show::pack(rt, m, &[one], &[two], &mut [9])
+    pack_words(rt, m, &[one], &[two], &mut [9])
 }
 
 // One byte is unpacked into one word of each plane.
@@ -99,7 +105,7 @@ fn pack_edges(rt: &impl Print) -> io::Result<()> {
     pack_word(rt, 5, 17, 2)?;
     pack_word(rt, 5, 0, 31)?;
     pack_word(rt, 4, 0, 15)?;
-    show::pack(rt, 6, &[0], &[63], &mut [9, 9])?;
+    pack_words(rt, 6, &[0], &[63], &mut [9, 9])?;
     pack_word(rt, 1, 0, 1)
 }
 
@@ -114,17 +120,11 @@ fn unpack_edges(rt: &impl Print) -> io::Result<()> {
 // What pack refuses: sizes and each length.
 fn pack_lengths(rt: &impl Print) -> io::Result<()> {
     pack_word(rt, 16385, 0, 0)?;
-    show::pack(rt, 5, &[0, 0], &[0], &mut [9])?;
-    show::pack(rt, 5, &[0], &[0, 0], &mut [9])?;
-    show::pack(rt, 5, &[0], &[0], &mut [9, 9])?;
+    pack_words(rt, 5, &[0, 0], &[0], &mut [9])?;
+    pack_words(rt, 5, &[0], &[0, 0], &mut [9])?;
+    pack_words(rt, 5, &[0], &[0], &mut [9, 9])?;
     pack_word(rt, 6, 0, 0)?;
-    show::pack(
-        rt,
-        65,
-        &[0],
-        &[0, 0],
-        &mut [9, 9, 9, 9, 9, 9, 9, 9, 9, 9, 9, 9, 9],
-    )
+    pack_words(rt, 65, &[0], &[0, 0], &mut [9; 13])
 }
 
 // And a bit in both planes, a bit past the length, and which comes first.
@@ -158,16 +158,10 @@ fn unpack_contents(rt: &impl Print) -> io::Result<()> {
 
 // Every last byte, at every number of trits in it: alone, and after another byte.
 fn last_bytes(rt: &impl Print) -> io::Result<()> {
-    show::last_bytes(rt, 1)?;
-    show::last_bytes(rt, 2)?;
-    show::last_bytes(rt, 3)?;
-    show::last_bytes(rt, 4)?;
-    show::last_bytes(rt, 5)?;
-    show::last_bytes(rt, 6)?;
-    show::last_bytes(rt, 7)?;
-    show::last_bytes(rt, 8)?;
-    show::last_bytes(rt, 9)?;
-    show::last_bytes(rt, 10)
+    for m in 1..=10 {
+        show::last_bytes(rt, m)?;
+    }
+    Ok(())
 }
 
 // Streams: skipped bytes, a last byte that gives less, whatever its other trits are, bytes that are not looked at.
@@ -209,13 +203,8 @@ fn main(rt: HostRuntime) -> io::Result<()> {
     streams(&rt)?;
     short_streams(&rt)?;
     stream_lengths(&rt)?;
-    round_trip(&rt, 0)?;
-    round_trip(&rt, 1)?;
-    round_trip(&rt, 4)?;
-    round_trip(&rt, 5)?;
-    round_trip(&rt, 6)?;
-    round_trip(&rt, 63)?;
-    round_trip(&rt, 64)?;
-    round_trip(&rt, 65)?;
-    round_trip(&rt, 16384)
+    for m in [0, 1, 4, 5, 6, 63, 64, 65, 16384] {
+        round_trip(&rt, m)?;
+    }
+    Ok(())
 }

@@ -13,11 +13,9 @@ fn fill(message: &mut [u8])
     ensures { message.new ≡ tabulate (λ i. (7 * i + length message.old) % 256) (length message.old) }
 {
     let mut x = message.len() % 256;
-    let mut i = 0;
-    while i < message.len() {
-        message[i] = x as u8;
+    for byte in message.iter_mut() {
+        *byte = x as u8;
         x = (x + 7) % 256;
-        i += 1;
     }
 }
 
@@ -43,16 +41,6 @@ fn made(rt: &impl Print, length: usize) -> io::Result<()> {
     made_in(rt, &mut message[0..length])
 }
 
-// All made messages from the first length on, and below the last.
-fn all_made(rt: &impl Print, first: usize, last: usize) -> io::Result<()> {
-    let mut length = first;
-    while length < last {
-        made(rt, length)?;
-        length += 1;
-    }
-    Ok(())
-}
-
 // The syndrome of m trits of the made message in the bytes that are lent.
 fn syndrome_in(rt: &impl Print, m: usize, text: &mut [u8]) -> io::Result<()> {
     fill(text);
@@ -70,44 +58,22 @@ fn syndrome(rt: &impl Print, m: usize) -> io::Result<()> {
 
 // Outputs of one message, up to the edges of blocks and past them.
 fn outputs(rt: &impl Print) -> io::Result<()> {
-    show::output(rt, 1)?;
-    show::output(rt, 8)?;
-    show::output(rt, 31)?;
-    show::output(rt, 32)?;
-    show::output(rt, 33)?;
-    show::output(rt, 64)?;
-    show::output(rt, 135)?;
-    show::output(rt, 136)?;
-    show::output(rt, 137)?;
-    show::output(rt, 200)?;
-    show::output(rt, 271)?;
-    show::output(rt, 272)?;
-    show::output(rt, 273)?;
-    show::output(rt, 300)?;
-    show::output(rt, 408)?;
-    show::output(rt, 409)?;
-    show::output(rt, 544)?;
-    show::output(rt, 545)?;
-    show::output(rt, 600)
+    for n in [
+        1, 8, 31, 32, 33, 64, 135, 136, 137, 200, 271, 272, 273, 300, 408, 409, 544, 545, 600,
+    ] {
+        show::output(rt, n)?;
+    }
+    Ok(())
 }
 
 // Syndromes of none, of few trits, at the edges of words and of blocks.
 fn syndromes(rt: &impl Print) -> io::Result<()> {
-    syndrome(rt, 0)?;
-    syndrome(rt, 1)?;
-    syndrome(rt, 4)?;
-    syndrome(rt, 5)?;
-    syndrome(rt, 6)?;
-    syndrome(rt, 63)?;
-    syndrome(rt, 64)?;
-    syndrome(rt, 65)?;
-    syndrome(rt, 128)?;
-    syndrome(rt, 200)?;
-    syndrome(rt, 639)?;
-    syndrome(rt, 640)?;
-    syndrome(rt, 641)?;
-    syndrome(rt, 700)?;
-    syndrome(rt, 1000)
+    for m in [
+        0, 1, 4, 5, 6, 63, 64, 65, 128, 200, 639, 640, 641, 700, 1000,
+    ] {
+        syndrome(rt, m)?;
+    }
+    Ok(())
 }
 
 fn main(rt: HostRuntime) -> io::Result<()> {
@@ -115,9 +81,9 @@ fn main(rt: HostRuntime) -> io::Result<()> {
         "what SHAKE256 and the syndrome call make; expected by tests/hash_cases.py, from Python's hashlib"
     )?;
     published(&rt)?;
-    all_made(&rt, 0, 421)?;
-    all_made(&rt, 539, 549)?;
-    made(&rt, 1000)?;
+    for length in (0..421).chain(539..549).chain(1000..1001) {
+        made(&rt, length)?;
+    }
     outputs(&rt)?;
     syndromes(&rt)
 }

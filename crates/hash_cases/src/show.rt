@@ -1,21 +1,12 @@
 // A call, and a line that says what it made.
-ghost use Rattle.std.specs.Prelude.{◌≡◌};
-
 use std::io;
-
-fn wide(x: u8) -> u64
-    ensures { result ≡ x }
-{
-    x as u64
-}
+use trits::Planes;
 
 // Bytes in hex, a blank before them and the line's end after them.
 fn hex(rt: &impl Print, bytes: &[u8]) -> io::Result<()> {
     print!(rt; " ")?;
-    let mut i = 0;
-    while i < bytes.len() {
-        print!(rt; "{:02x}", wide(bytes[i]))?;
-        i += 1;
+    for b in bytes {
+        print!(rt; "{b:02x}")?;
     }
     println!(rt; "")
 }
@@ -41,10 +32,7 @@ fn output_in(rt: &impl Print, output: &mut [u8]) -> io::Result<()> {
     shake::shake256(&[163; 100], output);
     let n = output.len();
     print!(rt; "out {n}")?;
-    if n < 8 {
-        return hex(rt, output);
-    }
-    hex(rt, &output[n - 8..])
+    hex(rt, &output[n.saturating_sub(8)..])
 }
 
 // The same for n bytes of output, up to 600.
@@ -57,18 +45,13 @@ pub fn output(rt: &impl Print, n: usize) -> io::Result<()> {
 }
 
 // A row of m trits in digits, a blank before them and the line's end after them.
-fn digits(rt: &impl Print, m: usize, ones: &[u64], twos: &[u64]) -> io::Result<()> {
+fn digits(rt: &impl Print, m: usize, row: Planes) -> io::Result<()> {
     print!(rt; " ")?;
-    let mut i = 0;
-    while i < m {
-        if i / 64 >= ones.len() {
+    for i in 0..m {
+        if i / 64 >= row.ones.len() || row.ones.len() != row.twos.len() {
             return Ok(());
         }
-        if ones.len() != twos.len() {
-            return Ok(());
-        }
-        print!(rt; "{}", wide(planes::places::trit_at(ones, twos, i)))?;
-        i += 1;
+        print!(rt; "{}", planes::places::trit_at(row, i))?;
     }
     println!(rt; "")
 }
@@ -81,9 +64,9 @@ fn syndrome_in(
     ones: &mut [u64],
     twos: &mut [u64],
 ) -> io::Result<()> {
-    syndrome::syndrome(m, &[90; 32], text, ones, twos);
+    let _ = syndrome::syndrome(m, &[90; 32], text, ones, twos);
     print!(rt; "y {m}")?;
-    digits(rt, m, ones, twos)
+    digits(rt, m, Planes { ones, twos })
 }
 
 // The same, m up to 1,000.

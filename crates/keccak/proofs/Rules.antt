@@ -1,15 +1,19 @@
 -- What the standard's rules make: a lane rotated by shifts, offsets below 64, a walk that meets each place but (0, 0) once. Assumes nothing.
 use mathlib.Core.Path.{◌≡◌, refl, sym, ap, ap₂, ◌∙◌}
+use mathlib.Core.Logic.{◌≢◌}
 use mathlib.Core.List.{List}
 use mathlib.Core.Bool.{Bool, ◌&&◌, cond, true, false, not}
 use Prim.Native.Nat.{ℕ, zero, suc, ◌+◌, ◌-◌, ◌*◌, ◌/◌, ◌%◌, ◌^◌, ◌<◌}
-use native.Mathlib.Nat.{mod-lt, mod-eq_of_lt, div-eq_of_lt, mul-one, mul-mod_left, add-zero}
+use native.Mathlib.Nat.{mod-lt, mod-eq_of_lt, div-eq_of_lt, mul-one, mul-mod_left, add-zero, div-one}
 use native.Mathlib.Decide.{ℕ_discrete}
 use native.Mathlib.Omega.{arith}
 use borrow.Author.Tests.{eqb-true, not-false, eq-eqb, ne_eqb}
 use lib.Bits.{bit_or, bit_xor, or_shifted}
 use lib.Dec.{eqb, lit<}
 use lib.ListN.{get_or}
+use mir.Syntax.{w64}
+use Rattle.std.specs.Int.{rotate_left}
+use Rattle.std.specs.Int.Bits.{or_self}
 use lib.Pow.{shl-shr, shr_lt, mod-pow-add}
 use Rattle.trits.specs.Trit.{any_to}
 use Rattle.trits.proofs.Lists.{get_d_tabulate}
@@ -44,6 +48,22 @@ module _ (lane k : ℕ) (hk : k < 64) (h : lane < 2 ^ 64) where
   rotated_by_shifts =
       ap (λ (a : ℕ). bit_or a (lane / 2 ^ (64 - k))) moved_up ∙ or_shifted (lane % 2 ^ (64 - k)) k (lane / 2 ^ (64 - k)) come_back
       ∙ ap (λ (a : ℕ). a + lane / 2 ^ (64 - k)) (sym moved_up)
+
+-- both are what the library's rotation makes: at 0 the two are the lane, and else they stand beside each other
+pub rotated_left : (lane k : ℕ) → k < 64 → lane < 2 ^ 64 → rotate_left w64 lane k ≡ rotated lane k
+rotated_left lane k hk h = by (ℕ_discrete k 0)
+  where
+    by : Dec (k ≡ 0) → rotate_left w64 lane k ≡ rotated lane k
+    by (yes e) =
+        let none : bit_or (lane * 1 % 2 ^ 64) (lane / 1) ≡ lane =
+        ap₂ bit_or (ap (λ (a : ℕ). a % 2 ^ 64) (mul-one lane) ∙ mod-eq_of_lt h) (div-one lane) ∙ or_self lane in
+        ap (λ (i : ℕ). rotate_left w64 lane i) e ∙ none ∙ not_rotated lane e h
+    by (no f) =
+        let up : k % 64 ≡ k = mod-eq_of_lt hk in
+        let back : (64 - k) % 64 ≡ 64 - k = let n : k ≢ 0 = f in omega arith in
+        ap (λ (i : ℕ). bit_or (lane * 2 ^ i % 2 ^ 64) (lane / 2 ^ ((64 - i) % 64))) up
+        ∙ ap (λ (i : ℕ). bit_or (lane * 2 ^ k % 2 ^ 64) (lane / 2 ^ i)) back
+        ∙ rotated_by_shifts lane k hk h
 
 -- ---- the constant comes to one lane alone
 

@@ -25,11 +25,9 @@ pub fn permute(a: [[u64; 5]; 5]) -> [[u64; 5]; 5]
 {
     let constants = tables::round_constants();
     let mut b = a;
-    let mut i = 0;
-    while i < 24 {
-        let next = round(b, constants[i]);
+    for constant in &constants {
+        let next = round(b, *constant); // an array that a call makes gets a name before it is stored
         b = next;
-        i += 1;
     }
     b
 }

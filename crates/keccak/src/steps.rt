@@ -1,4 +1,5 @@
 // The five steps of a round, each on a whole state; a sheet is the array of the lanes at one x.
+// Five lanes and five sheets are written out: a function that takes a closure for them is no plainer, each closure repeating `requires { x < 5 }`.
 ghost use Rattle.std.specs.Prelude.{◌≡◌, ◌<◌};
 ghost use Rattle.keccak.specs.Keccak.{rotated, parity, two_parities, theta, rho, pi, chi, iota};
 ghost use Rattle.keccak.specs.Lanes.{lane_at, sheet_of, lanes_of};
@@ -8,10 +9,7 @@ fn rotate(lane: u64, k: u32) -> u64
     requires { k < 64 }
     ensures { result ≡ rotated lane k }
 {
-    if k == 0 {
-        return lane;
-    }
-    (lane << k) | (lane >> (64 - k))
+    lane.rotate_left(k)
 }
 
 // The parity of the columns at x.
@@ -171,9 +169,10 @@ fn iota_lane(a: [[u64; 5]; 5], constant: u64, x: usize, y: usize) -> u64
     ensures { result ≡ iota constant (lane_at a) x y }
 {
     if x + y == 0 {
-        return a[x][y] ^ constant;
+        a[x][y] ^ constant
+    } else {
+        a[x][y]
     }
-    a[x][y]
 }
 
 // The lanes at x after iota.

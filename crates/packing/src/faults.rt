@@ -1,40 +1,21 @@
 // The tests for 5, 15 and 6: a packed byte above 242, a nonzero trit past the length, and a stream that ends too soon.
-ghost use Rattle.std.specs.Prelude.{◌≡◌, false, ◌^◌, ◌<◌, length};
+ghost use Rattle.std.specs.Prelude.{◌≡◌, false, length};
 ghost use Rattle.trits.specs.Refusal.{code_of};
 ghost use Rattle.packed.specs.Packed.{bytes_for, bad_byte, packed_past_end, packed_refusal};
 ghost use Rattle.packed.specs.Stream.{too_short};
 ghost use Rattle.packed.specs.Steps.{missing};
 
-use trits::refusal::{Outcome, Refusal};
+use trits::refusal::Refusal;
 
 // Whether a byte is above 242.
 pub fn bad_byte(bytes: &[u8]) -> bool
     ensures { result ≡ bad_byte bytes.now }
 {
     let mut bad = false;
-    let mut i = 0;
-    while i < bytes.len() {
-        bad = bad | (bytes[i] > 242);
-        i += 1;
+    for b in bytes {
+        bad |= *b > 242;
     }
     bad
-}
-
-// 3 to the power of a number of trits: the first byte with a nonzero trit past so many.
-fn power(trits: usize) -> u8
-    requires { (0 < trits) × (trits < 5) }
-    ensures { result ≡ 3 ^ trits }
-{
-    if trits == 1 {
-        return 3;
-    }
-    if trits == 2 {
-        return 9;
-    }
-    if trits == 3 {
-        return 27;
-    }
-    81
 }
 
 // Whether a trit past the length is not 0, in the bytes of m trits: the last byte tells it.
@@ -46,21 +27,21 @@ fn packed_past_end(m: usize, bytes: &[u8]) -> bool
     if used == 0 {
         return false;
     }
-    bytes[m / 5] >= power(used)
+    bytes[m / 5] >= 3u8.pow(used as u32)
 }
 
 // The contents of a packed row of m trits: a byte above 242, over the whole buffer, before a trit past the length.
-pub fn test_bytes(m: usize, bytes: &[u8]) -> Outcome
+pub fn test_bytes(m: usize, bytes: &[u8]) -> Result<(), Refusal>
     requires { length bytes.now ≡ bytes_for m }
     ensures { code_of result ≡ packed_refusal m bytes.now }
 {
     if bad_byte(bytes) {
-        return Outcome::Refused(Refusal::PackedByte);
+        return Err(Refusal::PackedByte);
     }
     if packed_past_end(m, bytes) {
-        return Outcome::Refused(Refusal::PackedPastEnd);
+        return Err(Refusal::PackedPastEnd);
     }
-    Outcome::Done
+    Ok(())
 }
 
 // How many trits are missing after one more byte.
@@ -68,12 +49,10 @@ pub fn count_byte(left: usize, b: u8) -> usize
     ensures { result ≡ missing left b }
 {
     if b > 242 {
-        return left;
+        left
+    } else {
+        left.saturating_sub(5)
     }
-    if left < 5 {
-        return 0;
-    }
-    left - 5
 }
 
 // Whether the stream ends before m trits.
@@ -81,13 +60,11 @@ pub fn too_short(m: usize, bytes: &[u8]) -> bool
     ensures { result ≡ too_short m bytes.now }
 {
     let mut left = m;
-    let mut i = 0;
-    while i < bytes.len() {
+    for b in bytes {
         if left == 0 {
             return false;
         }
-        left = count_byte(left, bytes[i]);
-        i += 1;
+        left = count_byte(left, *b);
     }
     left != 0
 }

@@ -2,25 +2,29 @@
 use mathlib.Core.Path.{◌≡◌, refl, ap, ◌∙◌}
 use mathlib.Core.List.{List}
 use Prim.Native.Nat.{ℕ, ◌+◌, ◌-◌, ◌*◌, ◌/◌, ◌%◌, ◌^◌, ◌≤◌, ◌<◌}
+use native.Mathlib.Decide.{dec_lt}
 use native.Mathlib.Omega.{arith}
 use lib.Bits.{bit_or}
 use lib.ListN.{length, set}
 use Rattle.trits.specs.Trit.{Trit, one, two}
 use Rattle.trits.specs.Planes.{ones_of, twos_of, words_for, Reads}
 use Rattle.trits.proofs.Reading.{one_lt, two_lt, holds_reads}
-use Rattle.packed.specs.Stream.{stream_row}
+use Rattle.packed.specs.Stream.{kept, stream_row}
 use Rattle.packed.proofs.Pieces.{piece_ones, piece_twos, plane_none, plane_begun, plane_full, plane_ended, plane_rest}
-use Rattle.packed.proofs.Putting.{stream_ended}
+use Rattle.packed.proofs.Putting.{Stands, stands_more, stands_all, stream_ended}
 use Rattle.placing.specs.Steps.{Written, Appended, Finished}
 use Rattle.placing.specs.declared.writer.Writer.{Writer}
 
--- nothing is written
-pub none_written : (v : ℕ → Trit) (ones twos : List ℕ) → length twos ≡ length ones
-    → Written v (length ones) ones twos (record { at = 0; ones = 0; twos = 0 })
-none_written v ones twos e = record {
-  in_ones = plane_none (λ p. one (v p)) (λ p. one_lt (v p)) (length ones) ones refl;
-  in_twos = plane_none (λ p. two (v p)) (λ p. two_lt (v p)) (length ones) twos e;
-}
+-- nothing is written: w is as it is by default
+pub none_written : (v : ℕ → Trit) (ones twos : List ℕ) {w : Writer} → length twos ≡ length ones → (w.at ≡ 0) × ((w.ones ≡ 0) × (w.twos ≡ 0))
+    → Written v (length ones) ones twos w
+none_written v ones twos {w} e d =
+    let at = d.0 in
+    let in_ones = d.1.0 in
+    let in_twos = d.1.1 in record {
+      in_ones = rw (at, in_ones) (plane_none (λ p. one (v p)) (λ p. one_lt (v p)) (length ones) ones refl);
+      in_twos = rw (at, in_twos) (plane_none (λ p. two (v p)) (λ p. two_lt (v p)) (length ones) twos e);
+    }
 
 -- ---- a piece appended
 
@@ -81,6 +85,16 @@ module _ (ones twos : List ℕ) (w : Writer) (last : 64 * length ones < w.at + 6
           (omega (arith, l, s.in_ones.size));
     };
   }
+
+-- ---- a stream
+
+-- at the end of a stream that gives enough
+pub stands_end : {m : ℕ} {bytes : List ℕ} {at i : ℕ} → Stands m bytes at i → length bytes ≤ i → m ≤ 5 * length (kept bytes) → at ≡ m
+stands_end {m} {bytes} {at} {i} s e h = by (dec_lt at m)
+  where
+    by : Dec (at < m) → at ≡ m
+    by (yes l) = absurd (omega (arith, stands_more s l h))
+    by (no f) = stands_all s (omega arith)
 
 -- a row of m trits of a stream, all of them written and the row finished
 pub stream_read : {ones twos ones_after twos_after : List ℕ} {n : ℕ} {w : Writer} (m : ℕ) (bytes : List ℕ) → n ≡ words_for m → w.at ≡ m

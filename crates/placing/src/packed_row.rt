@@ -1,4 +1,5 @@
-// A row written from packed bytes, six at a time.
+// A row written from packed bytes, six at a time. Its two planes are lent apart, since both are written.
+// A row that is written stays two slices: it is a stretch of each plane, and of a slice the length and the ranges of words are known with no clause.
 ghost use Rattle.std.specs.Prelude.{◌≡◌, ◌+◌, ◌-◌, ◌*◌, ◌%◌, ◌≤◌, length};
 ghost use Rattle.trits.specs.Planes.{Reads};
 ghost use Rattle.packed.specs.Packed.{packed_row};
@@ -6,7 +7,7 @@ ghost use Rattle.packed.specs.Steps.{piece_of};
 ghost use Rattle.placing.specs.Steps.{Written, ForPieceOf, ForWriteBytes, ForWriteLast, ForWritePacked};
 
 use super::masks::{byte_masks, mask};
-use super::writer::{Writer, append, finish};
+use super::writer::Writer;
 
 // The trits of the bytes `from` to `to` - 1, six of them at most, as a piece.
 fn piece_of(masks: &[u64; 243], bytes: &[u8], from: usize, to: usize) -> u64
@@ -14,9 +15,7 @@ fn piece_of(masks: &[u64; 243], bytes: &[u8], from: usize, to: usize) -> u64
     ensures { result ≡ piece_of (λ k. packed_row bytes.now (5 * from + k)) (5 * (to - from)) }
 {
     let mut piece = 0;
-    let mut i = to;
-    while i > from {
-        i -= 1;
+    for i in (from..to).rev() {
         piece = piece * 32 + mask(masks, bytes[i]);
     }
     piece
@@ -28,16 +27,10 @@ fn write_sixes(masks: &[u64; 243], bytes: &[u8], ones: &mut [u64], twos: &mut [u
     ensures at_value { (result.at % 5 ≡ 0) × (result.at ≤ 5 * length bytes.now) }
     ensures written { Written (packed_row bytes.now) (length ones.old) ones.new twos.new result }
 {
-    let mut w = Writer {
-        at: 0,
-        ones: 0,
-        twos: 0,
-    };
-    let mut i = 0;
-    while i + 6 <= bytes.len() {
-        let next = append(ones, twos, w, piece_of(masks, bytes, i, i + 6), 30);
-        w = next;
-        i += 6;
+    let mut w = Writer::default();
+    for six in 0..bytes.len() / 6 {
+        let i = 6 * six;
+        w.append(ones, twos, piece_of(masks, bytes, i, i + 6), 30);
     }
     w
 }
@@ -55,11 +48,8 @@ fn write_last(
     ensures written { Written (packed_row bytes.now) (length ones.old) ones.new twos.new result }
 {
     let mut w = begun;
-    let mut i = begun.at / 5;
-    while i < bytes.len() {
-        let next = append(ones, twos, w, mask(masks, bytes[i]), 5);
-        w = next;
-        i += 1;
+    for i in begun.at / 5..bytes.len() {
+        w.append(ones, twos, mask(masks, bytes[i]), 5);
     }
     w
 }
@@ -72,5 +62,5 @@ pub fn write_packed(m: usize, bytes: &[u8], ones: &mut [u64], twos: &mut [u64])
     let masks = byte_masks();
     let begun = write_sixes(&masks, bytes, ones, twos);
     let all = write_last(&masks, bytes, ones, twos, begun);
-    finish(ones, twos, all);
+    all.finish(ones, twos);
 }

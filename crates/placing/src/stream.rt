@@ -1,11 +1,12 @@
 // A row written from a stream of bytes, those of 243 or more being skipped.
+// A row that is written stays two slices: it is a stretch of each plane, and of a slice the length and the ranges of words are known with no clause.
 ghost use Rattle.std.specs.Prelude.{◌≡◌, ◌+◌, ◌*◌, ◌/◌, ◌%◌, ◌^◌, ◌≤◌, length};
 ghost use Rattle.trits.specs.Planes.{Reads};
 ghost use Rattle.packed.specs.Stream.{stream_row};
 ghost use Rattle.placing.specs.Steps.{Written, BytePut, ForPutNext, ForPutStream, ForWriteStream};
 
 use super::masks::{byte_masks, mask};
-use super::writer::{HALF, Writer, append, finish};
+use super::writer::{HALF, Writer};
 
 // Of a piece of five trits the first, so many of them.
 fn first_trits(piece: u64, count: usize) -> u64
@@ -23,19 +24,20 @@ pub fn put_next(
     b: u8,
     ones: &mut [u64],
     twos: &mut [u64],
-    w: Writer,
-) -> Writer
-    requires { ForPutNext masks.now m ones.old twos.old w.at }
-    ensures { BytePut m b ones.old twos.old w ones.new twos.new result }
+    w: &mut Writer,
+)
+    requires { ForPutNext masks.now m ones.old twos.old w.old.at }
+    ensures { BytePut m b ones.old twos.old w.old ones.new twos.new w.new }
 {
     if b > 242 {
-        return w;
+        return;
     }
     let left = m - w.at;
     if left < 5 {
-        return append(ones, twos, w, first_trits(mask(masks, b), left), left);
+        w.append(ones, twos, first_trits(mask(masks, b), left), left);
+    } else {
+        w.append(ones, twos, mask(masks, b), 5);
     }
-    append(ones, twos, w, mask(masks, b), 5)
 }
 
 // The bytes' trits come to a row of which nothing is written, until it has m.
@@ -50,16 +52,12 @@ fn put_stream(
     ensures at_value { result.at ≡ m }
     ensures written { Written (stream_row m bytes.now) (length ones.old) ones.new twos.new result }
 {
-    let mut w = Writer {
-        at: 0,
-        ones: 0,
-        twos: 0,
-    };
-    let mut i = 0;
-    while w.at < m {
-        let next = put_next(masks, m, bytes[i], ones, twos, w);
-        w = next;
-        i += 1;
+    let mut w = Writer::default();
+    for b in bytes {
+        if w.at == m {
+            return w;
+        }
+        put_next(masks, m, *b, ones, twos, &mut w);
     }
     w
 }
@@ -71,5 +69,5 @@ pub fn write_stream(m: usize, bytes: &[u8], ones: &mut [u64], twos: &mut [u64])
 {
     let masks = byte_masks();
     let all = put_stream(&masks, m, bytes, ones, twos);
-    finish(ones, twos, all);
+    all.finish(ones, twos);
 }

@@ -1,20 +1,23 @@
 // Places of a row: a trit read, or another put there; and 64 places of a plane read at once.
+// A row that is written stays two slices: it is a stretch of each plane, and of a slice the length and the ranges of words are known with no clause.
 ghost use Rattle.std.specs.Prelude.{◌≡◌, cond, ◌+◌, ◌*◌, ◌<◌, length};
 ghost use Rattle.trits.specs.Trit.{number, trit_of, put_v};
 ghost use Rattle.trits.specs.Planes.{from_bits, bit_at, trit_at, Reads, with_bit};
 ghost use Rattle.planes.specs.Steps.{ForPutTrit};
 
+use trits::Planes;
+
 // The trit at a place.
-pub fn trit_at(ones: &[u64], twos: &[u64], i: usize) -> u8
-    requires twos_len { length twos.now ≡ length ones.now }
-    requires i_bound { i < 64 * length ones.now }
-    ensures { result ≡ number (trit_at ones.now twos.now i) }
+pub fn trit_at(row: Planes, i: usize) -> u8
+    requires twos_len { length row.twos.now ≡ length row.ones.now }
+    requires i_bound { i < 64 * length row.ones.now }
+    ensures { result ≡ number (trit_at row.entry.ones.now row.entry.twos.now i) }
 {
     let j = i / 64;
     let b = i % 64;
-    if ones[j] >> b & 1 != 0 {
+    if row.ones[j] >> b & 1 != 0 {
         1
-    } else if twos[j] >> b & 1 != 0 {
+    } else if row.twos[j] >> b & 1 != 0 {
         2
     } else {
         0
@@ -29,10 +32,7 @@ pub fn bits_from(plane: &[u64], p: usize) -> u64
     let j = p / 64;
     let b = p % 64;
     let n = plane[j] >> b;
-    if b == 0 {
-        return n;
-    }
-    if plane.len() <= j + 1 {
+    if b == 0 || plane.len() <= j + 1 {
         return n;
     }
     n | plane[j + 1] << (64 - b)

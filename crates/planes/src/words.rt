@@ -7,11 +7,7 @@ ghost use Rattle.trits.specs.Rows.{row_part, put_words};
 pub fn zero_words(plane: &mut [u64])
     ensures { plane.new ≡ zero_words (length plane.old) }
 {
-    let mut i = 0;
-    while i < plane.len() {
-        plane[i] = 0;
-        i += 1;
-    }
+    plane.fill(0);
 }
 
 // The row writer: it is lent a part that begins at the row's first word, and writes the row from there on.
@@ -19,11 +15,7 @@ pub fn write_row(part: &mut [u64], row: &[u64])
     requires { length row.now ≤ length part.old }
     ensures { part.new ≡ row.now ++ drop (length row.now) part.old }
 {
-    let mut i = 0;
-    while i < row.len() {
-        part[i] = row[i];
-        i += 1;
-    }
+    part[..row.len()].copy_from_slice(row);
 }
 
 // A row is written into a plane from word `start` on; no other word changes.
@@ -39,7 +31,7 @@ pub fn copy_words(plane: &mut [u64], src: &[u64])
     requires { length src.now ≡ length plane.old }
     ensures { plane.new ≡ src.now }
 {
-    write_row(plane, src);
+    plane.copy_from_slice(src);
 }
 
 // Row i of a plane of `rows` rows of `words` words each, or the empty part.
@@ -47,13 +39,9 @@ pub fn row_part<'a>(plane: &'a [u64], rows: usize, words: usize, i: usize) -> &'
     requires { (rows ≤ 65536) × (words ≤ 65536) }
     ensures { result.now ≡ row_part plane.now rows words i }
 {
-    if plane.len() != rows * words {
-        return &plane[..0];
-    }
-    if i >= rows {
+    if plane.len() != rows * words || i >= rows {
         return &plane[..0];
     }
     let a = i * words;
-    let e = a + words;
-    &plane[a..e]
+    &plane[a..a + words]
 }

@@ -7,8 +7,8 @@ use borrow.Author.Tests.{eq-eqb, ne_eqb}
 use lib.ListN.{length, get_or, take, drop, replicate, length-append, get_or-append, get_or-eq_default}
 use lib.Seq.{get_or-take, get_or-drop, get_or-append-add}
 use Rattle.trits.proofs.Lists.{get_d_tabulate}
-use Rattle.shake.specs.Shake.{rate, blocks_of, padded_byte, word_of}
-use Rattle.shake.specs.Steps.{two_bytes, four_bytes, pad_of, block_from}
+use Rattle.shake.specs.Shake.{rate, blocks_of, padded_byte}
+use Rattle.shake.specs.Steps.{pad_of, block_from}
 
 -- ---- the padding, worked out: of no byte, of 135, which leave one place in their block, and of 136, which leave none
 
@@ -26,23 +26,6 @@ padding_of_135 = (refl, refl, refl)
 padding_of_136 : (blocks_of (replicate 136 0) ≡ 2) × Padding 136 135 0 × Padding 136 136 31 × Padding 136 271 128
 unfolding blocks_of padded_byte
 padding_of_136 = (refl, refl, refl, refl)
-
--- ---- numbers of two, four and eight bytes
-
-module _ (bytes : List ℕ) (p : ℕ) where
-  at : {i j : ℕ} → i ≡ j → get_or bytes i 0 ≡ get_or bytes j 0
-  at e = ap (λ (k : ℕ). get_or bytes k 0) e
-
-  pub word_of_fours : four_bytes bytes p + 4294967296 * four_bytes bytes (p + 4) ≡ word_of (λ i. get_or bytes i 0) p
-  unfolding four_bytes two_bytes word_of
-  word_of_fours =
-      omega (
-        arith,
-        at {i = p + 2 + 1} {j = p + 3} (omega arith),
-        at {i = p + 4 + 1} {j = p + 5} (omega arith),
-        at {i = p + 4 + 2} {j = p + 6} (omega arith),
-        at {i = p + 4 + 2 + 1} {j = p + 7} (omega arith),
-      )
 
 -- ---- the padded message
 

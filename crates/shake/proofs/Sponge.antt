@@ -21,6 +21,8 @@ use Rattle.keccak.specs.Keccak.{State, permuted}
 use Rattle.keccak.specs.Lanes.{lane_at, lanes_of}
 use Rattle.keccak.proofs.Lanes.{Same, lane_of, same_lanes, same_permuted}
 use Rattle.shake.specs.Shake.{rate, padded_byte, word_of, added, absorbed, state_byte, squeezed, squeezed_byte, squeezed_bytes}
+use Rattle.shake.specs.Output.{output_of, Gives, Taken}
+use Rattle.shake.specs.declared.squeezing.Output.{Output}
 use Rattle.shake.specs.Steps.{absorbed_block, lane_bytes, state_bytes}
 
 -- ---- the lanes of a block, worked out: bytes 8 to 15 come to lane (1, 0), the last eight to (1, 3), and none to (2, 3)
@@ -108,15 +110,13 @@ lane_put s j {l₀} {l} {ys} h p made =
     rw end at (patch_join p q (omega arith) (λ k g.
     ap (λ (z : List ℕ). get_or z k 0) made ∙ get_d_tabulate 8 f k 0 (omega arith) ∙ lane_byte s j k (omega arith)))
 
--- byte i of the output of a state is at place p of a block, the bytes of the arrays b
-pub record Gives (s : State) (i : ℕ) (b : List (List ℕ)) (block : List ℕ) (p : ℕ) : Type 0 where
-  pub reads : Same (lane_at b) (squeezed s (i / rate))
-  pub bytes : block ≡ state_bytes b
-  pub place : p ≡ i % rate
-
 pub gives_first : (s : State) (b : List (List ℕ)) {block : List ℕ} → Same (lane_at b) s → block ≡ state_bytes b → Gives s 0 b block 0
 unfolding squeezed
 gives_first s b h e = record { reads = h; bytes = e; place = refl }
+
+-- where no byte is taken
+pub output_gives : (a : List (List ℕ)) {o : Output} → o ≡ output_of a → Gives (lane_at a) 0 o.state o.block o.place
+output_gives a {o} e = rw e (gives_first (lane_at a) a (λ x y hx hy. refl) refl)
 
 pub in_block : {s : State} {i p : ℕ} {b : List (List ℕ)} {block : List ℕ} → Gives s i b block p → p < rate
 in_block {i} h = rw h.place (mod-lt i (lit< tt))
@@ -165,7 +165,8 @@ pub length_squeezed : (s : State) (n : ℕ) → length (squeezed_bytes s n) ≡ 
 unfolding squeezed_bytes
 length_squeezed s n = length_tabulate n (squeezed_byte s)
 
-pub gives_at : {s : State} {i p : ℕ} {b : List (List ℕ)} {block : List ℕ} → Gives s i b block p → (n : ℕ) → i < n
-    → get_or block p 0 ≡ get_or (squeezed_bytes s n) i 0
+-- a byte that is taken is that of its place in the output
+pub taken_at : {before after : Output} {byte : ℕ} {s : State} {i : ℕ} → Taken before byte after → Gives s i before.state before.block before.place
+    → (n : ℕ) → i < n → byte ≡ get_or (squeezed_bytes s n) i 0
 unfolding squeezed_bytes
-gives_at {s} {i} g n l = gives_byte g ∙ sym (get_d_tabulate n (squeezed_byte s) i 0 l)
+taken_at {s = s} {i = i} t g n l = t.is_next g ∙ sym (get_d_tabulate n (squeezed_byte s) i 0 l)

@@ -1,16 +1,9 @@
 -- What the inner functions ask and do. No rule of the standard: code is tied to it. Assumes nothing.
-use Rattle.std.specs.Prelude.{cond, List, ◌++◌, ℕ, ◌+◌, ◌*◌, ◌/◌, ◌%◌, ◌^◌, ◌≤◌, ◌<◌, eqb, length, get_or}
+use Rattle.std.specs.Prelude.{cond, List, ◌++◌, ℕ, ◌+◌, ◌*◌, ◌/◌, ◌%◌, ◌^◌, ◌≤◌, ◌<◌, eqb, length}
 use Rattle.trits.specs.Planes.{tabulate}
 use Rattle.keccak.specs.Keccak.{permuted}
 use Rattle.keccak.specs.Lanes.{lane_at, lanes_of}
 use Rattle.shake.specs.Shake.{rate, padded_byte, added, state_byte}
-
--- two and four bytes from place p on as a number
-unfoldable pub two_bytes : List ℕ → ℕ → ℕ
-two_bytes bytes p = get_or bytes p 0 + 256 * get_or bytes (p + 1) 0
-
-unfoldable pub four_bytes : List ℕ → ℕ → ℕ
-four_bytes bytes p = two_bytes bytes p + 65536 * two_bytes bytes (p + 2)
 
 -- what the padding puts at place i of a message of so many bytes
 unfoldable pub pad_of : ℕ → ℕ → ℕ

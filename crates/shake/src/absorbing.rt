@@ -11,8 +11,7 @@ fn absorb_written(a: [[u64; 5]; 5], first: &[u8], last: &[u8], start: usize) -> 
 {
     let mut block = [0u8; 136];
     super::padding::fill(first, last, start, &mut block);
-    let next = super::block::add_block(a, &block);
-    keccak::permute(next)
+    keccak::permute(super::block::add_block(a, &block))
 }
 
 // The block of the padded message from place `start` on comes to the state: read where it lies, if all of it is in the last part.
@@ -28,8 +27,7 @@ fn absorb_block(a: [[u64; 5]; 5], first: &[u8], last: &[u8], start: usize) -> [[
     if last.len() < end {
         return absorb_written(a, first, last, start);
     }
-    let next = super::block::add_block(a, &last[at..end]);
-    keccak::permute(next)
+    keccak::permute(super::block::add_block(a, &last[at..end]))
 }
 
 // The state after all blocks of the padded message.
@@ -39,11 +37,9 @@ pub fn absorb(first: &[u8], last: &[u8]) -> [[u64; 5]; 5]
 {
     let blocks = (first.len() + last.len()) / 136 + 1;
     let mut a = [[0u64; 5]; 5];
-    let mut j = 0;
-    while j < blocks {
-        let next = absorb_block(a, first, last, 136 * j);
+    for j in 0..blocks {
+        let next = absorb_block(a, first, last, 136 * j); // an array that a call makes gets a name before it is stored
         a = next;
-        j += 1;
     }
     a
 }

@@ -1,38 +1,23 @@
-// A block added to a state.
+// A block added to a state. Five lanes and five sheets are written out, as in the steps of a round and for the same reason.
 ghost use Rattle.std.specs.Prelude.{◌≡◌, ℕ, ◌+◌, ◌*◌, ◌≤◌, ◌<◌, length, get_or};
 ghost use Rattle.keccak.specs.Lanes.{lane_at, sheet_of, lanes_of};
 ghost use Rattle.shake.specs.Shake.{rate, word_of, added};
-ghost use Rattle.shake.specs.Steps.{two_bytes, four_bytes};
 
-// A byte as a number of 64 bits.
-fn wide(b: u8) -> u64
-    ensures { (result ≡ b) × (result < 256) }
-{
-    b as u64
-}
-
-// Two bytes from place p on as a number, the first lowest.
-fn two_bytes(bytes: &[u8], p: usize) -> u64
-    requires { p + 2 ≤ length bytes.now }
-    ensures { (result ≡ two_bytes bytes.now p) × (result < 65536) }
-{
-    wide(bytes[p]) + 256 * wide(bytes[p + 1])
-}
-
-// Four bytes.
-fn four_bytes(bytes: &[u8], p: usize) -> u64
-    requires { p + 4 ≤ length bytes.now }
-    ensures { (result ≡ four_bytes bytes.now p) × (result < 4294967296) }
-{
-    two_bytes(bytes, p) + 65536 * two_bytes(bytes, p + 2)
-}
-
-// Eight bytes.
+// Eight bytes from place p on as a number, the first lowest.
 fn word(bytes: &[u8], p: usize) -> u64
     requires { p + 8 ≤ length bytes.now }
     ensures { result ≡ word_of (λ (i : ℕ). get_or bytes.now i 0) p }
 {
-    four_bytes(bytes, p) + 4294967296 * four_bytes(bytes, p + 4)
+    u64::from_le_bytes([
+        bytes[p],
+        bytes[p + 1],
+        bytes[p + 2],
+        bytes[p + 3],
+        bytes[p + 4],
+        bytes[p + 5],
+        bytes[p + 6],
+        bytes[p + 7],
+    ])
 }
 
 // Lane (x, y) after the block.
@@ -42,9 +27,10 @@ fn add_lane(a: [[u64; 5]; 5], block: &[u8], x: usize, y: usize) -> u64
 {
     let p = 8 * (5 * y + x);
     if p < 136 {
-        return a[x][y] ^ word(block, p);
+        a[x][y] ^ word(block, p)
+    } else {
+        a[x][y]
     }
-    a[x][y]
 }
 
 // The lanes at x after the block.

@@ -8,16 +8,12 @@ fn pad(size: usize, i: usize) -> u8
     requires { ForPad size i }
     ensures { result ≡ pad_of size i }
 {
-    if i + 1 == 136 * (size / 136 + 1) {
-        if i == size {
-            return 31 + 128;
-        }
-        return 128;
+    match (i == size, i + 1 == 136 * (size / 136 + 1)) {
+        (true, true) => 31 + 128,
+        (true, false) => 31, // the suffix 1111 and a 1
+        (false, true) => 128,
+        (false, false) => 0,
     }
-    if i == size {
-        return 31; // the suffix 1111 and a 1
-    }
-    0
 }
 
 // Byte i of the padded message.
@@ -40,9 +36,7 @@ pub fn fill(first: &[u8], last: &[u8], start: usize, block: &mut [u8])
     requires { ForBlock first.now last.now start (length block.old) }
     ensures { block.new ≡ block_from (first.now ++ last.now) start (length block.old) }
 {
-    let mut i = 0;
-    while i < block.len() {
-        block[i] = padded_byte(first, last, start + i);
-        i += 1;
+    for (i, byte) in block.iter_mut().enumerate() {
+        *byte = padded_byte(first, last, start + i);
     }
 }

@@ -1,22 +1,16 @@
 // Blocks of the output, taken from states.
-ghost use Rattle.std.specs.Prelude.{◌≡◌, length};
+ghost use Rattle.std.specs.Prelude.{◌≡◌, ◌<◌, length};
 ghost use Rattle.keccak.specs.Lanes.{lane_at};
-ghost use Rattle.shake.specs.Shake.{squeezed_bytes};
+ghost use Rattle.shake.specs.Shake.{rate, squeezed_bytes};
 ghost use Rattle.shake.specs.Steps.{lane_bytes, state_bytes};
+ghost use Rattle.shake.specs.Output.{output_of, Taken};
 
 // The eight bytes of a lane, the lowest first.
 fn put_lane(lane: u64, bytes: &mut [u8])
     requires { length bytes.old ≡ 8 }
     ensures { bytes.new ≡ lane_bytes lane }
 {
-    bytes[0] = (lane % 256) as u8;
-    bytes[1] = ((lane >> 8) % 256) as u8;
-    bytes[2] = ((lane >> 16) % 256) as u8;
-    bytes[3] = ((lane >> 24) % 256) as u8;
-    bytes[4] = ((lane >> 32) % 256) as u8;
-    bytes[5] = ((lane >> 40) % 256) as u8;
-    bytes[6] = ((lane >> 48) % 256) as u8;
-    bytes[7] = ((lane >> 56) % 256) as u8;
+    bytes.copy_from_slice(&lane.to_le_bytes());
 }
 
 // The bytes of a state that come out: those of its first 17 lanes.
@@ -24,34 +18,53 @@ pub fn block_of(a: [[u64; 5]; 5]) -> [u8; 136]
     ensures { result ≡ state_bytes a }
 {
     let mut block = [0u8; 136];
-    let mut j = 0;
-    while j < 17 {
-        let p = 8 * j;
-        let e = p + 8;
-        put_lane(a[j % 5][j / 5], &mut block[p..e]);
-        j += 1;
+    for j in 0..17 {
+        put_lane(a[j % 5][j / 5], &mut block[8 * j..8 * j + 8]);
     }
     block
 }
 
-// The output from a state on, as many bytes as are lent.
-pub fn squeeze(a: [[u64; 5]; 5], output: &mut [u8])
-    ensures { output.new ≡ squeezed_bytes (lane_at a) (length output.old) }
-{
-    let mut b = a;
-    let mut block = block_of(a);
-    let mut p = 0; // the place in the block
-    let mut i = 0;
-    while i < output.len() {
-        output[i] = block[p];
-        i += 1;
-        p += 1;
-        if p == 136 {
-            let next = keccak::permute(b);
-            let bytes = block_of(next);
-            b = next;
-            block = bytes;
-            p = 0;
+// The output of a state, byte by byte: the state that is read, its bytes that come out, and the place of the next among them.
+#[derive(Clone, Copy)]
+pub struct Output {
+    pub state: [[u64; 5]; 5],
+    pub block: [u8; 136],
+    pub place: usize,
+}
+
+impl Output {
+    // The output from a state on.
+    pub fn of(a: [[u64; 5]; 5]) -> Output
+        ensures { result ≡ output_of a }
+    {
+        Output {
+            state: a,
+            block: block_of(a),
+            place: 0,
         }
+    }
+
+    // The next byte; after the last of a block comes the first of the next.
+    pub fn next(&mut self) -> u8
+        requires { self.old.place < rate }
+        ensures { Taken self.old result self.new }
+    {
+        let byte = self.block[self.place];
+        self.place += 1;
+        if self.place == 136 {
+            let next = keccak::permute(self.state);
+            *self = Output::of(next);
+        }
+        byte
+    }
+}
+
+// The output from a state on, as many bytes as are lent.
+pub fn squeeze(a: [[u64; 5]; 5], bytes: &mut [u8])
+    ensures { bytes.new ≡ squeezed_bytes (lane_at a) (length bytes.old) }
+{
+    let mut output = Output::of(a);
+    for byte in bytes.iter_mut() {
+        *byte = output.next();
     }
 }

@@ -1,4 +1,5 @@
 // Trits read from the output of a state.
+// A row that is written stays two slices: it is a stretch of each plane, and of a slice the length and the ranges of words are known with no clause.
 ghost use Rattle.std.specs.Prelude.{◌≡◌, ◌≤◌, length};
 ghost use Rattle.trits.specs.Planes.{Reads};
 ghost use Rattle.packed.specs.Stream.{stream_row, too_short};
@@ -8,7 +9,7 @@ ghost use Rattle.syndrome.specs.Steps.{output_for, ForPutOutput, ForWriteOutput}
 
 use placing::stream::put_next;
 use placing::writer::Writer;
-use shake::squeezing::block_of;
+use shake::squeezing::Output;
 
 // Whether the output that is looked at gives fewer than m trits.
 pub fn too_short(m: usize, a: [[u64; 5]; 5]) -> bool
@@ -17,24 +18,12 @@ pub fn too_short(m: usize, a: [[u64; 5]; 5]) -> bool
 {
     let end = m + 136;
     let mut left = m;
-    let mut b = a;
-    let mut block = block_of(a);
-    let mut p = 0; // the place in the block
-    let mut i = 0;
-    while i < end {
+    let mut output = Output::of(a);
+    for _read in 0..end {
         if left == 0 {
             return false;
         }
-        left = packing::faults::count_byte(left, block[p]);
-        i += 1;
-        p += 1;
-        if p == 136 {
-            let next = keccak::permute(b);
-            let bytes = block_of(next);
-            b = next;
-            block = bytes;
-            p = 0;
-        }
+        left = packing::faults::count_byte(left, output.next());
     }
     left != 0
 }
@@ -51,27 +40,14 @@ fn put_output(
     ensures at_value { result.at ≡ m }
     ensures written { Written (stream_row m (output_for m a)) (length ones.old) ones.new twos.new result }
 {
-    let mut b = a;
-    let mut block = block_of(a);
-    let mut w = Writer {
-        at: 0,
-        ones: 0,
-        twos: 0,
-    };
-    let mut p = 0; // the place in the block
-    let mut i = 0usize; // bytes read
-    while w.at < m {
-        let after = put_next(masks, m, block[p], ones, twos, w);
-        w = after;
-        i += 1;
-        p += 1;
-        if p == 136 {
-            let next = keccak::permute(b);
-            let bytes = block_of(next);
-            b = next;
-            block = bytes;
-            p = 0;
+    let mut output = Output::of(a);
+    let mut w = Writer::default();
+    for _read in 0..m + 136 {
+        if w.at == m {
+            return w;
         }
+        let byte = output.next();
+        put_next(masks, m, byte, ones, twos, &mut w);
     }
     w
 }
@@ -83,5 +59,5 @@ pub fn write_output(m: usize, a: [[u64; 5]; 5], ones: &mut [u64], twos: &mut [u6
 {
     let masks = placing::masks::byte_masks();
     let all = put_output(&masks, m, a, ones, twos);
-    placing::writer::finish(ones, twos, all);
+    all.finish(ones, twos);
 }

@@ -16,3 +16,4 @@ pub mod Ends
 pub mod Cases
 pub mod Refusals
 pub mod Stages
+pub mod Outcomes

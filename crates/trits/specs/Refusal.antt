@@ -1,13 +1,11 @@
 -- Refusals, their numbers and their order ("Turned back by the input", "Turned back by the state"). Assumes nothing.
-use Rattle.std.specs.Prelude.{Bool, ◌&&◌, ◌||◌, cond, List, ℕ, eqb, leb, length}
+use Rattle.std.specs.Prelude.{Bool, ◌&&◌, ◌||◌, cond, List, ℕ, eqb, leb, length, Result, Ok, Err}
 use Rattle.trits.specs.Planes.{Pair, pair_of, both_set, zero_words}
 use Rattle.trits.specs.Rows.{rows_past_end}
 use Rattle.trits.specs.declared.refusal.Refusal.{Refusal}
 use Rattle.trits.specs.declared.refusal.Refusal.TheVariants.{Size, Length, BothPlanes, PastEnd, PackedByte, StreamEnd, NoPermutation, ZeroTrit, RankU}
 use Rattle.trits.specs.declared.refusal.Refusal.TheVariants.{RankV, Line, FirstPartV, FirstPartU, Weight, PackedPastEnd, NoKey, WholeKey}
 use Rattle.trits.specs.declared.refusal.Refusal.TheVariants.{OtherKey}
-use Rattle.trits.specs.declared.refusal.Outcome.{Outcome}
-use Rattle.trits.specs.declared.refusal.Outcome.TheVariants.{Done, Refused}
 
 -- the paper's number of each refusal
 abbrev pub number_of : Refusal → ℕ
@@ -31,9 +29,9 @@ number_of WholeKey = 21
 number_of OtherKey = 22
 
 -- the number that an outcome is told by: 0 where nothing is refused
-abbrev pub code_of : Outcome → ℕ
-code_of Done = 0
-code_of (Refused r) = number_of r
+abbrev pub code_of : Result Unit Refusal → ℕ
+code_of (Ok u) = 0
+code_of (Err r) = number_of r
 
 -- ---- an order of tests: the first that applies decides, and a chain that ends in 0 refuses nothing
 

@@ -1,9 +1,9 @@
-// Refusals: one enum for all calls, and the paper's number of each.
+// Refusals: one enum for all calls, and the paper's number of each. A call that answers nothing else is a Result<(), Refusal>.
 ghost use Rattle.std.specs.Prelude.{◌≡◌};
 ghost use Rattle.trits.specs.Refusal.{number_of, code_of};
 
 // Why a call was turned back.
-#[derive(Clone, Copy)]
+#[derive(Clone, Copy, PartialEq, Eq)]
 pub enum Refusal {
     Size, // a size outside its range
     Length, // a length differs from what the sizes say
@@ -25,45 +25,40 @@ pub enum Refusal {
     OtherKey, // another key number than the held one
 }
 
-// What a call that answers nothing else comes to.
-#[derive(Clone, Copy)]
-pub enum Outcome {
-    Done,
-    Refused(Refusal),
-}
-
 // The paper's number of a refusal.
-pub fn number(refusal: Refusal) -> u64
-    ensures { result ≡ number_of refusal }
-{
-    match refusal {
-        Refusal::Size => 1,
-        Refusal::Length => 2,
-        Refusal::BothPlanes => 3,
-        Refusal::PastEnd => 4,
-        Refusal::PackedByte => 5,
-        Refusal::StreamEnd => 6,
-        Refusal::NoPermutation => 7,
-        Refusal::ZeroTrit => 8,
-        Refusal::RankU => 9,
-        Refusal::RankV => 10,
-        Refusal::Line => 11,
-        Refusal::FirstPartV => 12,
-        Refusal::FirstPartU => 13,
-        Refusal::Weight => 14,
-        Refusal::PackedPastEnd => 15,
-        Refusal::NoKey => 20,
-        Refusal::WholeKey => 21,
-        Refusal::OtherKey => 22,
+impl From<Refusal> for u64 {
+    fn from(refusal: Refusal) -> u64
+        ensures { result ≡ number_of refusal }
+    {
+        match refusal {
+            Refusal::Size => 1,
+            Refusal::Length => 2,
+            Refusal::BothPlanes => 3,
+            Refusal::PastEnd => 4,
+            Refusal::PackedByte => 5,
+            Refusal::StreamEnd => 6,
+            Refusal::NoPermutation => 7,
+            Refusal::ZeroTrit => 8,
+            Refusal::RankU => 9,
+            Refusal::RankV => 10,
+            Refusal::Line => 11,
+            Refusal::FirstPartV => 12,
+            Refusal::FirstPartU => 13,
+            Refusal::Weight => 14,
+            Refusal::PackedPastEnd => 15,
+            Refusal::NoKey => 20,
+            Refusal::WholeKey => 21,
+            Refusal::OtherKey => 22,
+        }
     }
 }
 
-// The number that an outcome is told by: 0 where nothing is refused.
-pub fn code(outcome: Outcome) -> u64
+// The number that a host is told: 0 where nothing is refused.
+pub fn code(outcome: Result<(), Refusal>) -> u64
     ensures { result ≡ code_of outcome }
 {
     match outcome {
-        Outcome::Done => 0,
-        Outcome::Refused(refusal) => number(refusal),
+        Ok(()) => 0,
+        Err(refusal) => u64::from(refusal),
     }
 }

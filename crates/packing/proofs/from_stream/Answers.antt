@@ -1,13 +1,14 @@
 -- Each return has the number of the first test that applies; the planes are written once the stream is long enough.
 -- Assumes nothing.
-use mathlib.Core.Path.{sym, ◌∙◌}
+use mathlib.Core.Path.{◌≡◌, sym, ◌∙◌}
 use native.Mathlib.Omega.{arith}
 use lib.Dec.{lit<}
 use Rattle.trits.proofs.Refusals.{exit_kept, exit_new}
 use Rattle.trits.proofs.Reading.{reads_words}
-use Rattle.packed.specs.Calls.{stream_ones, stream_twos}
+use Rattle.packed.specs.Calls.{stream_of, stream_refusal, stream_ones, stream_twos}
 use Rattle.packed.proofs.Turned.{stream_size, stream_ones_here, stream_twos_here, stream_passed, stream_decides, stream_long}
 use Rattle.packing.proofs.from_stream.Goals as goal
+use Rattle.packing.proofs.from_stream.Goals.{then-ones-words-via-then-ones-words, then-ones-words-via-else-ones-words+then-twos-words}
 
 pub returns-then-m-gt16384 : goal.returns-then-m-gt16384
 unfolding stream_ones stream_twos
@@ -18,13 +19,13 @@ returns-then-m-gt16384 c =
 pub returns-then-ones-words : goal.returns-then-ones-words
 unfolding stream_ones stream_twos
 returns-then-ones-words c =
-    let e = stream_ones_here _ _ _ _ c.if-m-gt16384.false c.if-ones-words.true in
-    (e, exit_kept _ _ e (lit< tt), exit_kept _ _ e (lit< tt))
-
-pub returns-then-twos-words : goal.returns-then-twos-words
-unfolding stream_ones stream_twos
-returns-then-twos-words c =
-    let e = stream_twos_here _ _ _ _ c.if-m-gt16384.false c.if-ones-words.false c.if-twos-words.true in
+    let fits = c.if-m-gt16384.false in
+    let a = c.args in
+    let e : 2 ≡ stream_refusal (stream_of a.m a.bytes.now a.ones.now a.twos.now) = elim c.then-ones-words.branch [
+      | then-ones-words-via-then-ones-words w ↦ stream_ones_here _ _ _ _ fits w.if-ones-words.true
+      | then-ones-words-via-else-ones-words+then-twos-words w ↦
+          stream_twos_here _ _ _ _ fits w.if-ones-words.false w.if-twos-words.true
+    ] in
     (e, exit_kept _ _ e (lit< tt), exit_kept _ _ e (lit< tt))
 
 pub returns-then-too_short : goal.returns-then-too_short

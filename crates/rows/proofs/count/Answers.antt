@@ -14,36 +14,32 @@ pub loop-i-init : goal.loop-i-init
 unfolding sum_to
 loop-i-init c = omega arith
 
-pub overflow_cast-in_ones : goal.overflow_cast-in_ones
-overflow_cast-in_ones c = omega (arith, word_le (c.shared_slice_known-1.given c.loop-i.i))
-
 pub overflow_add-in_ones : goal.overflow_add-in_ones
 overflow_add-in_ones c =
-    let a = c.args in
-    omega (arith, word_le (c.shared_slice_known-1.given c.loop-i.i), counts_le (trit_at a.ones.now a.twos.now) (64 * c.loop-i.i))
-
-pub overflow_cast-in_twos : goal.overflow_cast-in_twos
-overflow_cast-in_twos c = omega (arith, word_le (c.shared_slice_known-in-loop-i-1.given c.loop-i.i))
+    let i = c.loop-i.i in
+    let a = c.args.row in
+    omega (arith, word_le (c.type_inv.ones i), counts_le (trit_at a.ones.now a.twos.now) (64 * i))
 
 pub overflow_add-in_twos : goal.overflow_add-in_twos
 overflow_add-in_twos c =
-    let a = c.args in
-    omega (arith, word_le (c.shared_slice_known-in-loop-i-1.given c.loop-i.i), counts_le (trit_at a.ones.now a.twos.now) (64 * c.loop-i.i))
+    let i = c.loop-i.i in
+    let a = c.args.row in
+    omega (arith, word_le (c.type_inv.twos i), counts_le (trit_at a.ones.now a.twos.now) (64 * i))
 
 pub loop-i-preserved : goal.loop-i-preserved
 loop-i-preserved c =
-    let a = c.args in
+    let a = c.args.row in
     let l = c.loop-i in
     let apart = c.requires.row.apart in
-    let ho = c.shared_slice_known-1.given l.i in
-    let ht = c.shared_slice_known-in-loop-i-1.given l.i in (
+    let ho = c.type_inv.ones l.i in
+    let ht = c.type_inv.twos l.i in (
       omega arith,
-      ones_turn a.ones.now a.twos.now apart l.i ho ht l.in_ones l.invariant.1,
-      twos_turn a.ones.now a.twos.now apart l.i ho ht l.in_twos l.invariant.2,
+      rw c.from-in_ones.ensures (ones_turn a.ones.now a.twos.now apart l.i ho ht l.in_ones l.invariant.1),
+      rw c.from-in_twos.ensures (twos_turn a.ones.now a.twos.now apart l.i ho ht l.in_twos l.invariant.2),
     )
 
 pub returns : goal.returns
 returns c =
     let l = c.loop-i in
-    let e : l.i ≡ length c.args.ones.now = omega arith in
+    let e : l.i ≡ length c.args.row.ones.now = omega arith in
     rw (← e) (same_counts l.invariant.1 l.invariant.2)

@@ -1,6 +1,6 @@
 -- The words of products are counted, those that are 1 and those that are 2; the two counts give the sum modulo 3 (`dot_number`).
 -- Assumes nothing.
-use Prim.Native.Nat.{◌-◌, ◌*◌, ◌≤◌}
+use Prim.Native.Nat.{◌*◌, ◌≤◌}
 use mathlib.Core.Path.{◌≡◌}
 use lib.ListN.{length}
 use Rattle.trits.specs.Planes.{trit_at}
@@ -12,6 +12,3 @@ invariant-loop-i l =
     (l.i ≤ length l.a_ones) × (l.ones ≤ 64 * l.i) × (l.twos ≤ 64 * l.i)
     × (l.ones ≡ ones_v (zip_v mul_t (trit_at l.a_ones l.a_twos) (trit_at l.b_ones l.b_twos)) (64 * l.i))
     × (l.twos ≡ twos_v (zip_v mul_t (trit_at l.a_ones l.a_twos) (trit_at l.b_ones l.b_twos)) (64 * l.i))
-
-abbrev pub decreases-loop-i : goal.decreases-loop-i
-decreases-loop-i l = length l.a_ones - l.i

@@ -1,6 +1,6 @@
 -- The masks make the product of two trits at every bit (`mul_op`), and a turn of the loop makes one word of each plane.
 -- Assumes nothing.
-use Prim.Native.Nat.{◌-◌, ◌≤◌}
+use Prim.Native.Nat.{◌≤◌}
 use lib.ListN.{length}
 use Rattle.trits.proofs.Patches.{Patched, words_at}
 use Rattle.trits.proofs.WordOps.{mul_ones, mul_twos}
@@ -9,8 +9,5 @@ use Rattle.rows.proofs.mul_row.Given as goal
 abbrev pub invariant-loop-i : goal.invariant-loop-i
 invariant-loop-i l =
     (l.i ≤ length l.initial.ones)
-    × Patched (words_at mul_ones l.initial.ones l.initial.twos l.src_ones l.src_twos 0) 0 l.i l.initial.ones l.ones
-    × Patched (words_at mul_twos l.initial.ones l.initial.twos l.src_ones l.src_twos 0) 0 l.i l.initial.twos l.twos
-
-abbrev pub decreases-loop-i : goal.decreases-loop-i
-decreases-loop-i l = length l.initial.ones - l.i
+    × Patched (words_at mul_ones l.initial.ones l.initial.twos l.src.ones.now l.src.twos.now 0) 0 l.i l.initial.ones l.ones
+    × Patched (words_at mul_twos l.initial.ones l.initial.twos l.src.ones.now l.src.twos.now 0) 0 l.i l.initial.twos l.twos

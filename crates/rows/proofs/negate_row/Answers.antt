@@ -1,26 +1,15 @@
--- The planes of a row, exchanged, are those of its negative (`neg_op`), and a turn of the loop exchanges one word.
+-- The planes of a row, exchanged, are those of its negative (`read_exchanged`).
 -- Assumes nothing.
-use Prim.Native.Nat.{◌+◌}
-use mathlib.Core.Path.{◌≡◌, refl}
-use native.Mathlib.Omega.{arith}
-use Rattle.trits.proofs.Patches.{patch_none, patch_more, patch_here, rows_read}
-use Rattle.trits.proofs.WordOps.{neg_op}
+use mathlib.Core.Path.{sym}
+use Rattle.trits.proofs.Reading.{row_exchanged, read_exchanged}
 use Rattle.rows.proofs.negate_row.Goals as goal
 
-pub loop-i-init : goal.loop-i-init
-loop-i-init c =
-    (omega arith, patch_none _ _ _, patch_none _ _ _)
-
-pub loop-i-preserved : goal.loop-i-preserved
-loop-i-preserved c =
-    let l = c.loop-i in
-    let po = l.invariant.1 in
-    let pt = l.invariant.2 in
-    let z : l.i ≡ 0 + l.i = omega arith in
-    (omega arith, patch_more po l.i _ z (omega arith) (patch_here pt l.i z), patch_more pt l.i _ z (omega arith) (patch_here po l.i z))
+pub swap_with_slice-requires : goal.swap_with_slice-requires
+swap_with_slice-requires c = sym c.requires.same
 
 pub returns : goal.returns
 returns c =
-    let l = c.loop-i in
-    let p = c.requires in
-    rows_read neg_op refl p p refl l.invariant.1 l.invariant.2 (omega arith)
+    let e = c.swap_with_slice.ensures in
+    let after = e.after in
+    let other = e.other_after in
+    rw (after, other) (record { row = row_exchanged c.requires; size = c.requires.same; trits = read_exchanged c.requires })

@@ -14,22 +14,18 @@ unfolding sum_to
 loop-i-init c =
     omega arith
 
-pub overflow_cast-sum : goal.overflow_cast-sum
-overflow_cast-sum c =
-    let i = c.loop-i.i in
-    omega (arith, count_le (c.shared_slice_known-1.given i) (c.shared_slice_known-in-loop-i-1.given i))
-
 pub overflow_add-sum : goal.overflow_add-sum
 overflow_add-sum c =
-    let b = count_le (c.shared_slice_known-1.given c.loop-i.i) (c.shared_slice_known-in-loop-i-1.given c.loop-i.i) in
-    omega (arith, b, weight_le (trit_at c.args.ones.now c.args.twos.now) (64 * c.loop-i.i))
+    let i = c.loop-i.i in
+    let a = c.args.row in
+    omega (arith, count_le (c.type_inv.ones i) (c.type_inv.twos i), weight_le (trit_at a.ones.now a.twos.now) (64 * i))
 
 pub loop-i-preserved : goal.loop-i-preserved
 loop-i-preserved c =
     let s = c.loop-i in
-    (omega arith, weight_turn _ _ s.i (c.shared_slice_known-1.given s.i) (c.shared_slice_known-in-loop-i-1.given s.i) s.sum s.invariant.1)
+    (omega arith, rw c.from-sum.ensures (weight_turn _ _ s.i (c.type_inv.ones s.i) (c.type_inv.twos s.i) s.sum s.invariant.1))
 
 pub returns : goal.returns
 returns c =
-    let e : c.loop-i.i ≡ length c.args.ones.now = omega arith in
+    let e : c.loop-i.i ≡ length c.args.row.ones.now = omega arith in
     rw (← e) c.loop-i.invariant.1

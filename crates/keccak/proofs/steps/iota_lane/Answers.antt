@@ -10,8 +10,8 @@ returns-then-x-y-eq0 c =
     let a = c.args in
     iota_origin a.constant (lane_at a.a) a.x a.y c.if-x-y-eq0.true
 
-pub returns : goal.returns
+pub returns-else-x-y-eq0 : goal.returns-else-x-y-eq0
 unfolding lane_at
-returns c =
+returns-else-x-y-eq0 c =
     let a = c.args in
     iota_elsewhere a.constant (lane_at a.a) a.x a.y c.if-x-y-eq0.false

@@ -1,12 +1,8 @@
--- The bits that stay are moved up, and those that leave come below them (`rotated_by_shifts`).
+-- The bits that stay are moved up, and those that leave come below them (`rotated_left`).
 -- Assumes nothing.
-use Rattle.keccak.proofs.Rules.{not_rotated, rotated_by_shifts}
+use mathlib.Core.Path.{◌∙◌}
+use Rattle.keccak.proofs.Rules.{rotated_left}
 use Rattle.keccak.proofs.steps.rotate.Goals as goal
 
-pub returns-then-k-eq0 : goal.returns-then-k-eq0
-returns-then-k-eq0 c =
-    not_rotated c.args.lane c.if-k-eq0.true c.ranges.lane.fits
-
 pub returns : goal.returns
-returns c =
-    rotated_by_shifts c.args.lane c.args.k c.requires c.ranges.lane.fits
+returns c = c.rotate_left.ensures ∙ rotated_left c.args.lane c.args.k c.requires c.ranges.lane.fits

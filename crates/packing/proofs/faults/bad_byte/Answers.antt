@@ -6,15 +6,12 @@ use Rattle.trits.specs.Trit.{any_to}
 use Rattle.packed.proofs.Keeping.{big_turn, big_all}
 use Rattle.packing.proofs.faults.bad_byte.Goals as goal
 
-pub loop-i-init : goal.loop-i-init
+pub loop-b-init : goal.loop-b-init
 unfolding any_to
-loop-i-init c =
-    (omega arith, refl)
+loop-b-init c = refl
 
-pub loop-i-preserved : goal.loop-i-preserved
-loop-i-preserved c =
-    (omega arith, big_turn c.args.bytes.now c.loop-i.i c.loop-i.invariant.1)
+pub loop-b-preserved : goal.loop-b-preserved
+loop-b-preserved c = big_turn c.args.bytes.now c.loop-b.b-index c.loop-b.invariant
 
 pub returns : goal.returns
-returns c =
-    big_all _ c.loop-i.i (omega arith) c.loop-i.invariant.1
+returns c = big_all _ c.loop-b.b-index (omega arith) c.loop-b.invariant

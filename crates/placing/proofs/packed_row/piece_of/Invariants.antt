@@ -9,6 +9,3 @@ use Rattle.placing.proofs.packed_row.piece_of.Given as goal
 abbrev pub invariant-loop-i : goal.invariant-loop-i
 invariant-loop-i l =
     (l.from ≤ l.i) × (l.i ≤ l.to) × (l.piece ≡ piece_of (λ k. packed_row l.bytes (5 * l.i + k)) (5 * (l.to - l.i)))
-
-abbrev pub decreases-loop-i : goal.decreases-loop-i
-decreases-loop-i l = l.i

@@ -18,8 +18,8 @@ pub mask-requires : goal.mask-requires
 mask-requires c =
     bytes_small c.args.bytes.now c.requires.bytes_fit.good _ (omega arith)
 
-pub append-next-requires : goal.append-next-requires
-append-next-requires c =
+pub append-requires : goal.append-requires
+append-requires c =
     let fit = c.requires.bytes_fit in
     let i = c.loop-i.invariant in record {
       twos_size = i.2.in_twos.size ∙ sym i.2.in_ones.size;
@@ -32,7 +32,7 @@ pub loop-i-preserved : goal.loop-i-preserved
 loop-i-preserved c =
     let bytes = c.args.bytes.now in
     let l = c.loop-i in
-    let a = c.append-next.ensures in
+    let a = c.append.ensures in
     let small = bytes_small bytes c.requires.bytes_fit.good l.i (omega arith) in (
       omega arith,
       omega (arith, a.place, l.invariant.1),

@@ -1,12 +1,14 @@
 -- The part is row i where the plane has as many words as the rows take and there is such a row; else it is empty, as `row_part` says of each case.
 -- Assumes nothing.
-use Prim.Native.Nat.{ℕ, ◌+◌, ◌-◌, ◌*◌, ◌≤◌}
+use Prim.Native.Nat.{ℕ, ◌+◌, ◌-◌, ◌*◌, ◌≤◌, ◌<◌}
 use mathlib.Core.Path.{◌≡◌, ap, ◌∙◌}
+use mathlib.Core.List.{List}
 use native.Mathlib.Omega.{arith}
 use native.Mathlib.Nat.{mul-le-mul_right}
 use lib.ListN.{length, take, drop}
 use Rattle.trits.proofs.Matrix.{row_le, part_wrong, part_none, part_there}
 use Rattle.planes.proofs.words.row_part.Goals as goal
+use Rattle.planes.proofs.words.row_part.Goals.{then-plane-rows-via-then-plane-rows, then-plane-rows-via-else-plane-rows+then-i-rows}
 
 pub overflow_mul-rows : goal.overflow_mul-rows
 overflow_mul-rows c =
@@ -14,43 +16,34 @@ overflow_mul-rows c =
 
 pub returns-then-plane-rows : goal.returns-then-plane-rows
 returns-then-plane-rows c =
-    part_wrong _ _ _ _ c.if-plane-rows.true
+    elim c.then-plane-rows.branch [
+      | then-plane-rows-via-then-plane-rows w ↦ part_wrong _ _ _ _ w.if-plane-rows.true
+      | then-plane-rows-via-else-plane-rows+then-i-rows w ↦ part_none _ _ _ _ w.if-i-rows.true
+    ]
 
-pub returns-then-i-rows : goal.returns-then-i-rows
-returns-then-i-rows c =
-    part_none _ _ _ _ c.if-i-rows.true
+-- the row ends within the plane
+within : (plane : List ℕ) (rows words i : ℕ) → length plane ≡ rows * words → i < rows → i * words + words ≤ length plane
+within plane rows words i e h = omega (arith, row_le words {i = i} {m = rows} h)
 
 pub overflow_mul-a : goal.overflow_mul-a
 overflow_mul-a c =
-    -- the row ends within the plane
-    let within : c.args.i * c.args.words + c.args.words ≤ length c.args.plane.now =
     let a = c.args in
-    omega (arith, row_le a.words {i = a.i} {m = a.rows} (omega arith), c.if-plane-rows.false) in
-    omega (arith, within)
+    omega (arith, within a.plane.now a.rows a.words a.i c.if-plane-rows.false (omega arith))
 
-pub overflow_add-e : goal.overflow_add-e
-overflow_add-e c =
-    -- the row ends within the plane
-    let within : c.args.i * c.args.words + c.args.words ≤ length c.args.plane.now =
+pub overflow_add-result : goal.overflow_add-result
+overflow_add-result c =
     let a = c.args in
-    omega (arith, row_le a.words {i = a.i} {m = a.rows} (omega arith), c.if-plane-rows.false) in
-    omega (arith, within)
+    omega (arith, within a.plane.now a.rows a.words a.i c.if-plane-rows.false (omega arith))
 
 pub offset_bounds-plane-a : goal.offset_bounds-plane-a
 offset_bounds-plane-a c =
-    -- the row ends within the plane
-    let within : c.args.i * c.args.words + c.args.words ≤ length c.args.plane.now =
     let a = c.args in
-    omega (arith, row_le a.words {i = a.i} {m = a.rows} (omega arith), c.if-plane-rows.false) in
-    omega (arith, within)
+    omega (arith, within a.plane.now a.rows a.words a.i c.if-plane-rows.false (omega arith))
 
 pub slice_bounds-result-end-2 : goal.slice_bounds-result-end-2
 slice_bounds-result-end-2 c =
-    -- the row ends within the plane
-    let within : c.args.i * c.args.words + c.args.words ≤ length c.args.plane.now =
     let a = c.args in
-    omega (arith, row_le a.words {i = a.i} {m = a.rows} (omega arith), c.if-plane-rows.false) in
-    omega (arith, within)
+    omega (arith, within a.plane.now a.rows a.words a.i c.if-plane-rows.false (omega arith))
 
 pub returns : goal.returns
 returns c =

@@ -1,21 +1,18 @@
--- Each turn makes one word 0.
+-- A list that repeats 0 is the table of words of 0 (`repeated`).
 -- Assumes nothing.
-use mathlib.Core.Path.{refl}
-use native.Mathlib.Omega.{arith}
-use Rattle.trits.specs.Planes.{zero_words}
-use Rattle.trits.proofs.Patches.{patch_none, patch_more, patched_all}
+use mathlib.Core.Path.{◌≡◌, refl, ap, ◌∙◌}
+use mathlib.Core.List.{List, ◌∷◌}
+use Prim.Native.Nat.{ℕ, zero, suc}
+use Rattle.std.proofs.Common.{replicate}
+use Rattle.trits.specs.Planes.{tabulate, zero_words}
 use Rattle.planes.proofs.words.zero_words.Goals as goal
 
-pub loop-i-init : goal.loop-i-init
-loop-i-init c =
-    (omega arith, patch_none _ _ _)
-
-pub loop-i-preserved : goal.loop-i-preserved
-loop-i-preserved c =
-    let l = c.loop-i in
-    (omega arith, patch_more l.invariant.1 l.i _ (omega arith) (omega arith) refl)
+repeated : (n : ℕ) → replicate n 0 ≡ tabulate (λ j. 0) n
+unfolding tabulate
+repeated zero = refl
+repeated (suc n) = ap (λ (l : List ℕ). 0 ∷ l) (repeated n)
 
 pub returns : goal.returns
 unfolding zero_words
 returns c =
-    patched_all _ c.loop-i.invariant.1 refl (omega arith)
+    c.fill.ensures.after (λ y e. e) ∙ repeated _

@@ -1,6 +1,6 @@
 -- After j turns the state is that after j blocks.
 -- Assumes nothing.
-use Prim.Native.Nat.{◌-◌, ◌≤◌}
+use Prim.Native.Nat.{◌≤◌}
 use mathlib.Core.Path.{◌≡◌}
 use mathlib.Core.List.{◌++◌}
 use Rattle.keccak.specs.Lanes.{lanes_of}
@@ -9,6 +9,3 @@ use Rattle.shake.proofs.absorbing.absorb.Given as goal
 
 abbrev pub invariant-loop-j : goal.invariant-loop-j
 invariant-loop-j l = (l.j ≤ l.blocks) × (l.a ≡ lanes_of (absorbed (l.first ++ l.last) l.j))
-
-abbrev pub decreases-loop-j : goal.decreases-loop-j
-decreases-loop-j l = l.blocks - l.j

@@ -17,4 +17,4 @@ returns c =
     let s = c.args in
     let at = s.start - length s.first.now in
     let inside = block_in_last s.first.now s.last.now s.start at (at + 136 - at) (omega arith) (omega arith) (omega arith) in
-    block_made (s.first.now ++ s.last.now) s.start s.a inside c.add_block-next.ensures c.permute.ensures
+    block_made (s.first.now ++ s.last.now) s.start s.a inside c.add_block.ensures c.permute.ensures

@@ -10,4 +10,4 @@ returns c =
     let s = c.args in
     let message = s.first.now ++ s.last.now in
     let written = block_written message s.start 136 c.fill.ensures in
-    block_made message s.start s.a written c.add_block-next.ensures c.permute.ensures
+    block_made message s.start s.a written c.add_block.ensures c.permute.ensures

@@ -17,9 +17,9 @@ returns-then-p-lt136 c =
     let e = lt-ltb (8 * (5 * s.y + s.x)) 136 c.if-p-lt136.true in
     ap (bit_xor (get_or (get_or s.a s.x []) s.y 0)) c.word.ensures ∙ sym (rw e)
 
-pub returns : goal.returns
+pub returns-else-p-lt136 : goal.returns-else-p-lt136
 unfolding added lane_at
-returns c =
+returns-else-p-lt136 c =
     let s = c.args in
     let e = le-ltb (8 * (5 * s.y + s.x)) 136 c.if-p-lt136.false in
     sym (rw e)

@@ -1,20 +1,16 @@
--- Each return is what the two tests say.
+-- Each arm is what the two tests say.
 -- Assumes nothing.
 use Rattle.shake.proofs.Bytes.{pad_both, pad_last, pad_first, pad_none}
 use Rattle.shake.proofs.padding.pad.Goals as goal
 
-pub returns-then-i-size-2 : goal.returns-then-i-size-2
-returns-then-i-size-2 c =
-    pad_both c.args.size c.args.i c.if-i-size.true c.if-i-size-2.true
+pub returns-in-true-true : goal.returns-in-true-true
+returns-in-true-true c = let t = c.in-true-true in pad_both _ _ t.is-1 t.is-0
 
-pub returns-then-i-size : goal.returns-then-i-size
-returns-then-i-size c =
-    pad_last c.args.size c.args.i c.if-i-size.true c.if-i-size-2.false
+pub returns-in-true-false : goal.returns-in-true-false
+returns-in-true-false c = let t = c.in-true-false in pad_first _ _ t.is-1 t.is-0
 
-pub returns-then-i-size-3 : goal.returns-then-i-size-3
-returns-then-i-size-3 c =
-    pad_first c.args.size c.args.i c.if-i-size.false c.if-i-size-3.true
+pub returns-in-false-true : goal.returns-in-false-true
+returns-in-false-true c = let t = c.in-false-true in pad_last _ _ t.is-1 t.is-0
 
-pub returns : goal.returns
-returns c =
-    pad_none c.args.size c.args.i c.if-i-size.false c.if-i-size-3.false
+pub returns-in-false-false : goal.returns-in-false-false
+returns-in-false-false c = let t = c.in-false-false in pad_none _ _ t.is-1 t.is-0

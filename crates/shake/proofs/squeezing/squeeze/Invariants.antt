@@ -1,17 +1,12 @@
--- A turn writes one byte of a block, and goes on to the block of the next (`Gives`).
+-- A turn writes the next byte of the output (`Gives`).
 -- Assumes nothing.
-use Prim.Native.Nat.{◌-◌, ◌≤◌}
-use lib.ListN.{length}
 use Rattle.trits.proofs.Patches.{Patched}
 use Rattle.keccak.specs.Lanes.{lane_at}
 use Rattle.shake.specs.Shake.{squeezed_byte}
-use Rattle.shake.proofs.Sponge.{Gives}
+use Rattle.shake.specs.Output.{Gives}
 use Rattle.shake.proofs.squeezing.squeeze.Given as goal
 
-abbrev pub invariant-loop-i : goal.invariant-loop-i
-invariant-loop-i l =
-    (l.i ≤ length l.initial.output) × Patched (squeezed_byte (lane_at l.initial.b)) 0 l.i l.initial.output l.output
-    × Gives (lane_at l.initial.b) l.i l.b l.block l.p
-
-abbrev pub decreases-loop-i : goal.decreases-loop-i
-decreases-loop-i l = length l.initial.output - l.i
+abbrev pub invariant-loop-byte : goal.invariant-loop-byte
+invariant-loop-byte l =
+    Patched (squeezed_byte (lane_at l.fn.a)) 0 l.byte-index l.initial.bytes l.bytes
+    × Gives (lane_at l.fn.a) l.byte-index l.output.state l.output.block l.output.place

@@ -17,6 +17,11 @@ pub after_turn : (i : ℕ) {x y : Counts} → y ≡ x → y ≡ after (i + 1) x
 unfolding after
 after_turn i {x} e = e ∙ ap (λ (k : ℕ). after k x) (sym (add-one i))
 
+-- under one state as under another that is the same
+pub after_alike : {h k : Held} {c : Counts} (n : ℕ) (ones twos : List ℕ) (y s : ℕ → Trit) → c ≡ after n (held_counts h ones twos y s) → h ≡ k
+    → c ≡ after n (held_counts k ones twos y s)
+after_alike n ones twos y s e same = e ∙ ap (λ (h : Held). after n (held_counts h ones twos y s)) same
+
 -- they are at most n
 pub after_few : {h : Held} {ones twos : List ℕ} {c : Counts} (n : ℕ) (y s : ℕ → Trit) → Whole h ones twos → c ≡ after n (held_counts h ones twos y s)
     → sum_of c ≤ 16384

@@ -2,11 +2,14 @@
 use mathlib.Core.Path.{◌≡◌, refl, sym, ap, ap₂, ◌∙◌}
 use mathlib.Core.Bool.{true}
 use mathlib.Core.List.{List}
-use Prim.Native.Nat.{ℕ, ◌<◌}
+use Prim.Native.Nat.{ℕ}
 use native.Mathlib.Omega.{arith}
 use borrow.Author.Tests.{eq-eqb, ne_eqb}
 use lib.Dec.{eqb}
 use lib.ListN.{length}
+use Rattle.std.specs.Prelude.{Result, Err}
+use Rattle.std.specs.Result.{IsErrAnd}
+use Rattle.std.proofs.lemmas.Result.{err_from_is_err_and}
 use Rattle.trits.specs.Trit.{sum_of}
 use Rattle.trits.specs.Planes.{words_for, zero_words}
 use Rattle.trits.specs.declared.Counts.{Counts}
@@ -19,9 +22,10 @@ use Rattle.packed.proofs.Turned.{leaves_packed}
 use Rattle.held_key.specs.declared.state.Held.{Held}
 use Rattle.held_key.specs.Held.{sound, row_trits, row_words, key_words}
 use Rattle.check_tests.specs.declared.Checked.{Checked}
+use Rattle.check_tests.specs.declared.Verdict.{Verdict}
 use Rattle.check_tests.specs.Check.{Check, PackedCheck, call_refusal, call_refusal_under, planes_lengths, planes_contents_under, packed_lengths}
 use Rattle.check_tests.specs.Check.{packed_contents_under}
-use Rattle.check_tests.specs.Check.{check_refusal, check_refusal_under, check_packed_refusal, check_packed_refusal_under, answered}
+use Rattle.check_tests.specs.Check.{check_refusal, check_refusal_under, check_packed_refusal, check_packed_refusal_under, told, answered}
 
 -- ---- the verdict
 
@@ -42,14 +46,12 @@ pub says_no : (counts : Counts) (w : ℕ) → (sum_of counts ≡ w → ⊥)
 unfolding answered
 says_no counts w e = rw (ne_eqb (sum_of counts) w e)
 
-pub refused_numbers : {a b : ℕ} → a ≡ b
-    → ◌≡◌ {A = Checked} (record { refusal = a; yes = 0; ones = 0; twos = 0 }) (record { refusal = b; yes = 0; ones = 0; twos = 0 })
-refused_numbers e = rw e
-
--- a refusal returns its number alone, whatever the counts would be
-pub refused_alike : {r : ℕ} (a b : Counts) (w : ℕ) → 0 < r → answered r a w ≡ answered r b w
-unfolding answered
-refused_alike {r} a b w l = rw (ne_eqb r 0 (λ z. omega arith))
+-- what a `?` hands on where the call that it is on refused with this number
+pub told_refused : (answer : Result Verdict Refusal) (refusal : Refusal) {n : ℕ} (counts : Counts) (w : ℕ)
+    → IsErrAnd answer (λ y. y ≡ refusal) → number_of refusal ≡ n → told answer ≡ answered n counts w
+told_refused answer refusal {n} counts w h e =
+    let r = err_from_is_err_and answer h in
+    ap told (r.1 ∙ ap (λ (q : Refusal). Err q) r.2) ∙ says_refused refusal counts w ∙ ap (λ (x : ℕ). answered x counts w) e
 
 -- ---- the working space
 
@@ -105,9 +107,6 @@ pub left_zero : (plane : List ℕ) {p : List ℕ} {r n : ℕ} → r ≡ 0 → n 
 left_zero plane z l e = e ∙ ap zero_words l ∙ space_zero plane {k = 0} (sym z) refl
 
 -- ---- what a check answers, from a refusal, and from counts
-
-pub answer_kept : {r k : ℕ} (a b : Counts) (w : ℕ) → k ≡ r → 0 < k → answered k a w ≡ answered r b w
-answer_kept a b w e l = refused_alike a b w l ∙ ap (λ (x : ℕ). answered x b w) e
 
 pub answer_new : {r k : ℕ} {a b : Counts} (w : ℕ) → k ≡ r → a ≡ b → answered k a w ≡ answered r b w
 answer_new w e f = ap₂ (λ (x : ℕ) (y : Counts). answered x y w) e f

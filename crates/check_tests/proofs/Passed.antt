@@ -6,8 +6,10 @@ use Prim.Native.Nat.{ℕ, ◌<◌}
 use lib.Dec.{eqb, lit<}
 use lib.ListN.{length}
 use borrow.Author.Tests.{eqb-true}
+use Rattle.std.specs.Prelude.{Result, Ok, Err, IfOk}
 use Rattle.trits.specs.Planes.{words_for}
 use Rattle.trits.specs.Refusal.{planes_refusal}
+use Rattle.trits.specs.declared.refusal.Refusal.{Refusal}
 use Rattle.trits.proofs.Refusals.{passed_refuse, passed_demand, passed_first}
 use Rattle.packed.specs.Packed.{bytes_for, packed_row, packed_refusal}
 use Rattle.packed.proofs.RoundTrip.{one_form}
@@ -126,3 +128,8 @@ checked_apart c d e p q same =
     let good = (packed_contents_law d.held d.ones d.twos d.y d.s gd).2 in
     one_form c.held.k c.s d.s (packed_fitted c.held (length c.y) (length c.s) lc).1 (size ∙ ap bytes_for (sym e))
     (packed_contents_law c.held c.ones c.twos c.y c.s gc).2 (ap (λ (k : ℕ). packed_refusal k d.s) e ∙ good) same
+
+-- what was shown before the last test
+pub still_readable : {A : Type 0} (tested : Result Unit Refusal) → A → IfOk tested (λ _. A)
+still_readable (Ok u) a = a
+still_readable (Err q) a = tt

@@ -5,6 +5,7 @@ use mathlib.Core.Logic.{◌⊎◌, inl, inr, ◌≢◌}
 use Prim.Native.Nat.{ℕ}
 use native.Mathlib.Omega.{arith}
 use lib.ListN.{length}
+use Rattle.std.specs.Prelude.{Err}
 use Rattle.trits.specs.Refusal.{first, PlanesTest}
 use Rattle.trits.specs.declared.Counts.{Counts}
 use Rattle.trits.specs.declared.refusal.Refusal.TheVariants.{BothPlanes, PastEnd}
@@ -13,7 +14,6 @@ use Rattle.trits.proofs.Stages.{last_stage, stages_four_for_three}
 use Rattle.packed.specs.Packed.{packed_refusal}
 use Rattle.held_key.specs.Held.{most_key_number, row_trits}
 use Rattle.check_tests.specs.declared.Checked.{Checked}
-use Rattle.check_tests.specs.declared.Verdict.TheVariants.{Refused}
 use Rattle.check_tests.specs.Check.{Check, PackedCheck, call_refusal, planes_lengths, planes_contents_under, packed_lengths, packed_contents_under}
 use Rattle.check_tests.specs.Check.{check_refusal_under, check_packed_refusal_under, told, answered, check_counts, check_packed_counts}
 use Rattle.check_tests.specs.Check.{check_answer, check_answer_under, check_packed_answer, check_packed_answer_under}
@@ -45,7 +45,7 @@ check_packed_stages_law test c =
 
 -- those of a check that is refused 3, and 4
 abbrev AnswersFourForThree : Checked → Checked → Bool → Type 0
-AnswersFourForThree old new there = FourForThree Checked (told (Refused BothPlanes)) (told (Refused PastEnd)) old new there
+AnswersFourForThree old new there = FourForThree Checked (told (Err BothPlanes)) (told (Err PastEnd)) old new there
 
 module _ {old new : ℕ} {there : Bool} (h : FourForThree ℕ 3 4 old new there) (counts : Counts) (w : ℕ) where
   answered_four_for_three : AnswersFourForThree (answered old counts w) (answered new counts w) there
@@ -54,7 +54,7 @@ module _ {old new : ℕ} {there : Bool} (h : FourForThree ℕ 3 4 old new there)
     where
       by : (old ≡ new) ⊎ ((old ≡ 3) × (new ≡ 4))
           → (answered old counts w ≡ answered new counts w)
-          ⊎ ((answered old counts w ≡ told (Refused BothPlanes)) × (answered new counts w ≡ told (Refused PastEnd)))
+          ⊎ ((answered old counts w ≡ told (Err BothPlanes)) × (answered new counts w ≡ told (Err PastEnd)))
       by (inl e) = inl (rw e)
       by (inr (e, f)) = inr (rw e, rw f)
 

@@ -1,15 +1,16 @@
 -- The check: its refusals in the paper's order, the answer, and the working space at exit ("The verdict", both sections "Turned back"). Assumes nothing.
 -- What depends on the largest key number, or on the test of a pair of planes, is defined with any other in its place, by a name that ends in `Under`.
-use Rattle.std.specs.Prelude.{cond, List, ℕ, eqb, length}
+use Rattle.std.specs.Prelude.{cond, List, ℕ, eqb, length, Result, Ok, Err}
 use Rattle.trits.specs.Trit.{Trit, sum_of}
 use Rattle.trits.specs.Planes.{trit_at, words_for}
 use Rattle.trits.specs.Refusal.{number_of, refuse, demand, first, space_exit, PlanesTest, planes_refusal}
 use Rattle.trits.specs.declared.Counts.{Counts}
+use Rattle.trits.specs.declared.refusal.Refusal.{Refusal}
 use Rattle.packed.specs.Packed.{bytes_for, packed_row, packed_refusal}
 use Rattle.held_key.specs.declared.state.Held.{Held}
 use Rattle.check_tests.specs.declared.Checked.{Checked}
 use Rattle.check_tests.specs.declared.Verdict.{Verdict}
-use Rattle.check_tests.specs.declared.Verdict.TheVariants.{Yes, No, Refused}
+use Rattle.check_tests.specs.declared.Verdict.TheVariants.{Yes, No}
 use Rattle.verdict.specs.Verdict.{full_counts}
 use Rattle.held_key.specs.Held.{most_key_number, sound_under, row_trits, row_words, key_words, held_key_under}
 
@@ -141,11 +142,11 @@ held_counts_under most h ones twos y s = full_counts (row_trits h) h.k (held_key
 abbrev pub held_counts : Held → List ℕ → List ℕ → (ℕ → Trit) → (ℕ → Trit) → Counts
 held_counts h ones twos y s = held_counts_under most_key_number h ones twos y s
 
--- the numbers that a verdict is told by: the refusal or 0, 1 for yes and 0 for all else, the ones and the twos or 0
-abbrev pub told : Verdict → Checked
-told (Yes counts) = record { refusal = 0; yes = 1; ones = counts.ones; twos = counts.twos }
-told (No counts) = record { refusal = 0; yes = 0; ones = counts.ones; twos = counts.twos }
-told (Refused r) = record { refusal = number_of r; yes = 0; ones = 0; twos = 0 }
+-- the numbers that an answer is told by: the refusal or 0, 1 for yes and 0 for all else, the ones and the twos or 0
+abbrev pub told : Result Verdict Refusal → Checked
+told (Ok (Yes counts)) = record { refusal = 0; yes = 1; ones = counts.ones; twos = counts.twos }
+told (Ok (No counts)) = record { refusal = 0; yes = 0; ones = counts.ones; twos = counts.twos }
+told (Err r) = record { refusal = number_of r; yes = 0; ones = 0; twos = 0 }
 
 -- the answer is the ones and the twos, and yes exactly when their sum is w (request C-13); a refusal returns its number alone
 unfoldable pub answered : ℕ → Counts → ℕ → Checked

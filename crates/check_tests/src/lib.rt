@@ -1,29 +1,31 @@
 // A check's tests in the paper's order, and its answer.
+// Planes and packed forms stay apart: a trait over both would have both contracts for its laws, and be no plainer.
 #![tactic(auto)]
 
-ghost use Rattle.std.specs.Prelude.{◌≡◌, true, ◌≤◌, length};
+ghost use Rattle.std.specs.Prelude.{◌≡◌, ◌≤◌, length, Ok, IfOk};
 ghost use Rattle.trits.specs.Trit.{sum_of};
+ghost use Rattle.trits.specs.Planes.{Row};
 ghost use Rattle.trits.specs.Refusal.{code_of, planes_refusal};
-ghost use Rattle.held_key.specs.Held.{sound, row_trits};
+ghost use Rattle.held_key.specs.Held.{row_trits};
+ghost use Rattle.held_key.specs.Store.{refusal_of};
 ghost use Rattle.held_key.specs.Steps.{Whole};
 ghost use Rattle.check_tests.specs.Check.{call_refusal, planes_lengths, planes_contents, packed_lengths, packed_contents};
 ghost use Rattle.check_tests.specs.Check.{check_of, check_refusal, packed_check_of, check_packed_refusal, told, answered};
 
-use held_key::state::Held;
-use trits::Counts;
-use trits::refusal::{Outcome, Refusal};
+use held_key::state::{BegunKey, Held};
+use trits::refusal::Refusal;
+use trits::{Counts, Planes};
 
-// What a check answers: the ones and twos of the full word, or the refusal.
+// What a check answers where nothing is refused: the ones and twos of the full word.
 #[derive(Clone, Copy)]
 pub enum Verdict {
     Yes(Counts),
     No(Counts),
-    Refused(Refusal),
 }
 
-// The same in numbers.
+// The answer in numbers, as C is told it.
 #[repr(C)]
-#[derive(Clone, Copy)]
+#[derive(Clone, Copy, Default)]
 pub struct Checked {
     pub refusal: u64, // its number, or 0
     pub yes: u64, // 1 for yes, 0 for all else
@@ -31,240 +33,172 @@ pub struct Checked {
     pub twos: u64, // 0 where refused
 }
 
-// The numbers of a verdict.
-pub fn tell(verdict: Verdict) -> Checked
-    ensures { result ≡ told verdict }
-{
-    match verdict {
-        Verdict::Yes(counts) => Checked {
-            refusal: 0,
-            yes: 1,
-            ones: counts.ones,
-            twos: counts.twos,
-        },
-        Verdict::No(counts) => Checked {
-            refusal: 0,
-            yes: 0,
-            ones: counts.ones,
-            twos: counts.twos,
-        },
-        Verdict::Refused(refusal) => Checked {
-            refusal: trits::refusal::number(refusal),
-            yes: 0,
-            ones: 0,
-            twos: 0,
-        },
+impl From<Result<Verdict, Refusal>> for Checked {
+    // The numbers of an answer.
+    fn from(answer: Result<Verdict, Refusal>) -> Checked
+        ensures { result ≡ told answer }
+    {
+        match answer {
+            Ok(Verdict::Yes(Counts { ones, twos })) => Checked {
+                refusal: 0,
+                yes: 1,
+                ones,
+                twos,
+            },
+            Ok(Verdict::No(Counts { ones, twos })) => Checked {
+                refusal: 0,
+                yes: 0,
+                ones,
+                twos,
+            },
+            Err(refusal) => Checked {
+                refusal: u64::from(refusal),
+                ..Checked::default()
+            },
+        }
     }
 }
 
-// The verdict on a word's ones and twos, where nothing was refused.
-pub fn judge(tested: Outcome, counts: Counts, w: u64) -> Verdict
+// The verdict on a word's ones and twos.
+pub fn judge(counts: Counts, w: u64) -> Verdict
     requires { sum_of counts ≤ 16384 }
-    ensures { told result ≡ answered (code_of tested) counts w }
+    ensures { told (Ok result) ≡ answered 0 counts w }
 {
-    match tested {
-        Outcome::Refused(refusal) => Verdict::Refused(refusal),
-        Outcome::Done => {
-            if counts.ones + counts.twos == w {
-                return Verdict::Yes(counts);
-            }
-            Verdict::No(counts) // another weight
-        }
+    if counts.ones + counts.twos == w {
+        Verdict::Yes(counts)
+    } else {
+        Verdict::No(counts) // another weight
     }
 }
 
 // The first refusal that the state, the key number or the length of a plane makes.
-pub fn test_call(
-    held: Held,
-    number: u64,
-    ones: usize,
-    twos: usize,
-    work_ones: usize,
-    work_twos: usize,
-) -> Outcome
-    ensures { code_of result ≡ call_refusal held number ones twos work_ones work_twos }
+pub fn test_call(held: Held, number: u64, key: Planes, work: Planes) -> Result<BegunKey, Refusal>
+    ensures refusal { refusal_of result ≡ call_refusal held number (length key.entry.ones.now) (length key.entry.twos.now)
+        (length work.entry.ones.now) (length work.entry.twos.now) }
+    ensures same { IfOk result (λ begun. begun.held ≡ held) }
 {
     if held.begun == 0 {
-        return Outcome::Refused(Refusal::NoKey);
+        return Err(Refusal::NoKey);
     }
-    if held_key::state::is_sound(held) {
-        if held.rows != held.k {
-            return Outcome::Refused(Refusal::NoKey);
-        }
-        if number != held.number {
-            return Outcome::Refused(Refusal::OtherKey);
-        }
-        let words = held_key::state::key_words(held);
-        if ones != words {
-            return Outcome::Refused(Refusal::Length);
-        }
-        if twos != words {
-            return Outcome::Refused(Refusal::Length);
-        }
-        let row = held_key::state::row_words(held);
-        if work_ones != row {
-            return Outcome::Refused(Refusal::Length);
-        }
-        if work_twos != row {
-            return Outcome::Refused(Refusal::Length);
-        }
-        return Outcome::Done;
+    let Some(begun) = held.begun_key() else {
+        return Err(Refusal::Size);
+    };
+    if held.rows != held.k {
+        return Err(Refusal::NoKey);
     }
-    Outcome::Refused(Refusal::Size)
+    if number != held.number {
+        return Err(Refusal::OtherKey);
+    }
+    let words = begun.key_words();
+    if key.ones.len() != words || key.twos.len() != words {
+        return Err(Refusal::Length);
+    }
+    let row = begun.row_words();
+    if work.ones.len() != row || work.twos.len() != row {
+        return Err(Refusal::Length);
+    }
+    Ok(begun)
 }
 
-// The contents of the held rows.
-pub fn test_rows(held: Held, ones: &[u64], twos: &[u64]) -> Outcome
-    requires { Whole held ones.now twos.now }
-    ensures { code_of result ≡ planes_refusal ones.now twos.now held.k (row_trits held) }
+// The contents of the held rows. Rows that pass can be read.
+pub fn test_rows(begun: BegunKey, key: Planes) -> Result<(), Refusal>
+    requires { Whole begun.held key.ones.now key.twos.now }
+    ensures refusal { code_of result ≡ planes_refusal key.entry.ones.now key.entry.twos.now begun.held.k (row_trits begun.held) }
+    ensures readable { IfOk result (λ _. Row key.entry.ones.now key.entry.twos.now) }
 {
-    let m = held_key::state::row_trits(held);
-    planes::faults::test_planes(ones, twos, held.k as usize, m)
+    planes::faults::test_planes(key, begun.held.k as usize, begun.row_trits())
 }
 
 // The contents of a check in planes: the held rows, y, s.
-fn test_contents(
-    held: Held,
-    ones: &[u64],
-    twos: &[u64],
-    y_ones: &[u64],
-    y_twos: &[u64],
-    s_ones: &[u64],
-    s_twos: &[u64],
-) -> Outcome
-    requires whole { Whole held ones.now twos.now }
-    requires s_twos_value { planes_lengths held (length y_ones.now) (length y_twos.now) (length s_ones.now) (length s_twos.now) ≡ 0 }
-    ensures { code_of result ≡ planes_contents held ones.now twos.now y_ones.now y_twos.now
-        s_ones.now s_twos.now }
+fn test_contents(begun: BegunKey, key: Planes, y: Planes, s: Planes) -> Result<(), Refusal>
+    requires whole { Whole begun.held key.ones.now key.twos.now }
+    requires fitted { planes_lengths begun.held (length y.ones.now) (length y.twos.now) (length s.ones.now) (length s.twos.now) ≡ 0 }
+    ensures refusal { code_of result ≡ planes_contents begun.held key.entry.ones.now key.entry.twos.now y.entry.ones.now y.entry.twos.now
+        s.entry.ones.now s.entry.twos.now }
+    ensures readable { IfOk result (λ _. Row key.entry.ones.now key.entry.twos.now × Row y.entry.ones.now y.entry.twos.now
+        × Row s.entry.ones.now s.entry.twos.now) }
 {
-    let rows = test_rows(held, ones, twos);
-    if trits::refusal::code(rows) != 0 {
-        return rows;
-    }
-    let m = held_key::state::row_trits(held);
-    let y = planes::faults::test_planes(y_ones, y_twos, 1, m);
-    if trits::refusal::code(y) != 0 {
-        return y;
-    }
-    planes::faults::test_planes(s_ones, s_twos, 1, held.k as usize)
+    test_rows(begun, key)?;
+    planes::faults::test_planes(y, 1, begun.row_trits())?;
+    planes::faults::test_planes(s, 1, begun.held.k as usize)
 }
 
 // The contents of a packed check: the held rows, y, s.
-fn test_packed_contents(held: Held, ones: &[u64], twos: &[u64], y: &[u8], s: &[u8]) -> Outcome
-    requires whole { Whole held ones.now twos.now }
-    requires s_value { packed_lengths held (length y.now) (length s.now) ≡ 0 }
-    ensures { code_of result ≡ packed_contents held ones.now twos.now y.now s.now }
+fn test_packed_contents(begun: BegunKey, key: Planes, y: &[u8], s: &[u8]) -> Result<(), Refusal>
+    requires whole { Whole begun.held key.ones.now key.twos.now }
+    requires fitted { packed_lengths begun.held (length y.now) (length s.now) ≡ 0 }
+    ensures refusal { code_of result ≡ packed_contents begun.held key.entry.ones.now key.entry.twos.now y.now s.now }
+    ensures readable { IfOk result (λ _. Row key.entry.ones.now key.entry.twos.now) }
 {
-    let rows = test_rows(held, ones, twos);
-    if trits::refusal::code(rows) != 0 {
-        return rows;
-    }
-    let m = held_key::state::row_trits(held);
-    let tested = packing::faults::test_bytes(m, y);
-    if trits::refusal::code(tested) != 0 {
-        return tested;
-    }
-    packing::faults::test_bytes(held.k as usize, s)
+    test_rows(begun, key)?;
+    packing::faults::test_bytes(begun.row_trits(), y)?;
+    packing::faults::test_bytes(begun.held.k as usize, s)
 }
 
 // Whether y and s in planes have their lengths.
-fn test_lengths(held: Held, y_ones: usize, y_twos: usize, s_ones: usize, s_twos: usize) -> Outcome
-    requires { sound held ≡ true }
-    ensures { code_of result ≡ planes_lengths held y_ones y_twos s_ones s_twos }
+fn test_lengths(begun: BegunKey, y: Planes, s: Planes) -> Result<(), Refusal>
+    ensures { code_of result ≡ planes_lengths begun.held (length y.entry.ones.now) (length y.entry.twos.now)
+        (length s.entry.ones.now) (length s.entry.twos.now) }
 {
-    let row = held_key::state::row_words(held);
-    if y_ones != row {
-        return Outcome::Refused(Refusal::Length);
+    let row = begun.row_words();
+    let words = (begun.held.k as usize + 63) / 64;
+    if y.ones.len() != row
+        || y.twos.len() != row
+        || s.ones.len() != words
+        || s.twos.len() != words
+    {
+        return Err(Refusal::Length);
     }
-    if y_twos != row {
-        return Outcome::Refused(Refusal::Length);
-    }
-    let words = (held.k as usize + 63) / 64;
-    if s_ones != words {
-        return Outcome::Refused(Refusal::Length);
-    }
-    if s_twos != words {
-        return Outcome::Refused(Refusal::Length);
-    }
-    Outcome::Done
+    Ok(())
 }
 
 // Whether packed y and s have their lengths.
-fn test_packed_lengths(held: Held, y: usize, s: usize) -> Outcome
-    requires { sound held ≡ true }
-    ensures { code_of result ≡ packed_lengths held y s }
+fn test_packed_lengths(begun: BegunKey, y: &[u8], s: &[u8]) -> Result<(), Refusal>
+    ensures { code_of result ≡ packed_lengths begun.held (length y.now) (length s.now) }
 {
-    if y != (held_key::state::row_trits(held) + 4) / 5 {
-        return Outcome::Refused(Refusal::Length);
+    if y.len() != (begun.row_trits() + 4) / 5 || s.len() != (begun.held.k as usize + 4) / 5 {
+        return Err(Refusal::Length);
     }
-    if s != (held.k as usize + 4) / 5 {
-        return Outcome::Refused(Refusal::Length);
-    }
-    Outcome::Done
+    Ok(())
 }
 
-// The first refusal of a check in planes.
+// The first refusal of a check in planes. Planes that pass can be read.
 pub fn test_check(
     held: Held,
     number: u64,
-    ones: &[u64],
-    twos: &[u64],
-    y_ones: &[u64],
-    y_twos: &[u64],
-    s_ones: &[u64],
-    s_twos: &[u64],
-    work_ones: &[u64],
-    work_twos: &[u64],
-) -> Outcome
-    ensures { code_of result ≡ check_refusal (check_of held number ones.now twos.now y_ones.now y_twos.now
-        s_ones.now s_twos.now work_ones.now work_twos.now) }
+    key: Planes,
+    y: Planes,
+    s: Planes,
+    work: Planes,
+) -> Result<BegunKey, Refusal>
+    ensures refusal { refusal_of result ≡ check_refusal (check_of held number key.entry.ones.now key.entry.twos.now
+        y.entry.ones.now y.entry.twos.now s.entry.ones.now s.entry.twos.now work.entry.ones.now work.entry.twos.now) }
+    ensures same { IfOk result (λ begun. begun.held ≡ held) }
+    ensures readable { IfOk result (λ _. Row key.entry.ones.now key.entry.twos.now × Row y.entry.ones.now y.entry.twos.now
+        × Row s.entry.ones.now s.entry.twos.now) }
 {
-    let called = test_call(
-        held,
-        number,
-        ones.len(),
-        twos.len(),
-        work_ones.len(),
-        work_twos.len(),
-    );
-    if trits::refusal::code(called) != 0 {
-        return called;
-    }
-    let fitted = test_lengths(held, y_ones.len(), y_twos.len(), s_ones.len(), s_twos.len());
-    if trits::refusal::code(fitted) != 0 {
-        return fitted;
-    }
-    test_contents(held, ones, twos, y_ones, y_twos, s_ones, s_twos)
+    let begun = test_call(held, number, key, work)?;
+    test_lengths(begun, y, s)?;
+    test_contents(begun, key, y, s)?;
+    Ok(begun)
 }
 
-// The first refusal of a packed check.
+// The first refusal of a packed check. A key that passes can be read.
 pub fn test_packed_check(
     held: Held,
     number: u64,
-    ones: &[u64],
-    twos: &[u64],
+    key: Planes,
     y: &[u8],
     s: &[u8],
-    work_ones: &[u64],
-    work_twos: &[u64],
-) -> Outcome
-    ensures { code_of result ≡ check_packed_refusal (packed_check_of held number ones.now twos.now y.now s.now
-        work_ones.now work_twos.now) }
+    work: Planes,
+) -> Result<BegunKey, Refusal>
+    ensures refusal { refusal_of result ≡ check_packed_refusal (packed_check_of held number key.entry.ones.now key.entry.twos.now
+        y.now s.now work.entry.ones.now work.entry.twos.now) }
+    ensures same { IfOk result (λ begun. begun.held ≡ held) }
+    ensures readable { IfOk result (λ _. Row key.entry.ones.now key.entry.twos.now) }
 {
-    let called = test_call(
-        held,
-        number,
-        ones.len(),
-        twos.len(),
-        work_ones.len(),
-        work_twos.len(),
-    );
-    if trits::refusal::code(called) != 0 {
-        return called;
-    }
-    let fitted = test_packed_lengths(held, y.len(), s.len());
-    if trits::refusal::code(fitted) != 0 {
-        return fitted;
-    }
-    test_packed_contents(held, ones, twos, y, s)
+    let begun = test_call(held, number, key, work)?;
+    test_packed_lengths(begun, y, s)?;
+    test_packed_contents(begun, key, y, s)?;
+    Ok(begun)
 }

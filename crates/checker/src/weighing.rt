@@ -1,4 +1,5 @@
 // The rows of the key taken from y, and the ones and twos of the full word.
+// What is written stays two slices: of a slice the length and the ranges of words are known with no clause, of one in a struct they are not.
 ghost use Rattle.std.specs.Prelude.{◌≡◌, ℕ, ◌≤◌, ◌<◌, length};
 ghost use Rattle.trits.specs.Trit.{sub_t, mul_t, zip_v, counts_v, sum_of, trit_of};
 ghost use Rattle.trits.specs.Planes.{trit_at, Reads};
@@ -9,57 +10,42 @@ ghost use Rattle.check_tests.specs.Check.{held_counts};
 ghost use Rattle.checker.specs.Steps.{ForTakeRow, ForTakeRows, ForTakeByTable, ForTakePackedRows, more_counts, add_counts};
 ghost use Rattle.checker.specs.Steps.{ForWeigh, ForWeighMade, ForWeighPacked};
 
-use held_key::state::Held;
-use trits::Counts;
+use held_key::key::held_row;
+use held_key::state::{BegunKey, Held};
+use trits::{Counts, Planes};
 
 // Row i of the key, times a trit, is taken from the word.
-fn take_row(
-    held: Held,
-    ones: &[u64],
-    twos: &[u64],
-    i: usize,
-    t: u8,
-    work_ones: &mut [u64],
-    work_twos: &mut [u64],
-)
-    requires { ForTakeRow held ones.now twos.now i t work_ones.old work_twos.old }
+fn take_row(held: Held, key: Planes, i: usize, t: u8, work_ones: &mut [u64], work_twos: &mut [u64])
+    requires { ForTakeRow held key.ones.now key.twos.now i t work_ones.old work_twos.old }
     ensures { Reads work_ones.new work_twos.new (length work_ones.old)
         (zip_v sub_t (trit_at work_ones.old work_twos.old)
-        (zip_v mul_t (λ (q : ℕ). trit_of t) (held_key held ones.now twos.now i))) }
+        (zip_v mul_t (λ (q : ℕ). trit_of t) (held_key held key.entry.ones.now key.entry.twos.now i))) }
 {
     if t == 0 {
         return;
     }
-    let row_ones = held_key::key::held_row(held, ones, i);
-    let row_twos = held_key::key::held_row(held, twos, i);
+    let row = Planes {
+        ones: held_row(held, key.ones, i),
+        twos: held_row(held, key.twos, i),
+    };
     if t == 1 {
-        rows::sub_row(work_ones, work_twos, row_ones, row_twos);
-        return;
+        rows::sub_row(work_ones, work_twos, row);
+    } else {
+        rows::add_row(work_ones, work_twos, row);
     }
-    rows::add_row(work_ones, work_twos, row_ones, row_twos);
 }
 
 // Each row of the key, times its trit of s in planes, is taken from the word.
-fn take_rows(
-    held: Held,
-    ones: &[u64],
-    twos: &[u64],
-    s_ones: &[u64],
-    s_twos: &[u64],
-    work_ones: &mut [u64],
-    work_twos: &mut [u64],
-)
-    requires { ForTakeRows held ones.now twos.now s_ones.now s_twos.now work_ones.old work_twos.old }
+fn take_rows(held: Held, key: Planes, s: Planes, work_ones: &mut [u64], work_twos: &mut [u64])
+    requires { ForTakeRows held key.ones.now key.twos.now s.ones.now s.twos.now work_ones.old work_twos.old }
     ensures { Reads work_ones.new work_twos.new (length work_ones.old)
         (zip_v sub_t (trit_at work_ones.old work_twos.old)
-        (times_key held.k (held_key held ones.now twos.now) (trit_at s_ones.now s_twos.now))) }
+        (times_key held.k (held_key held key.entry.ones.now key.entry.twos.now) (trit_at s.entry.ones.now s.entry.twos.now))) }
 {
-    let k = held.rows as usize; // all are stored
-    let mut i = 0;
-    while i < k {
-        let t = planes::places::trit_at(s_ones, s_twos, i);
-        take_row(held, ones, twos, i, t, work_ones, work_twos);
-        i += 1;
+    // all rows are stored
+    for i in 0..held.rows as usize {
+        let t = planes::places::trit_at(s, i);
+        take_row(held, key, i, t, work_ones, work_twos);
     }
 }
 
@@ -68,38 +54,33 @@ fn count_trit(counts: Counts, t: u8) -> Counts
     requires { (sum_of counts ≤ 16384) × (t < 3) }
     ensures { result ≡ more_counts counts (trit_of t) }
 {
-    let ones = counts.ones + (t % 2) as u64; // 1 alone is odd
-    let twos = counts.twos + (t / 2) as u64;
     Counts {
-        ones: ones,
-        twos: twos,
+        ones: counts.ones + u64::from(t % 2), // 1 alone is odd
+        twos: counts.twos + u64::from(t / 2),
     }
 }
 
 // Each row of the key, times its trit of a packed s, is taken from the word; the ones and twos of s.
 fn take_by_table(
     held: Held,
-    ones: &[u64],
-    twos: &[u64],
+    key: Planes,
     s: &[u8],
     work_ones: &mut [u64],
     work_twos: &mut [u64],
     table: &[u8; 1215],
 ) -> Counts
-    requires { ForTakeByTable held ones.now twos.now s.now work_ones.old work_twos.old table.now }
+    requires { ForTakeByTable held key.ones.now key.twos.now s.now work_ones.old work_twos.old table.now }
     ensures value { result ≡ counts_v (packed_row s.now) held.k }
     ensures reads { Reads work_ones.new work_twos.new (length work_ones.old)
         (zip_v sub_t (trit_at work_ones.old work_twos.old)
-        (times_key held.k (held_key held ones.now twos.now) (packed_row s.now))) }
+        (times_key held.k (held_key held key.entry.ones.now key.entry.twos.now) (packed_row s.now))) }
 {
-    let k = held.rows as usize; // all are stored
-    let mut counts = Counts { ones: 0, twos: 0 };
-    let mut i = 0;
-    while i < k {
+    let mut counts = Counts::default();
+    // all rows are stored
+    for i in 0..held.rows as usize {
         let t = packing::table::trit(table, s[i / 5], i % 5);
         counts = count_trit(counts, t);
-        take_row(held, ones, twos, i, t, work_ones, work_twos);
-        i += 1;
+        take_row(held, key, i, t, work_ones, work_twos);
     }
     counts
 }
@@ -107,20 +88,19 @@ fn take_by_table(
 // The same; the byte table is made once.
 fn take_packed_rows(
     held: Held,
-    ones: &[u64],
-    twos: &[u64],
+    key: Planes,
     s: &[u8],
     work_ones: &mut [u64],
     work_twos: &mut [u64],
 ) -> Counts
-    requires { ForTakePackedRows held ones.now twos.now s.now work_ones.old work_twos.old }
+    requires { ForTakePackedRows held key.ones.now key.twos.now s.now work_ones.old work_twos.old }
     ensures value { result ≡ counts_v (packed_row s.now) held.k }
     ensures reads { Reads work_ones.new work_twos.new (length work_ones.old)
         (zip_v sub_t (trit_at work_ones.old work_twos.old)
-        (times_key held.k (held_key held ones.now twos.now) (packed_row s.now))) }
+        (times_key held.k (held_key held key.entry.ones.now key.entry.twos.now) (packed_row s.now))) }
 {
     let table = packing::table::byte_table();
-    take_by_table(held, ones, twos, s, work_ones, work_twos, &table)
+    take_by_table(held, key, s, work_ones, work_twos, &table)
 }
 
 // The ones and twos of two rows together.
@@ -128,71 +108,70 @@ fn add_counts(first: Counts, last: Counts) -> Counts
     requires { (sum_of first ≤ 16384) × (sum_of last ≤ 16384) }
     ensures { result ≡ add_counts first last }
 {
-    let ones = first.ones + last.ones;
-    let twos = first.twos + last.twos;
     Counts {
-        ones: ones,
-        twos: twos,
+        ones: first.ones + last.ones,
+        twos: first.twos + last.twos,
     }
 }
 
 // The ones and twos of the full word of y and s in planes; the working space holds its first part.
 pub fn weigh(
-    held: Held,
-    ones: &[u64],
-    twos: &[u64],
-    y_ones: &[u64],
-    y_twos: &[u64],
-    s_ones: &[u64],
-    s_twos: &[u64],
+    begun: BegunKey,
+    key: Planes,
+    y: Planes,
+    s: Planes,
     work_ones: &mut [u64],
     work_twos: &mut [u64],
 ) -> Counts
-    requires { ForWeigh held ones.now twos.now y_ones.now y_twos.now s_ones.now s_twos.now
+    requires { ForWeigh begun.held key.ones.now key.twos.now y.ones.now y.twos.now s.ones.now s.twos.now
         work_ones.old work_twos.old }
-    ensures { result ≡ held_counts held ones.now twos.now (trit_at y_ones.now y_twos.now)
-        (trit_at s_ones.now s_twos.now) }
+    ensures { result ≡ held_counts begun.held key.entry.ones.now key.entry.twos.now (trit_at y.entry.ones.now y.entry.twos.now)
+        (trit_at s.entry.ones.now s.entry.twos.now) }
 {
-    planes::words::copy_words(work_ones, y_ones);
-    planes::words::copy_words(work_twos, y_twos);
-    take_rows(held, ones, twos, s_ones, s_twos, work_ones, work_twos);
-    let first = rows::count(work_ones, work_twos);
-    let last = rows::count(s_ones, s_twos);
+    planes::words::copy_words(work_ones, y.ones);
+    planes::words::copy_words(work_twos, y.twos);
+    take_rows(begun.held, key, s, work_ones, work_twos);
+    let first = rows::count(Planes {
+        ones: work_ones,
+        twos: work_twos,
+    });
+    let last = rows::count(s);
     add_counts(first, last)
 }
 
 // The ones and twos of the full word of packed s and the y that the working space holds; its first part is left there.
 pub fn weigh_made(
-    held: Held,
-    ones: &[u64],
-    twos: &[u64],
+    begun: BegunKey,
+    key: Planes,
     s: &[u8],
     work_ones: &mut [u64],
     work_twos: &mut [u64],
 ) -> Counts
-    requires { ForWeighMade held ones.now twos.now s.now work_ones.old work_twos.old }
-    ensures { result ≡ held_counts held ones.now twos.now (trit_at work_ones.old work_twos.old)
+    requires { ForWeighMade begun.held key.ones.now key.twos.now s.now work_ones.old work_twos.old }
+    ensures { result ≡ held_counts begun.held key.entry.ones.now key.entry.twos.now (trit_at work_ones.old work_twos.old)
         (packed_row s.now) }
 {
-    let taken = take_packed_rows(held, ones, twos, s, work_ones, work_twos);
-    let first = rows::count(work_ones, work_twos);
+    let taken = take_packed_rows(begun.held, key, s, work_ones, work_twos);
+    let first = rows::count(Planes {
+        ones: work_ones,
+        twos: work_twos,
+    });
     add_counts(first, taken)
 }
 
 // The ones and twos of the full word of packed y and s; the working space holds its first part.
 pub fn weigh_packed(
-    held: Held,
-    ones: &[u64],
-    twos: &[u64],
+    begun: BegunKey,
+    key: Planes,
     y: &[u8],
     s: &[u8],
     work_ones: &mut [u64],
     work_twos: &mut [u64],
 ) -> Counts
-    requires { ForWeighPacked held ones.now twos.now y.now s.now work_ones.old work_twos.old }
-    ensures { result ≡ held_counts held ones.now twos.now (packed_row y.now)
+    requires { ForWeighPacked begun.held key.ones.now key.twos.now y.now s.now work_ones.old work_twos.old }
+    ensures { result ≡ held_counts begun.held key.entry.ones.now key.entry.twos.now (packed_row y.now)
         (packed_row s.now) }
 {
-    placing::packed_row::write_packed(held_key::state::row_trits(held), y, work_ones, work_twos);
-    weigh_made(held, ones, twos, s, work_ones, work_twos)
+    placing::packed_row::write_packed(begun.row_trits(), y, work_ones, work_twos);
+    weigh_made(begun, key, s, work_ones, work_twos)
 }

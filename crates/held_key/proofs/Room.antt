@@ -1,5 +1,5 @@
 -- What the tests of a row have shown where none of them applied. Assumes nothing.
-use mathlib.Core.Path.{◌≡◌}
+use mathlib.Core.Path.{◌≡◌, ap}
 use mathlib.Core.Bool.{true}
 use mathlib.Core.Logic.{◌≢◌}
 use Prim.Native.Nat.{ℕ, ◌+◌, ◌*◌, ◌≤◌, ◌<◌}
@@ -65,3 +65,22 @@ stored_packed_passed c e =
     let a = passed_first (row_refusal h (length c.ones) (length c.twos)) _ e in
     let b = passed_demand (eqb (length c.row) (bytes_for (row_trits h))) 2 _ (lit< tt) a.1 in
     (room h (length c.ones) (length c.twos) a.0, eqb-true _ _ b.0, b.1)
+
+-- where the next row stands, whose words are w: within both planes, which are not long
+pub record Placed (h : Held) (ones twos w : ℕ) : Type 0 where
+  pub words : w ≡ row_words h
+  pub start : h.rows * w ≡ h.rows * row_words h
+  pub in_ones : h.rows * w + w ≤ ones
+  pub in_twos : h.rows * w + w ≤ twos
+  pub small : h.rows * w + w ≤ 16384 * 256
+
+pub placed : {h : Held} {ones twos w : ℕ} → Room h ones twos → w ≡ row_words h → Placed h ones twos w
+placed {h} {ones} {twos} {w} r e =
+    let s = ap (λ (x : ℕ). h.rows * x) e in
+    record {
+      words = e;
+      start = s;
+      in_ones = omega (arith, r.within, r.ones_are);
+      in_twos = omega (arith, r.within, r.twos_are);
+      small = omega (arith, r.within, r.all.room);
+    }

@@ -1,13 +1,26 @@
 -- Beginning a key and storing a row: the refusals in the paper's order, the state and the lent planes at
 -- exit ("Held key and lines of text", both sections "Turned back"). Assumes nothing.
 -- What depends on the largest key number, or on the test of a pair of planes, is defined with any other in its place, by a name that ends in `Under`.
-use Rattle.std.specs.Prelude.{List, ℕ, ◌+◌, ◌*◌, eqb, length}
+use Rattle.std.specs.Prelude.{List, ℕ, ◌+◌, ◌*◌, eqb, length, Result, Ok, Err}
 use Rattle.trits.specs.Planes.{ones_of, twos_of}
 use Rattle.trits.specs.Rows.{put_words}
-use Rattle.trits.specs.Refusal.{refuse, demand, first, at_exit, PlanesTest, planes_refusal}
+use Rattle.trits.specs.Refusal.{number_of, refuse, demand, first, at_exit, PlanesTest, planes_refusal}
+use Rattle.trits.specs.declared.refusal.Refusal.{Refusal}
 use Rattle.packed.specs.Packed.{bytes_for, packed_row, packed_refusal}
 use Rattle.held_key.specs.declared.state.Held.{Held}
 use Rattle.held_key.specs.Held.{most_key_number, numbers_fit_under, sound_under, row_trits, row_words, key_words}
+
+-- ---- what a call answers
+
+-- the number of the refusal, or 0
+abbrev pub refusal_of : {A : Type 0} → Result A Refusal → ℕ
+refusal_of (Ok a) = 0
+refusal_of (Err r) = number_of r
+
+-- the state after a call that answers so: the new one, and after a refusal the host's, which stays
+abbrev pub held_after : Held → Result Held Refusal → Held
+held_after h (Ok new) = new
+held_after h (Err r) = h
 
 -- ---- beginning: the new key replaces the held one, whatever that was
 

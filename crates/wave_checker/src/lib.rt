@@ -1,10 +1,11 @@
 // The module's half for C: each call in numbers. Nothing but what a host needs is exported.
+// Planes come as separate slices, and refusals as numbers, since that is the C interface.
 #![tactic(auto)]
 
 ghost use Rattle.std.specs.Prelude.{◌≡◌, length};
 ghost use Rattle.packed.specs.Calls.{pack_of, pack_refusal, pack_exit, unpack_of, unpack_refusal, unpack_ones, unpack_twos};
 ghost use Rattle.packed.specs.Calls.{stream_of, stream_refusal, stream_ones, stream_twos};
-ghost use Rattle.held_key.specs.Store.{begin_refusal, begin_held, packed_store_of};
+ghost use Rattle.held_key.specs.Store.{refusal_of, held_after, begin_refusal, begin_held, packed_store_of};
 ghost use Rattle.held_key.specs.Store.{store_packed_refusal, store_packed_held, store_packed_ones, store_packed_twos};
 ghost use Rattle.check_tests.specs.Check.{packed_check_of, check_packed_answer, check_packed_work_ones, check_packed_work_twos};
 ghost use Rattle.shake.specs.Shake.{shake256};
@@ -13,6 +14,8 @@ ghost use Rattle.check_text.specs.TextCheck.{text_check_of, check_text_answer, c
 
 use check_tests::Checked;
 use held_key::state::Held;
+use trits::Planes;
+use trits::refusal::Refusal;
 
 // A beginning or a row in numbers.
 #[repr(C)]
@@ -22,19 +25,30 @@ pub struct StoredNumbers {
     pub held: Held, // the state after the call
 }
 
+// The numbers of an answer, and the state after it: the host's own where it was refused.
+fn stored(held: Held, answer: Result<Held, Refusal>) -> StoredNumbers
+    ensures refusal_value { result.refusal ≡ refusal_of answer }
+    ensures held_value { result.held ≡ held_after held answer }
+{
+    match answer {
+        Ok(after) => StoredNumbers {
+            refusal: 0,
+            held: after,
+        },
+        Err(refusal) => StoredNumbers {
+            refusal: u64::from(refusal),
+            held,
+        },
+    }
+}
+
 // `begin` for C.
 #[unsafe(no_mangle)]
 pub extern "C" fn wave_begin(held: Held, number: u64, n: u64, k: u64, w: u64) -> StoredNumbers
     ensures refusal_value { result.refusal ≡ begin_refusal number n k w }
     ensures held_value { result.held ≡ begin_held held number n k w }
 {
-    let stored = held_key::begin(held, number, n, k, w);
-    let outcome = stored.outcome;
-    let after = stored.held;
-    StoredNumbers {
-        refusal: trits::refusal::code(outcome), // of the beginning
-        held: after,
-    }
+    stored(held, held_key::begin(held, number, n, k, w))
 }
 
 // `store_packed_row` for C.
@@ -49,13 +63,7 @@ pub extern "C" fn wave_store_row(
         (result.refusal ≡ store_packed_refusal c) × (result.held ≡ store_packed_held c)
         × (ones.new ≡ store_packed_ones c) × (twos.new ≡ store_packed_twos c) }
 {
-    let stored = held_key::store_packed_row(held, ones, twos, row);
-    let outcome = stored.outcome;
-    let after = stored.held;
-    StoredNumbers {
-        refusal: trits::refusal::code(outcome),
-        held: after, // one row more where it was stored
-    }
+    stored(held, held_key::store_packed_row(held, ones, twos, row))
 }
 
 // `check_packed` for C.
@@ -74,7 +82,8 @@ pub extern "C" fn wave_check(
         work_ones.old work_twos.old in
         (result ≡ check_packed_answer c) × (work_ones.new ≡ check_packed_work_ones c) × (work_twos.new ≡ check_packed_work_twos c) }
 {
-    check_tests::tell(checker::check_packed(held, number, ones, twos, y, s, work_ones, work_twos))
+    let key = Planes { ones, twos };
+    Checked::from(checker::check_packed(held, number, key, y, s, work_ones, work_twos))
 }
 
 // `check_text` for C.
@@ -94,9 +103,8 @@ pub extern "C" fn wave_check_text(
         work_ones.old work_twos.old in
         (result ≡ check_text_answer c) × (work_ones.new ≡ check_text_work_ones c) × (work_twos.new ≡ check_text_work_twos c) }
 {
-    check_tests::tell(check_text::check_text(
-        held, number, ones, twos, salt, text, s, work_ones, work_twos,
-    ))
+    let key = Planes { ones, twos };
+    Checked::from(check_text::check_text(held, number, key, salt, text, s, work_ones, work_twos))
 }
 
 // `syndrome` for C.
@@ -128,7 +136,7 @@ pub extern "C" fn wave_pack(m: usize, ones: &[u64], twos: &[u64], bytes: &mut [u
     ensures { let c = pack_of m ones.now twos.now bytes.old in
         (result ≡ pack_refusal c) × (bytes.new ≡ pack_exit c) }
 {
-    trits::refusal::code(packing::pack(m, ones, twos, bytes))
+    trits::refusal::code(packing::pack(m, Planes { ones, twos }, bytes))
 }
 
 // `unpack` for C.

@@ -2,13 +2,14 @@
 -- Assumes nothing.
 use mathlib.Core.Path.{◌≡◌, refl, ◌∙◌}
 use native.Mathlib.Omega.{arith}
+use Rattle.trits.proofs.Counted.{same_counts}
 use Rattle.bench_check.specs.{after}
 use Rattle.bench_check.proofs.Laws.{after_turn}
 use Rattle.bench_check.proofs.weigh_packed_times.Goals as goal
 
 pub loop-i-init : goal.loop-i-init
 unfolding after
-loop-i-init c = (omega arith, refl, refl, refl)
+loop-i-init c = (refl, refl, same_counts c.default-counts.ensures.0 c.default-counts.ensures.1)
 
 pub weigh_packed-counts-requires : goal.weigh_packed-counts-requires
 weigh_packed-counts-requires c =
@@ -17,8 +18,9 @@ weigh_packed-counts-requires c =
       whole = p.whole;
       lengths = p.lengths;
       contents = p.contents;
-      work_ones = l.1 ∙ p.work_ones;
-      work_twos = l.2 ∙ p.work_twos;
+      readable = p.readable;
+      work_ones = l.0 ∙ p.work_ones;
+      work_twos = l.1 ∙ p.work_twos;
     }
 
 pub loop-i-preserved : goal.loop-i-preserved
@@ -26,20 +28,19 @@ loop-i-preserved c =
     let l = c.loop-i in (
       omega arith,
       omega arith,
-      omega arith,
-      after_turn l.i c.weigh_packed-counts.ensures,
+      after_turn l._i c.weigh_packed-counts.ensures,
     )
 
 pub shape_of-work_ones : goal.shape_of-work_ones
 shape_of-work_ones c =
-    c.loop-i.invariant.1
+    c.loop-i.invariant.0
 
 pub shape_of-work_twos : goal.shape_of-work_twos
 shape_of-work_twos c =
-    c.loop-i.invariant.2
+    c.loop-i.invariant.1
 
 pub returns : goal.returns
 returns c =
     let l = c.loop-i in
-    let e : l.i ≡ c.args.times = omega arith in
-    rw (← e) l.invariant.3
+    let e : l._i ≡ c.args.times = omega arith in
+    rw (← e) l.invariant.2

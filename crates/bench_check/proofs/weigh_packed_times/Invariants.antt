@@ -1,6 +1,5 @@
 -- Each turn works out the same ones and twos (`after_turn`); the working space keeps its lengths.
 -- Assumes nothing.
-use Prim.Native.Nat.{◌-◌, ◌≤◌}
 use mathlib.Core.Path.{◌≡◌}
 use lib.ListN.{length}
 use Rattle.packed.specs.Packed.{packed_row}
@@ -10,8 +9,5 @@ use Rattle.bench_check.proofs.weigh_packed_times.Given as goal
 
 abbrev pub invariant-loop-i : goal.invariant-loop-i
 invariant-loop-i l =
-    (l.i ≤ l.times) × (length l.work_ones ≡ length l.initial.work_ones) × (length l.work_twos ≡ length l.initial.work_twos)
-    × (l.counts ≡ after l.i (held_counts l.held l.ones l.twos (packed_row l.y) (packed_row l.s)))
-
-abbrev pub decreases-loop-i : goal.decreases-loop-i
-decreases-loop-i l = l.times - l.i
+    (length l.work_ones ≡ length l.initial.work_ones) × (length l.work_twos ≡ length l.initial.work_twos)
+    × (l.counts ≡ after l._i (held_counts l.begun.held l.key.ones.now l.key.twos.now (packed_row l.y) (packed_row l.s)))

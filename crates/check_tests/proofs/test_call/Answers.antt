@@ -1,243 +1,109 @@
 -- The tests are made in the order of `call_refusal`, and each return tells what they found.
 -- Assumes nothing.
-use mathlib.Core.Path.{◌≡◌, sym, ◌∙◌}
+use mathlib.Core.Path.{◌≡◌, sym, ap, ◌∙◌}
 use mathlib.Core.Bool.{true, false}
+use Prim.Native.Nat.{ℕ}
 use native.Mathlib.Omega.{arith}
 use lib.Dec.{eqb}
+use lib.ListN.{length}
 use borrow.Author.Tests.{eq-eqb, ne_eqb}
-use Rattle.held_key.specs.Held.{sound, row_words, key_words}
 use Rattle.trits.specs.Refusal.{demand}
+use Rattle.held_key.specs.declared.state.Held.{Held}
+use Rattle.held_key.specs.Held.{sound, row_words, key_words}
 use Rattle.check_tests.specs.Check.{call_refusal, call_refusal_under}
 use Rattle.check_tests.proofs.test_call.Goals as goal
+use Rattle.check_tests.proofs.test_call.Goals.{then-key-words-via-then-key-words, then-key-words-via-else-key-words+then-key-words-2}
+use Rattle.check_tests.proofs.test_call.Goals.{then-work-row-via-then-work-row, then-work-row-via-else-work-row+then-work-row-2}
 
-pub returns-then-held-eq0 : goal.returns-then-held-eq0
+module _ (h : Held) (number a b d e : ℕ) (begun : eqb h.begun 0 ≡ false) (is_sound : sound h ≡ true) (whole : eqb h.rows h.k ≡ true)
+    (named : eqb number h.number ≡ true) where
+  -- once the key is whole and the one named, the lengths decide
+  lengths_left : call_refusal h number a b d e
+      ≡ demand (eqb a (key_words h)) 2 (demand (eqb b (key_words h)) 2 (demand (eqb d (row_words h)) 2 (demand (eqb e (row_words h)) 2 0)))
+  unfolding call_refusal_under
+  lengths_left = rw (begun, is_sound, whole, named)
+
+  -- and once both planes have theirs, the working space
+  work_left : a ≡ key_words h → b ≡ key_words h → call_refusal h number a b d e ≡ demand (eqb d (row_words h)) 2 (demand (eqb e (row_words h)) 2 0)
+  work_left p q = rw (lengths_left, eq-eqb a (key_words h) p, eq-eqb b (key_words h) q)
+
+pub returns-then-held-eq0-clause-refusal : goal.returns-then-held-eq0-clause-refusal
 unfolding call_refusal_under
-returns-then-held-eq0 c =
+returns-then-held-eq0-clause-refusal c =
     rw (eq-eqb _ _ c.if-held-eq0.true)
 
-pub returns-then-held : goal.returns-then-held
+pub returns-in_default-clause-refusal : goal.returns-in_default-clause-refusal
 unfolding call_refusal_under
-returns-then-held c =
-    -- there is a key, and its state is sound
-    let begun : eqb c.args.held.begun 0 ≡ false =
-    ne_eqb _ _ c.if-held-eq0.false in
-    let state_sound : sound c.args.held ≡ true =
-    sym c.is_sound.ensures ∙ c.if-is_sound.true in
-    rw (begun, state_sound, ne_eqb _ _ c.if-held.true)
+returns-in_default-clause-refusal c =
+    rw (ne_eqb _ _ c.if-held-eq0.false, c.in_default.ensures)
 
-pub returns-then-number-held : goal.returns-then-number-held
+pub returns-then-held-clause-refusal : goal.returns-then-held-clause-refusal
 unfolding call_refusal_under
-returns-then-number-held c =
-    -- there is a key, and its state is sound
-    let begun : eqb c.args.held.begun 0 ≡ false =
-    ne_eqb _ _ c.if-held-eq0.false in
-    let state_sound : sound c.args.held ≡ true =
-    sym c.is_sound.ensures ∙ c.if-is_sound.true in
+returns-then-held-clause-refusal c =
+    let state_sound : sound c.args.held ≡ true = sym (ap sound c.in-Some.ensures) ∙ c.in-Some.begun.sound in
+    rw (ne_eqb _ _ c.if-held-eq0.false, state_sound, ne_eqb _ _ c.if-held.true)
+
+pub returns-then-number-held-clause-refusal : goal.returns-then-number-held-clause-refusal
+unfolding call_refusal_under
+returns-then-number-held-clause-refusal c =
     let a = c.args in
+    let state_sound : sound a.held ≡ true = sym (ap sound c.in-Some.ensures) ∙ c.in-Some.begun.sound in
     rw (
-      begun,
+      ne_eqb _ _ c.if-held-eq0.false,
       state_sound,
       eq-eqb _ _ c.if-held.false,
       ne_eqb a.number a.held.number (λ e. omega (arith, e, c.if-number-held.true)),
     )
 
-pub key_words-words-requires : goal.key_words-words-requires
-key_words-words-requires c =
-    let state_sound : sound c.args.held ≡ true =
-    sym c.is_sound.ensures ∙ c.if-is_sound.true in
-    state_sound
+pub returns-then-key-words-clause-refusal : goal.returns-then-key-words-clause-refusal
+returns-then-key-words-clause-refusal c =
+    let a = c.args in
+    let state_sound : sound a.held ≡ true = sym (ap sound c.in-Some.ensures) ∙ c.in-Some.begun.sound in
+    let left = lengths_left a.held a.number (length a.key.ones.now) (length a.key.twos.now) (length a.work.ones.now) (length a.work.twos.now)
+    (ne_eqb _ _ c.if-held-eq0.false) state_sound (eq-eqb _ _ c.if-held.false) (eq-eqb _ _ (omega (arith, c.if-number-held.false))) in
+    let e = c.key_words-words.ensures ∙ ap key_words c.in-Some.ensures in
+    elim c.then-key-words.branch [
+      | then-key-words-via-then-key-words w ↦
+          rw (left, ne_eqb (length a.key.ones.now) (key_words a.held) (λ z. w.if-key-words.true (z ∙ sym e)))
+      | then-key-words-via-else-key-words+then-key-words-2 w ↦
+          rw (
+            left,
+            eq-eqb (length a.key.ones.now) (key_words a.held) (w.if-key-words.false ∙ e),
+            ne_eqb (length a.key.twos.now) (key_words a.held) (λ z. w.if-key-words-2.true (z ∙ sym e)),
+          )
+    ]
 
-pub returns-then-ones-words : goal.returns-then-ones-words
-unfolding call_refusal_under
-returns-then-ones-words c =
-    -- there is a key, and its state is sound
-    let begun : eqb c.args.held.begun 0 ≡ false =
-    ne_eqb _ _ c.if-held-eq0.false in
-    let state_sound : sound c.args.held ≡ true =
-    sym c.is_sound.ensures ∙ c.if-is_sound.true in
-    -- what is left of the chain once the key is whole and the one named: the lengths
-    let lengths_left :
-    let a = c.args in call_refusal a.held a.number a.ones a.twos a.work_ones a.work_twos
-    ≡ demand (eqb a.ones (key_words a.held)) 2
-    (demand (eqb a.twos (key_words a.held)) 2 (demand (eqb a.work_ones (row_words a.held)) 2 (demand (eqb a.work_twos (row_words a.held)) 2 0))) =
+pub returns-then-work-row-clause-refusal : goal.returns-then-work-row-clause-refusal
+returns-then-work-row-clause-refusal c =
     let a = c.args in
-    rw (
-      begun,
-      state_sound,
-      eq-eqb _ _ c.if-held.false,
-      eq-eqb a.number a.held.number (omega (arith, c.if-number-held.false)),
-    ) in
-    let a = c.args in
-    rw (lengths_left, ne_eqb a.ones (key_words a.held) (λ e. c.if-ones-words.true (e ∙ sym c.key_words-words.ensures)))
+    let state_sound : sound a.held ≡ true = sym (ap sound c.in-Some.ensures) ∙ c.in-Some.begun.sound in
+    let e = c.key_words-words.ensures ∙ ap key_words c.in-Some.ensures in
+    let r = c.row_words-row.ensures ∙ ap row_words c.in-Some.ensures in
+    let left = work_left a.held a.number (length a.key.ones.now) (length a.key.twos.now) (length a.work.ones.now) (length a.work.twos.now)
+    (ne_eqb _ _ c.if-held-eq0.false) state_sound (eq-eqb _ _ c.if-held.false) (eq-eqb _ _ (omega (arith, c.if-number-held.false)))
+    (c.if-key-words.false ∙ e) (c.if-key-words-2.false ∙ e) in
+    elim c.then-work-row.branch [
+      | then-work-row-via-then-work-row w ↦
+          rw (left, ne_eqb (length a.work.ones.now) (row_words a.held) (λ z. w.if-work-row.true (z ∙ sym r)))
+      | then-work-row-via-else-work-row+then-work-row-2 w ↦
+          rw (
+            left,
+            eq-eqb (length a.work.ones.now) (row_words a.held) (w.if-work-row.false ∙ r),
+            ne_eqb (length a.work.twos.now) (row_words a.held) (λ z. w.if-work-row-2.true (z ∙ sym r)),
+          )
+    ]
 
-pub returns-then-twos-words : goal.returns-then-twos-words
-unfolding call_refusal_under
-returns-then-twos-words c =
-    -- there is a key, and its state is sound
-    let begun : eqb c.args.held.begun 0 ≡ false =
-    ne_eqb _ _ c.if-held-eq0.false in
-    let state_sound : sound c.args.held ≡ true =
-    sym c.is_sound.ensures ∙ c.if-is_sound.true in
-    -- what is left of the chain once the key is whole and the one named: the lengths
-    let lengths_left :
-    let a = c.args in call_refusal a.held a.number a.ones a.twos a.work_ones a.work_twos
-    ≡ demand (eqb a.ones (key_words a.held)) 2
-    (demand (eqb a.twos (key_words a.held)) 2 (demand (eqb a.work_ones (row_words a.held)) 2 (demand (eqb a.work_twos (row_words a.held)) 2 0))) =
+pub returns-clause-refusal : goal.returns-clause-refusal
+returns-clause-refusal c =
     let a = c.args in
+    let state_sound : sound a.held ≡ true = sym (ap sound c.in-Some.ensures) ∙ c.in-Some.begun.sound in
+    let e = c.key_words-words.ensures ∙ ap key_words c.in-Some.ensures in
+    let r = c.row_words-row.ensures ∙ ap row_words c.in-Some.ensures in
+    let left = work_left a.held a.number (length a.key.ones.now) (length a.key.twos.now) (length a.work.ones.now) (length a.work.twos.now)
+    (ne_eqb _ _ c.if-held-eq0.false) state_sound (eq-eqb _ _ c.if-held.false) (eq-eqb _ _ (omega (arith, c.if-number-held.false)))
+    (c.if-key-words.false ∙ e) (c.if-key-words-2.false ∙ e) in
     rw (
-      begun,
-      state_sound,
-      eq-eqb _ _ c.if-held.false,
-      eq-eqb a.number a.held.number (omega (arith, c.if-number-held.false)),
-    ) in
-    -- the ones plane has its length
-    let ones_fit :
-    let a = c.args in eqb a.ones (key_words a.held) ≡ true =
-    eq-eqb _ _ (c.if-ones-words.false ∙ c.key_words-words.ensures) in
-    let a = c.args in
-    rw (
-      lengths_left,
-      ones_fit,
-      ne_eqb a.twos (key_words a.held) (λ e. c.if-twos-words.true (e ∙ sym c.key_words-words.ensures)),
+      left,
+      eq-eqb (length a.work.ones.now) (row_words a.held) (c.if-work-row.false ∙ r),
+      eq-eqb (length a.work.twos.now) (row_words a.held) (c.if-work-row-2.false ∙ r),
     )
-
-pub row_words-row-requires : goal.row_words-row-requires
-row_words-row-requires c =
-    let state_sound : sound c.args.held ≡ true =
-    sym c.is_sound.ensures ∙ c.if-is_sound.true in
-    state_sound
-
-pub returns-then-work_ones-row : goal.returns-then-work_ones-row
-unfolding call_refusal_under
-returns-then-work_ones-row c =
-    -- there is a key, and its state is sound
-    let begun : eqb c.args.held.begun 0 ≡ false =
-    ne_eqb _ _ c.if-held-eq0.false in
-    let state_sound : sound c.args.held ≡ true =
-    sym c.is_sound.ensures ∙ c.if-is_sound.true in
-    -- what is left of the chain once the key is whole and the one named: the lengths
-    let lengths_left :
-    let a = c.args in call_refusal a.held a.number a.ones a.twos a.work_ones a.work_twos
-    ≡ demand (eqb a.ones (key_words a.held)) 2
-    (demand (eqb a.twos (key_words a.held)) 2 (demand (eqb a.work_ones (row_words a.held)) 2 (demand (eqb a.work_twos (row_words a.held)) 2 0))) =
-    let a = c.args in
-    rw (
-      begun,
-      state_sound,
-      eq-eqb _ _ c.if-held.false,
-      eq-eqb a.number a.held.number (omega (arith, c.if-number-held.false)),
-    ) in
-    -- the ones plane has its length
-    let ones_fit :
-    let a = c.args in eqb a.ones (key_words a.held) ≡ true =
-    eq-eqb _ _ (c.if-ones-words.false ∙ c.key_words-words.ensures) in
-    -- what is left of the chain once both planes have their lengths: the working space
-    let work_left :
-    let a = c.args in call_refusal a.held a.number a.ones a.twos a.work_ones a.work_twos
-    ≡ demand (eqb a.work_ones (row_words a.held)) 2 (demand (eqb a.work_twos (row_words a.held)) 2 0) =
-    let a = c.args in
-    rw (
-      lengths_left,
-      ones_fit,
-      eq-eqb a.twos (key_words a.held) (c.if-twos-words.false ∙ c.key_words-words.ensures),
-    ) in
-    let a = c.args in
-    rw (work_left, ne_eqb a.work_ones (row_words a.held) (λ e. c.if-work_ones-row.true (e ∙ sym c.row_words-row.ensures)))
-
-pub returns-then-work_twos-row : goal.returns-then-work_twos-row
-unfolding call_refusal_under
-returns-then-work_twos-row c =
-    -- there is a key, and its state is sound
-    let begun : eqb c.args.held.begun 0 ≡ false =
-    ne_eqb _ _ c.if-held-eq0.false in
-    let state_sound : sound c.args.held ≡ true =
-    sym c.is_sound.ensures ∙ c.if-is_sound.true in
-    -- what is left of the chain once the key is whole and the one named: the lengths
-    let lengths_left :
-    let a = c.args in call_refusal a.held a.number a.ones a.twos a.work_ones a.work_twos
-    ≡ demand (eqb a.ones (key_words a.held)) 2
-    (demand (eqb a.twos (key_words a.held)) 2 (demand (eqb a.work_ones (row_words a.held)) 2 (demand (eqb a.work_twos (row_words a.held)) 2 0))) =
-    let a = c.args in
-    rw (
-      begun,
-      state_sound,
-      eq-eqb _ _ c.if-held.false,
-      eq-eqb a.number a.held.number (omega (arith, c.if-number-held.false)),
-    ) in
-    -- the ones plane has its length
-    let ones_fit :
-    let a = c.args in eqb a.ones (key_words a.held) ≡ true =
-    eq-eqb _ _ (c.if-ones-words.false ∙ c.key_words-words.ensures) in
-    -- what is left of the chain once both planes have their lengths: the working space
-    let work_left :
-    let a = c.args in call_refusal a.held a.number a.ones a.twos a.work_ones a.work_twos
-    ≡ demand (eqb a.work_ones (row_words a.held)) 2 (demand (eqb a.work_twos (row_words a.held)) 2 0) =
-    let a = c.args in
-    rw (
-      lengths_left,
-      ones_fit,
-      eq-eqb a.twos (key_words a.held) (c.if-twos-words.false ∙ c.key_words-words.ensures),
-    ) in
-    -- the ones plane of the working space has its length
-    let work_ones_fit :
-    let a = c.args in eqb a.work_ones (row_words a.held) ≡ true =
-    eq-eqb _ _ (c.if-work_ones-row.false ∙ c.row_words-row.ensures) in
-    let a = c.args in
-    rw (
-      work_left,
-      work_ones_fit,
-      ne_eqb a.work_twos (row_words a.held) (λ e. c.if-work_twos-row.true (e ∙ sym c.row_words-row.ensures)),
-    )
-
-pub returns-then-is_sound : goal.returns-then-is_sound
-unfolding call_refusal_under
-returns-then-is_sound c =
-    -- there is a key, and its state is sound
-    let begun : eqb c.args.held.begun 0 ≡ false =
-    ne_eqb _ _ c.if-held-eq0.false in
-    let state_sound : sound c.args.held ≡ true =
-    sym c.is_sound.ensures ∙ c.if-is_sound.true in
-    -- what is left of the chain once the key is whole and the one named: the lengths
-    let lengths_left :
-    let a = c.args in call_refusal a.held a.number a.ones a.twos a.work_ones a.work_twos
-    ≡ demand (eqb a.ones (key_words a.held)) 2
-    (demand (eqb a.twos (key_words a.held)) 2 (demand (eqb a.work_ones (row_words a.held)) 2 (demand (eqb a.work_twos (row_words a.held)) 2 0))) =
-    let a = c.args in
-    rw (
-      begun,
-      state_sound,
-      eq-eqb _ _ c.if-held.false,
-      eq-eqb a.number a.held.number (omega (arith, c.if-number-held.false)),
-    ) in
-    -- the ones plane has its length
-    let ones_fit :
-    let a = c.args in eqb a.ones (key_words a.held) ≡ true =
-    eq-eqb _ _ (c.if-ones-words.false ∙ c.key_words-words.ensures) in
-    -- what is left of the chain once both planes have their lengths: the working space
-    let work_left :
-    let a = c.args in call_refusal a.held a.number a.ones a.twos a.work_ones a.work_twos
-    ≡ demand (eqb a.work_ones (row_words a.held)) 2 (demand (eqb a.work_twos (row_words a.held)) 2 0) =
-    let a = c.args in
-    rw (
-      lengths_left,
-      ones_fit,
-      eq-eqb a.twos (key_words a.held) (c.if-twos-words.false ∙ c.key_words-words.ensures),
-    ) in
-    -- the ones plane of the working space has its length
-    let work_ones_fit :
-    let a = c.args in eqb a.work_ones (row_words a.held) ≡ true =
-    eq-eqb _ _ (c.if-work_ones-row.false ∙ c.row_words-row.ensures) in
-    let a = c.args in
-    rw (
-      work_left,
-      work_ones_fit,
-      eq-eqb a.work_twos (row_words a.held) (c.if-work_twos-row.false ∙ c.row_words-row.ensures),
-    )
-
-pub returns : goal.returns
-unfolding call_refusal_under
-returns c =
-    -- there is a key, and its state is sound
-    let begun : eqb c.args.held.begun 0 ≡ false =
-    ne_eqb _ _ c.if-held-eq0.false in
-    rw (begun, sym c.is_sound.ensures ∙ c.if-is_sound.false)

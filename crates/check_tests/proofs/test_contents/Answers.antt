@@ -1,59 +1,49 @@
 -- The held rows, y and s are tested in the order of `planes_contents`, and the first refusal is returned.
 -- Assumes nothing.
 use native.Mathlib.Omega.{arith}
-use mathlib.Core.Path.{◌≡◌, sym, ap, ◌∙◌}
-use lib.ListN.{length}
-use Rattle.trits.specs.Refusal.{code_of, planes_refusal}
+use mathlib.Core.Path.{refl, ap, ◌∙◌}
+use Rattle.std.specs.Prelude.{Result, Ok, Err, IfOk}
+use Rattle.trits.specs.Refusal.{planes_refusal}
 use Rattle.trits.proofs.Refusals.{first_stops, first_goes}
-use Rattle.held_key.specs.Held.{row_trits}
+use Rattle.trits.proofs.Outcomes.{handed_on, refused_positive}
 use Rattle.held_key.proofs.Sizes.{sizes}
+use Rattle.trits.specs.declared.refusal.Refusal.{Refusal}
 use Rattle.check_tests.specs.Check.{planes_contents_under}
-use Rattle.check_tests.proofs.Passed.{Fitted, fitted}
+use Rattle.check_tests.proofs.Passed.{fitted}
 use Rattle.check_tests.proofs.test_contents.Goals as goal
 
-pub test_rows-rows-requires : goal.test_rows-rows-requires
-test_rows-rows-requires c =
-    c.requires.whole
+-- what the last test shows, with what the first two have shown
+all_readable : {A B : Type 0} (C : Type 0) (tested : Result Unit Refusal) → A → B → IfOk tested (λ _. C) → IfOk tested (λ _. A × B × C)
+all_readable C (Ok u) a b c = (a, b, c)
+all_readable C (Err q) a b c = tt
 
-pub returns-then-code-ne0 : goal.returns-then-code-ne0
+pub returns-in_err-test_rows-clause-refusal : goal.returns-in_err-test_rows-clause-refusal
 unfolding planes_contents_under
-returns-then-code-ne0 c =
-    first_stops _ c.test_rows-rows.ensures (λ z. c.if-code-ne0.true (c.code.ensures ∙ z))
-
-pub row_trits-m-requires : goal.row_trits-m-requires
-row_trits-m-requires c =
-    c.requires.whole.is_sound
-
-pub test_planes-y-requires : goal.test_planes-y-requires
-test_planes-y-requires c =
-    -- y and s have the lengths that the key asks
-    let fitting : let a = c.args in Fitted a.held (length a.y_ones.now) (length a.y_twos.now) (length a.s_ones.now) (length a.s_twos.now) =
-    fitted _ _ _ _ _ c.requires.s_twos_value in
-    omega (arith, fitting, sizes c.args.held c.requires.whole.is_sound, c.row_trits-m.ensures)
-
-pub returns-then-code-ne0-2 : goal.returns-then-code-ne0-2
-unfolding planes_contents_under
-returns-then-code-ne0-2 c =
-    -- the key's planes passed, so that what follows decides
-    let key_passed : code_of c.test_rows-rows.result ≡ 0 = sym c.code.ensures ∙ c.if-code-ne0.false in
-    -- what the test of y's planes told
-    let y_told : let a = c.args in code_of c.test_planes-y.result ≡ planes_refusal a.y_ones.now a.y_twos.now 1 (row_trits a.held) =
-    c.test_planes-y.ensures ∙ ap (planes_refusal _ _ _) c.row_trits-m.ensures in
-    first_goes c.test_rows-rows.ensures key_passed (first_stops _ y_told (λ z. c.if-code-ne0-2.true (c.code-2.ensures ∙ z)))
+returns-in_err-test_rows-clause-refusal c =
+    let r = c.from_residual.ensures in
+    first_stops _ (handed_on _ _ r.1 c.in_err-test_rows.ensures.refusal) (λ z. omega (arith, refused_positive _ r.0))
 
 pub test_planes-requires : goal.test_planes-requires
 test_planes-requires c =
-    -- y and s have the lengths that the key asks
-    let fitting : let a = c.args in Fitted a.held (length a.y_ones.now) (length a.y_twos.now) (length a.s_ones.now) (length a.s_twos.now) =
-    fitted _ _ _ _ _ c.requires.s_twos_value in
-    omega (arith, fitting, sizes c.args.held c.requires.whole.is_sound)
+    omega (arith, fitted _ _ _ _ _ c.requires.fitted, sizes _ c.args.begun.sound, c.row_trits.ensures)
 
-pub returns : goal.returns
+pub returns-in_err-test_planes-clause-refusal : goal.returns-in_err-test_planes-clause-refusal
 unfolding planes_contents_under
-returns c =
-    -- the key's planes passed, so that what follows decides
-    let key_passed : code_of c.test_rows-rows.result ≡ 0 = sym c.code.ensures ∙ c.if-code-ne0.false in
-    -- what the test of y's planes told
-    let y_told : let a = c.args in code_of c.test_planes-y.result ≡ planes_refusal a.y_ones.now a.y_twos.now 1 (row_trits a.held) =
-    c.test_planes-y.ensures ∙ ap (planes_refusal _ _ _) c.row_trits-m.ensures in
-    first_goes c.test_rows-rows.ensures key_passed (first_goes y_told (sym c.code-2.ensures ∙ c.if-code-ne0-2.false) c.test_planes.ensures)
+returns-in_err-test_planes-clause-refusal c =
+    let r = c.from_residual-in_err-test_planes.ensures in
+    let y_told = c.in_err-test_planes.ensures.refusal ∙ ap (planes_refusal _ _ _) c.row_trits.ensures in
+    first_goes c.in_ok-test_rows.ensures.refusal refl (first_stops _ (handed_on _ _ r.1 y_told) (λ z. omega (arith, refused_positive _ r.0)))
+
+pub test_planes-requires-2 : goal.test_planes-requires-2
+test_planes-requires-2 c =
+    omega (arith, fitted _ _ _ _ _ c.requires.fitted, sizes _ c.args.begun.sound)
+
+pub returns-clause-refusal : goal.returns-clause-refusal
+unfolding planes_contents_under
+returns-clause-refusal c =
+    let y_told = c.in_ok-test_planes.ensures.refusal ∙ ap (planes_refusal _ _ _) c.row_trits.ensures in
+    first_goes c.in_ok-test_rows.ensures.refusal refl (first_goes y_told refl c.test_planes-2.ensures.refusal)
+
+pub returns-clause-readable : goal.returns-clause-readable
+returns-clause-readable c =
+    all_readable _ _ c.in_ok-test_rows.ensures.readable c.in_ok-test_planes.ensures.readable c.test_planes-2.ensures.readable

@@ -1,56 +1,53 @@
 -- State and lengths, then the lengths of y and s, then the contents: the first refusal is returned.
 -- Assumes nothing.
-use mathlib.Core.Path.{◌≡◌, sym, ◌∙◌}
-use lib.ListN.{length}
-use Rattle.trits.specs.Refusal.{code_of}
+use mathlib.Core.Path.{◌≡◌, refl, sym, ap, subst, ◌∙◌}
+use mathlib.Core.List.{List}
+use Prim.Native.Nat.{ℕ}
 use Rattle.trits.proofs.Refusals.{first_stops, first_goes}
-use Rattle.check_tests.specs.Check.{check_packed_refusal_under}
-use Rattle.check_tests.proofs.Passed.{Called, called, whole}
+use Rattle.held_key.specs.declared.state.Held.{Held}
+use Rattle.held_key.specs.Steps.{Whole}
+use Rattle.held_key.proofs.Outcomes.{handed_on, refused}
+use Rattle.check_tests.specs.Check.{check_packed_refusal_under, packed_lengths, packed_contents}
+use Rattle.check_tests.proofs.Passed.{called, whole}
 use Rattle.check_tests.proofs.test_packed_check.Goals as goal
 
-pub returns-then-code-ne0 : goal.returns-then-code-ne0
+-- the state that was tested is the one that was lent
+lengths_alike : {h k : Held} (a b : ℕ) → h ≡ k → packed_lengths h a b ≡ packed_lengths k a b
+lengths_alike a b same = ap (λ (h : Held). packed_lengths h a b) same
+
+contents_alike : {h k : Held} (a b d e : List ℕ) → h ≡ k → packed_contents h a b d e ≡ packed_contents k a b d e
+contents_alike a b d e same = ap (λ (h : Held). packed_contents h a b d e) same
+
+pub returns-in_err-begun-clause-refusal : goal.returns-in_err-begun-clause-refusal
 unfolding check_packed_refusal_under
-returns-then-code-ne0 c =
-    first_stops _ c.test_call-called.ensures (λ z. c.if-code-ne0.true (c.code.ensures ∙ z))
+returns-in_err-begun-clause-refusal c =
+    let r = c.from_residual.ensures in
+    first_stops _ (handed_on _ _ r.1 c.in_err-begun.ensures.refusal) (refused _ r.0)
 
-pub test_packed_lengths-fitted-requires : goal.test_packed_lengths-fitted-requires
-test_packed_lengths-fitted-requires c =
-    -- the tests of the state and of the key's lengths told nothing
-    let call_passed : code_of c.test_call-called.result ≡ 0 =
-    sym c.code.ensures ∙ c.if-code-ne0.false in
-    -- so the state is sound and the key whole
-    let key_called : let a = c.args in Called a.held a.number (length a.ones.now) (length a.twos.now) (length a.work_ones.now) (length a.work_twos.now) =
-    called _ _ _ _ _ _ (sym c.test_call-called.ensures ∙ call_passed) in
-    key_called.is_sound
-
-pub returns-then-code-ne0-2 : goal.returns-then-code-ne0-2
+pub returns-in_err-test_packed_lengths-clause-refusal : goal.returns-in_err-test_packed_lengths-clause-refusal
 unfolding check_packed_refusal_under
-returns-then-code-ne0-2 c =
-    -- the tests of the state and of the key's lengths told nothing
-    let call_passed : code_of c.test_call-called.result ≡ 0 =
-    sym c.code.ensures ∙ c.if-code-ne0.false in
-    first_goes c.test_call-called.ensures call_passed
-    (first_stops _ c.test_packed_lengths-fitted.ensures (λ z. c.if-code-ne0-2.true (c.code-2.ensures ∙ z)))
+returns-in_err-test_packed_lengths-clause-refusal c =
+    let r = c.from_residual-in_err-test_packed_lengths.ensures in
+    let lengths = c.in_err-test_packed_lengths.ensures ∙ lengths_alike _ _ c.in_ok-begun.ensures.same in
+    first_goes c.in_ok-begun.ensures.refusal refl (first_stops _ (handed_on _ _ r.1 lengths) (refused _ r.0))
 
-pub test_packed_contents-requires : goal.test_packed_contents-requires
-test_packed_contents-requires c =
-    -- the tests of the state and of the key's lengths told nothing
-    let call_passed : code_of c.test_call-called.result ≡ 0 =
-    sym c.code.ensures ∙ c.if-code-ne0.false in
-    -- so the state is sound and the key whole
-    let key_called : let a = c.args in Called a.held a.number (length a.ones.now) (length a.twos.now) (length a.work_ones.now) (length a.work_twos.now) =
-    called _ _ _ _ _ _ (sym c.test_call-called.ensures ∙ call_passed) in
-    record {
-      whole = whole key_called;
-      s_value = sym c.test_packed_lengths-fitted.ensures ∙ sym c.code-2.ensures ∙ c.if-code-ne0-2.false;
-    }
+pub test_packed_contents-requires-clause-whole : goal.test_packed_contents-requires-clause-whole
+test_packed_contents-requires-clause-whole c =
+    let a = c.args in
+    let of_held = whole (called _ _ _ _ _ _ (sym c.in_ok-begun.ensures.refusal)) in
+    subst (λ (h : Held). Whole h a.key.ones.now a.key.twos.now) (sym c.in_ok-begun.ensures.same) of_held
 
-pub returns : goal.returns
+pub returns-in_err-test_packed_contents-clause-refusal : goal.returns-in_err-test_packed_contents-clause-refusal
 unfolding check_packed_refusal_under
-returns c =
-    -- the tests of the state and of the key's lengths told nothing
-    let call_passed : code_of c.test_call-called.result ≡ 0 =
-    sym c.code.ensures ∙ c.if-code-ne0.false in
-    first_goes c.test_call-called.ensures call_passed
-    (first_goes c.test_packed_lengths-fitted.ensures (sym c.code-2.ensures ∙ c.if-code-ne0-2.false)
-    c.test_packed_contents.ensures)
+returns-in_err-test_packed_contents-clause-refusal c =
+    let r = c.from_residual-in_err-test_packed_contents.ensures in
+    let lengths = c.in_ok-test_packed_lengths.ensures ∙ lengths_alike _ _ c.in_ok-begun.ensures.same in
+    let contents = c.in_err-test_packed_contents.ensures.refusal ∙ contents_alike _ _ _ _ c.in_ok-begun.ensures.same in
+    first_goes c.in_ok-begun.ensures.refusal refl (first_goes lengths refl (handed_on _ _ r.1 contents))
+
+pub returns-clause-refusal : goal.returns-clause-refusal
+unfolding check_packed_refusal_under
+returns-clause-refusal c =
+    let lengths = c.in_ok-test_packed_lengths.ensures ∙ lengths_alike _ _ c.in_ok-begun.ensures.same in
+    let contents = c.in_ok-test_packed_contents.ensures.refusal ∙ contents_alike _ _ _ _ c.in_ok-begun.ensures.same in
+    first_goes c.in_ok-begun.ensures.refusal refl (first_goes lengths refl contents)

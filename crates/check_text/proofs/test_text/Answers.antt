@@ -1,58 +1,58 @@
 -- State and lengths, then the lengths of salt and s, then the contents: the first refusal is returned.
 -- Assumes nothing.
-use mathlib.Core.Path.{◌≡◌, sym, ◌∙◌}
-use lib.ListN.{length}
-use Rattle.trits.specs.Refusal.{code_of}
+use mathlib.Core.Path.{◌≡◌, refl, sym, ap, subst, ◌∙◌}
+use mathlib.Core.List.{List}
+use Prim.Native.Nat.{ℕ}
 use Rattle.trits.proofs.Refusals.{first_stops, first_goes}
-use Rattle.check_tests.proofs.Passed.{Called, called, whole}
+use Rattle.held_key.specs.declared.state.Held.{Held}
+use Rattle.held_key.specs.Steps.{Whole}
+use Rattle.held_key.proofs.Outcomes.{handed_on, refused}
+use Rattle.check_tests.proofs.Passed.{called, whole}
+use Rattle.check_text.specs.TextCheck.{text_lengths, text_contents}
 use Rattle.check_text.specs.Steps.{tested_refusal}
 use Rattle.check_text.proofs.Tested.{text_fitted}
 use Rattle.check_text.proofs.test_text.Goals as goal
 
-pub returns-then-code-ne0 : goal.returns-then-code-ne0
-unfolding tested_refusal
-returns-then-code-ne0 c =
-    first_stops _ c.test_call-called.ensures (λ z. c.if-code-ne0.true (c.code.ensures ∙ z))
+-- the state that was tested is the one that was lent
+lengths_alike : {h k : Held} (salt s : ℕ) → h ≡ k → text_lengths h salt s ≡ text_lengths k salt s
+lengths_alike salt s same = ap (λ (h : Held). text_lengths h salt s) same
 
-pub test_lengths-fitted-requires : goal.test_lengths-fitted-requires
-test_lengths-fitted-requires c =
-    -- the tests of the state and of the key's lengths told nothing
-    let call_passed : code_of c.test_call-called.result ≡ 0 =
-    sym c.code.ensures ∙ c.if-code-ne0.false in
-    -- so the state is sound and the key whole
-    let key_called : let a = c.args in Called a.held a.number (length a.ones.now) (length a.twos.now) (length a.work_ones.now) (length a.work_twos.now) =
-    called _ _ _ _ _ _ (sym c.test_call-called.ensures ∙ call_passed) in
-    key_called.is_sound
+contents_alike : {h k : Held} (ones twos s : List ℕ) → h ≡ k → text_contents h ones twos s ≡ text_contents k ones twos s
+contents_alike ones twos s same = ap (λ (h : Held). text_contents h ones twos s) same
 
-pub returns-then-code-ne0-2 : goal.returns-then-code-ne0-2
+pub returns-in_err-begun-clause-refusal : goal.returns-in_err-begun-clause-refusal
 unfolding tested_refusal
-returns-then-code-ne0-2 c =
-    -- the tests of the state and of the key's lengths told nothing
-    let call_passed : code_of c.test_call-called.result ≡ 0 =
-    sym c.code.ensures ∙ c.if-code-ne0.false in
-    first_goes c.test_call-called.ensures call_passed
-    (first_stops _ c.test_lengths-fitted.ensures (λ z. c.if-code-ne0-2.true (c.code-2.ensures ∙ z)))
+returns-in_err-begun-clause-refusal c =
+    let r = c.from_residual.ensures in
+    first_stops _ (handed_on _ _ r.1 c.in_err-begun.ensures.refusal) (refused _ r.0)
+
+pub returns-in_err-test_lengths-clause-refusal : goal.returns-in_err-test_lengths-clause-refusal
+unfolding tested_refusal
+returns-in_err-test_lengths-clause-refusal c =
+    let r = c.from_residual-in_err-test_lengths.ensures in
+    let lengths = c.in_err-test_lengths.ensures ∙ lengths_alike _ _ c.in_ok-begun.ensures.same in
+    first_goes c.in_ok-begun.ensures.refusal refl (first_stops _ (handed_on _ _ r.1 lengths) (refused _ r.0))
 
 pub test_contents-requires : goal.test_contents-requires
 test_contents-requires c =
-    -- the tests of the state and of the key's lengths told nothing
-    let call_passed : code_of c.test_call-called.result ≡ 0 =
-    sym c.code.ensures ∙ c.if-code-ne0.false in
-    -- so the state is sound and the key whole
-    let key_called : let a = c.args in Called a.held a.number (length a.ones.now) (length a.twos.now) (length a.work_ones.now) (length a.work_twos.now) =
-    called _ _ _ _ _ _ (sym c.test_call-called.ensures ∙ call_passed) in
-    let fits = text_fitted _ _ _ (sym c.test_lengths-fitted.ensures ∙ sym c.code-2.ensures ∙ c.if-code-ne0-2.false) in
+    let a = c.args in
+    let of_held = whole (called _ _ _ _ _ _ (sym c.in_ok-begun.ensures.refusal)) in
     record {
-      whole = whole key_called;
-      s_len = fits.1;
+      whole = subst (λ (h : Held). Whole h a.key.ones.now a.key.twos.now) (sym c.in_ok-begun.ensures.same) of_held;
+      s_len = (text_fitted _ _ _ (sym c.in_ok-test_lengths.ensures)).1;
     }
 
-pub returns : goal.returns
+pub returns-in_err-test_contents-clause-refusal : goal.returns-in_err-test_contents-clause-refusal
 unfolding tested_refusal
-returns c =
-    -- the tests of the state and of the key's lengths told nothing
-    let call_passed : code_of c.test_call-called.result ≡ 0 =
-    sym c.code.ensures ∙ c.if-code-ne0.false in
-    first_goes c.test_call-called.ensures call_passed
-    (first_goes c.test_lengths-fitted.ensures (sym c.code-2.ensures ∙ c.if-code-ne0-2.false)
-    c.test_contents.ensures)
+returns-in_err-test_contents-clause-refusal c =
+    let r = c.from_residual-in_err-test_contents.ensures in
+    let lengths = c.in_ok-test_lengths.ensures ∙ lengths_alike _ _ c.in_ok-begun.ensures.same in
+    let contents = c.in_err-test_contents.ensures.refusal ∙ contents_alike _ _ _ c.in_ok-begun.ensures.same in
+    first_goes c.in_ok-begun.ensures.refusal refl (first_goes lengths refl (handed_on _ _ r.1 contents))
+
+pub returns-clause-refusal : goal.returns-clause-refusal
+unfolding tested_refusal
+returns-clause-refusal c =
+    let lengths = c.in_ok-test_lengths.ensures ∙ lengths_alike _ _ c.in_ok-begun.ensures.same in
+    let contents = c.in_ok-test_contents.ensures.refusal ∙ contents_alike _ _ _ c.in_ok-begun.ensures.same in
+    first_goes c.in_ok-begun.ensures.refusal refl (first_goes lengths refl contents)

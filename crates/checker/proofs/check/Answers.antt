@@ -1,47 +1,46 @@
--- A refusal is judged before anything is touched; else the ones and twos are judged, and both planes of the working space are zeroed.
+-- A refusal is handed on before anything is touched; else the ones and twos are judged, and both planes of the working space are zeroed.
 -- Assumes nothing.
-use mathlib.Core.Path.{sym, ◌∙◌}
+use mathlib.Core.Path.{sym, subst, ◌∙◌}
 use native.Mathlib.Omega.{arith}
-use Rattle.trits.proofs.Refusals.{positive, left_kept}
+use Rattle.trits.proofs.Refusals.{number_positive, left_kept}
+use Rattle.held_key.specs.declared.state.Held.{Held}
 use Rattle.check_tests.specs.Check.{check_answer_under}
-use Rattle.check_tests.proofs.Answers.{answer_kept, answer_new, leaves_check, left_zero}
+use Rattle.check_tests.proofs.Answers.{told_refused, answer_new, leaves_check, left_zero}
 use Rattle.checker.specs.Steps.{ForWeigh}
-use Rattle.checker.proofs.Weighed.{few_counts, ready}
-use Rattle.checker.proofs.Spaces.{check_spaces}
+use Rattle.checker.proofs.Weighed.{few_counts, counts_alike, ready}
 use Rattle.checker.proofs.check.Goals as goal
 
-pub returns-then-code-ne0 : goal.returns-then-code-ne0
+pub returns-in_err-begun : goal.returns-in_err-begun
 unfolding check_answer_under
-returns-then-code-ne0 c =
-    let l = positive (λ z. c.if-code-ne0.true (c.code.ensures ∙ z)) in
-    let e = c.test_check-tested.ensures in (
-      c.judge.ensures ∙ answer_kept _ _ _ (e ∙ check_spaces _ _ _ _ _ _ _ _ _ _ _ _ (omega arith) (omega arith)) l,
-      left_kept _ (e ∙ check_spaces _ _ _ _ _ _ _ _ _ _ _ _ (omega arith) (omega arith)) l (leaves_check _),
-      left_kept _ (e ∙ check_spaces _ _ _ _ _ _ _ _ _ _ _ _ (omega arith) (omega arith)) l (leaves_check _),
+returns-in_err-begun c =
+    let e = c.in_err-begun.ensures.refusal in
+    let l = number_positive _ in (
+      told_refused _ _ _ _ c.from_residual.ensures.1 e,
+      left_kept _ e l (leaves_check _),
+      left_kept _ e l (leaves_check _),
     )
 
 pub weigh-counts-requires : goal.weigh-counts-requires
 weigh-counts-requires c =
-    -- past the tests the key is whole, and y, s and the working space are in order
-    let past_tests :
-    let a = c.args in ForWeigh a.held a.ones.now a.twos.now a.y_ones.now a.y_twos.now a.s_ones.now a.s_twos.now a.work_ones.now a.work_twos.now =
-    ready _ (sym c.test_check-tested.ensures ∙ sym c.code.ensures ∙ c.if-code-ne0.false) in
-    past_tests
+    let a = c.args in
+    let r = c.in_ok-begun.ensures.readable in
+    subst (λ (h : Held). ForWeigh h a.key.ones.now a.key.twos.now a.y.ones.now a.y.twos.now a.s.ones.now a.s.twos.now a.work_ones.now a.work_twos.now)
+    (sym c.in_ok-begun.ensures.same) (ready _ (sym c.in_ok-begun.ensures.refusal) r.0 r.1 r.2)
 
-pub judge-requires-2 : goal.judge-requires-2
-judge-requires-2 c =
-    -- past the tests the key is whole, and y, s and the working space are in order
-    let past_tests :
-    let a = c.args in ForWeigh a.held a.ones.now a.twos.now a.y_ones.now a.y_twos.now a.s_ones.now a.s_twos.now a.work_ones.now a.work_twos.now =
-    ready _ (sym c.test_check-tested.ensures ∙ sym c.code.ensures ∙ c.if-code-ne0.false) in
-    few_counts _ _ past_tests.whole c.weigh-counts.ensures
+pub judge-requires : goal.judge-requires
+judge-requires c =
+    let a = c.args in
+    let r = c.in_ok-begun.ensures.readable in
+    let of_held = counts_alike _ _ _ _ c.weigh-counts.ensures c.in_ok-begun.ensures.same in
+    few_counts _ _ (ready _ (sym c.in_ok-begun.ensures.refusal) r.0 r.1 r.2).whole of_held
 
 pub returns : goal.returns
 unfolding check_answer_under
 returns c =
-    let e = c.test_check-tested.ensures in
-    let z = sym e ∙ sym c.code.ensures ∙ c.if-code-ne0.false in (
-      c.judge-2.ensures ∙ answer_new _ e c.weigh-counts.ensures,
-      left_zero _ z (omega arith) c.zero_words.ensures,
-      left_zero _ z (omega arith) c.zero_words-2.ensures,
+    let a = c.args in
+    let of_held = counts_alike _ _ _ _ c.weigh-counts.ensures c.in_ok-begun.ensures.same in
+    let e = c.in_ok-begun.ensures.refusal in (
+      c.judge.ensures ∙ answer_new _ e of_held,
+      left_zero _ (sym e) (omega arith) c.zero_words.ensures,
+      left_zero _ (sym e) (omega arith) c.zero_words-2.ensures,
     )

@@ -1,45 +1,44 @@
--- A refusal is judged before anything is touched; else the ones and twos are judged, and both planes of the working space are zeroed.
+-- A refusal is handed on before anything is touched; else the ones and twos are judged, and both planes of the working space are zeroed.
 -- Assumes nothing.
-use mathlib.Core.Path.{sym, ◌∙◌}
+use mathlib.Core.Path.{sym, subst, ◌∙◌}
 use native.Mathlib.Omega.{arith}
-use Rattle.trits.proofs.Refusals.{positive, left_kept}
+use Rattle.trits.proofs.Refusals.{number_positive, left_kept}
+use Rattle.held_key.specs.declared.state.Held.{Held}
 use Rattle.check_tests.specs.Check.{check_packed_answer_under}
-use Rattle.check_tests.proofs.Answers.{answer_kept, answer_new, leaves_packed_check, left_zero}
+use Rattle.check_tests.proofs.Answers.{told_refused, answer_new, leaves_packed_check, left_zero}
 use Rattle.checker.specs.Steps.{ForWeighPacked}
-use Rattle.checker.proofs.Weighed.{few_counts, packed_ready}
-use Rattle.checker.proofs.Spaces.{packed_spaces}
+use Rattle.checker.proofs.Weighed.{few_counts, counts_alike, packed_ready}
 use Rattle.checker.proofs.check_packed.Goals as goal
 
-pub returns-then-code-ne0 : goal.returns-then-code-ne0
+pub returns-in_err-begun : goal.returns-in_err-begun
 unfolding check_packed_answer_under
-returns-then-code-ne0 c =
-    let l = positive (λ z. c.if-code-ne0.true (c.code.ensures ∙ z)) in
-    let e = c.test_packed_check-tested.ensures in (
-      c.judge.ensures ∙ answer_kept _ _ _ (e ∙ packed_spaces _ _ _ _ _ _ _ _ _ _ (omega arith) (omega arith)) l,
-      left_kept _ (e ∙ packed_spaces _ _ _ _ _ _ _ _ _ _ (omega arith) (omega arith)) l (leaves_packed_check _),
-      left_kept _ (e ∙ packed_spaces _ _ _ _ _ _ _ _ _ _ (omega arith) (omega arith)) l (leaves_packed_check _),
+returns-in_err-begun c =
+    let e = c.in_err-begun.ensures.refusal in
+    let l = number_positive _ in (
+      told_refused _ _ _ _ c.from_residual.ensures.1 e,
+      left_kept _ e l (leaves_packed_check _),
+      left_kept _ e l (leaves_packed_check _),
     )
 
 pub weigh_packed-counts-requires : goal.weigh_packed-counts-requires
 weigh_packed-counts-requires c =
-    -- past the tests the key is whole, and y, s and the working space are in order
-    let past_tests : let a = c.args in ForWeighPacked a.held a.ones.now a.twos.now a.y.now a.s.now a.work_ones.now a.work_twos.now =
-    packed_ready _ (sym c.test_packed_check-tested.ensures ∙ sym c.code.ensures ∙ c.if-code-ne0.false) in
-    past_tests
+    let a = c.args in
+    subst (λ (h : Held). ForWeighPacked h a.key.ones.now a.key.twos.now a.y.now a.s.now a.work_ones.now a.work_twos.now)
+    (sym c.in_ok-begun.ensures.same) (packed_ready _ (sym c.in_ok-begun.ensures.refusal) c.in_ok-begun.ensures.readable)
 
-pub judge-requires-2 : goal.judge-requires-2
-judge-requires-2 c =
-    -- past the tests the key is whole, and y, s and the working space are in order
-    let past_tests : let a = c.args in ForWeighPacked a.held a.ones.now a.twos.now a.y.now a.s.now a.work_ones.now a.work_twos.now =
-    packed_ready _ (sym c.test_packed_check-tested.ensures ∙ sym c.code.ensures ∙ c.if-code-ne0.false) in
-    few_counts _ _ past_tests.whole c.weigh_packed-counts.ensures
+pub judge-requires : goal.judge-requires
+judge-requires c =
+    let a = c.args in
+    let of_held = counts_alike _ _ _ _ c.weigh_packed-counts.ensures c.in_ok-begun.ensures.same in
+    few_counts _ _ (packed_ready _ (sym c.in_ok-begun.ensures.refusal) c.in_ok-begun.ensures.readable).whole of_held
 
 pub returns : goal.returns
 unfolding check_packed_answer_under
 returns c =
-    let e = c.test_packed_check-tested.ensures in
-    let z = sym e ∙ sym c.code.ensures ∙ c.if-code-ne0.false in (
-      c.judge-2.ensures ∙ answer_new _ e c.weigh_packed-counts.ensures,
-      left_zero _ z (omega arith) c.zero_words.ensures,
-      left_zero _ z (omega arith) c.zero_words-2.ensures,
+    let a = c.args in
+    let of_held = counts_alike _ _ _ _ c.weigh_packed-counts.ensures c.in_ok-begun.ensures.same in
+    let e = c.in_ok-begun.ensures.refusal in (
+      c.judge.ensures ∙ answer_new _ e of_held,
+      left_zero _ (sym e) (omega arith) c.zero_words.ensures,
+      left_zero _ (sym e) (omega arith) c.zero_words-2.ensures,
     )

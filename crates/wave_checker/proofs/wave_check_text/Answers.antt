@@ -1,4 +1,4 @@
--- The verdict of `check_text`, told in numbers.
+-- The answer of `check_text`, told in numbers.
 -- Assumes nothing.
 use mathlib.Core.Path.{◌∙◌}
 use Rattle.wave_checker.proofs.wave_check_text.Goals as goal
@@ -6,4 +6,4 @@ use Rattle.wave_checker.proofs.wave_check_text.Goals as goal
 pub returns : goal.returns
 returns c =
     let (answer, work_ones, work_twos) = c.check_text.ensures in
-    (c.tell.ensures ∙ answer, work_ones, work_twos)
+    (c.from.ensures ∙ answer, work_ones, work_twos)

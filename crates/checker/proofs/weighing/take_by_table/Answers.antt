@@ -7,6 +7,7 @@ use lib.ListN.{get_or}
 use Rattle.trits.specs.Trit.{sub_t, zip_v, trit_of, counts_v, sum_of, sum_to}
 use Rattle.trits.specs.Planes.{trit_at}
 use Rattle.trits.proofs.Reading.{reads_to}
+use Rattle.trits.proofs.Counted.{same_counts}
 use Rattle.trits.proofs.Counting.{counts_le}
 use Rattle.packed.specs.Packed.{packed_row}
 use Rattle.packed.proofs.Digits.{digit_lt}
@@ -23,12 +24,11 @@ pub loop-i-init : goal.loop-i-init
 unfolding sum_to
 loop-i-init c =
     let a = c.args in (
-      omega arith,
-      refl,
+      same_counts c.default-counts.ensures.0 c.default-counts.ensures.1,
       record {
         row = c.requires.work.row;
         size = refl;
-        trits = taken_none (trit_at a.work_ones.now a.work_twos.now) (held_key a.held a.ones.now a.twos.now)
+        trits = taken_none (trit_at a.work_ones.now a.work_twos.now) (held_key a.held a.key.ones.now a.key.twos.now)
             (packed_row a.s.now);
       },
     )
@@ -57,7 +57,7 @@ count_trit-counts-requires c =
     let v = packed_row c.args.s.now in (
       omega (
         arith,
-        ap sum_of c.loop-i.invariant.1,
+        ap sum_of c.loop-i.invariant.0,
         counts_le v c.loop-i.i,
         sizes c.args.held c.requires.whole.is_sound,
         c.requires.whole.all_rows,
@@ -71,17 +71,13 @@ take_row-requires c =
     let trit_lt : c.trit-t.result < 3 =
     let s = c.args.s.now in
     omega (arith, c.trit-t.ensures, digit_lt (get_or s (c.loop-i.i / 5) 0) (c.loop-i.i % 5)) in
-    let v = c.loop-i.invariant.2 in record {
+    let v = c.loop-i.invariant.1 in record {
       whole = c.requires.whole;
       readable = c.requires.readable;
       work = record { row = v.row; size = v.size ∙ c.requires.work.size };
       row_in = omega (arith, c.requires.whole.all_rows);
       trit = trit_lt;
     }
-
-pub overflow_add-i : goal.overflow_add-i
-overflow_add-i c =
-    omega (arith, sizes c.args.held c.requires.whole.is_sound, c.requires.whole.all_rows)
 
 pub loop-i-preserved : goal.loop-i-preserved
 loop-i-preserved c =
@@ -90,11 +86,10 @@ loop-i-preserved c =
     let a = c.args in
     packed_trit a.s.now c.loop-i.i c.trit-t.result c.trit-t.ensures in
     let a = c.args in
-    let v = c.loop-i.invariant.2 in (
-      omega arith,
+    let v = c.loop-i.invariant.1 in (
       turn_counts (packed_row a.s.now) c.loop-i.i (trit_of c.trit-t.result) trit_read
-          c.loop-i.invariant.1 c.count_trit-counts.ensures,
-      turn_reads (trit_at a.work_ones.now a.work_twos.now) (held_key a.held a.ones.now a.twos.now) (packed_row a.s.now)
+          c.loop-i.invariant.0 c.count_trit-counts.ensures,
+      turn_reads (trit_at a.work_ones.now a.work_twos.now) (held_key a.held a.key.ones.now a.key.twos.now) (packed_row a.s.now)
           c.loop-i.i (trit_of c.trit-t.result) trit_read v.size v c.take_row.ensures,
     )
 
@@ -103,7 +98,7 @@ returns c =
     let a = c.args in
     let l = c.loop-i in
     let e : l.i ≡ a.held.k = omega (arith, c.requires.whole.all_rows) in record {
-      value = l.invariant.1 ∙ ap (counts_v (packed_row a.s.now)) e;
-      reads = reads_to l.invariant.2 (ap (λ (x : ℕ). zip_v sub_t (trit_at a.work_ones.now a.work_twos.now)
-          (times_key x (held_key a.held a.ones.now a.twos.now) (packed_row a.s.now))) e);
+      value = l.invariant.0 ∙ ap (counts_v (packed_row a.s.now)) e;
+      reads = reads_to l.invariant.1 (ap (λ (x : ℕ). zip_v sub_t (trit_at a.work_ones.now a.work_twos.now)
+          (times_key x (held_key a.held a.key.ones.now a.key.twos.now) (packed_row a.s.now))) e);
     }

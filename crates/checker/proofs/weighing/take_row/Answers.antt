@@ -16,7 +16,7 @@ returns-then-t-eq0 c =
     let a = c.args in record {
       row = c.requires.work.row;
       size = refl;
-      trits = take_none (trit_at a.work_ones.now a.work_twos.now) (held_key a.held a.ones.now a.twos.now a.i) a.t c.if-t-eq0.true;
+      trits = take_none (trit_at a.work_ones.now a.work_twos.now) (held_key a.held a.key.ones.now a.key.twos.now a.i) a.t c.if-t-eq0.true;
     }
 
 pub sub_row-requires : goal.sub_row-requires
@@ -25,11 +25,11 @@ sub_row-requires c =
     -- the row lent is row i of the key: it can be read, has the size of the word under work, and holds the trits of the key
     let lent :
     let a = c.args in
-    let row = held_key a.held a.ones.now a.twos.now a.i in Reads c.held_row-row_ones.result.now c.held_row-row_twos.result.now (length a.work_ones.now)
+    let row = held_key a.held a.key.ones.now a.key.twos.now a.i in Reads c.held_row.result.now c.held_row-2.result.now (length a.work_ones.now)
     row =
     let p = c.requires in
-    let eo = c.held_row-row_ones.ensures in
-    let et = c.held_row-row_twos.ensures in record {
+    let eo = c.held_row.ensures in
+    let et = c.held_row-2.ensures in record {
       row = subst₂ Row (sym eo) (sym et) (row_row p.whole c.args.i p.row_in p.readable);
       size = ap length eo ∙ ones_length p.whole c.args.i p.row_in ∙ sym p.work.size;
       trits = ap₂ trit_at eo et;
@@ -42,11 +42,11 @@ returns-then-t-eq1 c =
     -- the row lent is row i of the key: it can be read, has the size of the word under work, and holds the trits of the key
     let lent :
     let a = c.args in
-    let row = held_key a.held a.ones.now a.twos.now a.i in Reads c.held_row-row_ones.result.now c.held_row-row_twos.result.now (length a.work_ones.now)
+    let row = held_key a.held a.key.ones.now a.key.twos.now a.i in Reads c.held_row.result.now c.held_row-2.result.now (length a.work_ones.now)
     row =
     let p = c.requires in
-    let eo = c.held_row-row_ones.ensures in
-    let et = c.held_row-row_twos.ensures in record {
+    let eo = c.held_row.ensures in
+    let et = c.held_row-2.ensures in record {
       row = subst₂ Row (sym eo) (sym et) (row_row p.whole c.args.i p.row_in p.readable);
       size = ap length eo ∙ ones_length p.whole c.args.i p.row_in ∙ sym p.work.size;
       trits = ap₂ trit_at eo et;
@@ -55,7 +55,7 @@ returns-then-t-eq1 c =
     let u = trit_at a.work_ones.now a.work_twos.now in
     reads_to c.sub_row.ensures
     (ap (zip_v sub_t u) lent.trits
-    ∙ take_known u (held_key a.held a.ones.now a.twos.now a.i) a.t c.if-t-eq1.true)
+    ∙ take_known u (held_key a.held a.key.ones.now a.key.twos.now a.i) a.t c.if-t-eq1.true)
 
 pub add_row-requires : goal.add_row-requires
 unfolding held_key_under
@@ -63,28 +63,28 @@ add_row-requires c =
     -- the row lent is row i of the key: it can be read, has the size of the word under work, and holds the trits of the key
     let lent :
     let a = c.args in
-    let row = held_key a.held a.ones.now a.twos.now a.i in Reads c.held_row-row_ones.result.now c.held_row-row_twos.result.now (length a.work_ones.now)
+    let row = held_key a.held a.key.ones.now a.key.twos.now a.i in Reads c.held_row.result.now c.held_row-2.result.now (length a.work_ones.now)
     row =
     let p = c.requires in
-    let eo = c.held_row-row_ones.ensures in
-    let et = c.held_row-row_twos.ensures in record {
+    let eo = c.held_row.ensures in
+    let et = c.held_row-2.ensures in record {
       row = subst₂ Row (sym eo) (sym et) (row_row p.whole c.args.i p.row_in p.readable);
       size = ap length eo ∙ ones_length p.whole c.args.i p.row_in ∙ sym p.work.size;
       trits = ap₂ trit_at eo et;
     } in
     record { row = c.requires.work.row; source = lent.row; size = lent.size }
 
-pub returns : goal.returns
+pub returns-else-t-eq1 : goal.returns-else-t-eq1
 unfolding held_key_under
-returns c =
+returns-else-t-eq1 c =
     -- the row lent is row i of the key: it can be read, has the size of the word under work, and holds the trits of the key
     let lent :
     let a = c.args in
-    let row = held_key a.held a.ones.now a.twos.now a.i in Reads c.held_row-row_ones.result.now c.held_row-row_twos.result.now (length a.work_ones.now)
+    let row = held_key a.held a.key.ones.now a.key.twos.now a.i in Reads c.held_row.result.now c.held_row-2.result.now (length a.work_ones.now)
     row =
     let p = c.requires in
-    let eo = c.held_row-row_ones.ensures in
-    let et = c.held_row-row_twos.ensures in record {
+    let eo = c.held_row.ensures in
+    let et = c.held_row-2.ensures in record {
       row = subst₂ Row (sym eo) (sym et) (row_row p.whole c.args.i p.row_in p.readable);
       size = ap length eo ∙ ones_length p.whole c.args.i p.row_in ∙ sym p.work.size;
       trits = ap₂ trit_at eo et;
@@ -93,4 +93,4 @@ returns c =
     let u = trit_at a.work_ones.now a.work_twos.now in
     let z : a.t ≡ 2 = omega (arith, c.if-t-eq0.false, c.if-t-eq1.false, c.requires.trit) in
     reads_to c.add_row.ensures
-    (ap (zip_v add_t u) lent.trits ∙ take_two u (held_key a.held a.ones.now a.twos.now a.i) a.t z)
+    (ap (zip_v add_t u) lent.trits ∙ take_two u (held_key a.held a.key.ones.now a.key.twos.now a.i) a.t z)

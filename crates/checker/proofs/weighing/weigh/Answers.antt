@@ -2,66 +2,47 @@
 -- Assumes nothing.
 use Prim.Native.Nat.{◌*◌}
 use mathlib.Core.Path.{◌≡◌, refl, sym, ap, ap₂, ◌∙◌, subst₂}
+use mathlib.Core.List.{List}
+use Prim.Native.Nat.{ℕ}
 use native.Mathlib.Omega.{arith}
 use lib.ListN.{length}
 use Rattle.trits.specs.Trit.{counts_v, sum_of}
-use Rattle.trits.specs.Planes.{trit_at, Row, Reads}
+use Rattle.trits.specs.Planes.{trit_at, words_for, Row, Reads}
 use Rattle.trits.specs.Refusal.{planes_refusal}
 use Rattle.trits.proofs.Counting.{counts_le}
 use Rattle.trits.proofs.Ends.{counts_ended}
-use Rattle.trits.proofs.Refusals.{planes_row, row_ended}
-use Rattle.held_key.specs.Held.{row_trits, row_words}
+use Rattle.trits.proofs.Refusals.{row_ended}
+use Rattle.held_key.specs.Held.{row_trits}
 use Rattle.held_key.proofs.Sizes.{sizes}
-use Rattle.check_tests.proofs.Passed.{Fitted, fitted, contents}
+use Rattle.check_tests.proofs.Passed.{fitted, contents}
 use Rattle.checker.proofs.Weighed.{weighed, at_most}
 use Rattle.checker.proofs.weighing.weigh.Goals as goal
 
+-- two planes that were copied hold what their sources hold
+copied : {o t p q : List ℕ} {n : ℕ} → o ≡ p → t ≡ q → Row p q → length p ≡ n → Reads o t n (trit_at p q)
+copied e f row size = record { row = subst₂ Row (sym e) (sym f) row; size = ap length e ∙ size; trits = ap₂ trit_at e f }
+
+-- the words of a row of k trits have the ones and twos of its trits
+counted : (ones twos : List ℕ) (k : ℕ) → planes_refusal ones twos 1 k ≡ 0 → length ones ≡ words_for k → length twos ≡ words_for k
+    → counts_v (trit_at ones twos) (64 * length ones) ≡ counts_v (trit_at ones twos) k
+counted ones twos k tested lo lt = counts_ended (trit_at ones twos) k (64 * length ones) (omega (arith, lo)) (row_ended ones twos k tested lo lt)
+
 pub copy_words-requires : goal.copy_words-requires
 copy_words-requires c =
-    -- y and s have the lengths that the key asks
-    let fitting :
-    let a = c.args in Fitted a.held (length a.y_ones.now) (length a.y_twos.now) (length a.s_ones.now) (length a.s_twos.now) =
-    fitted _ _ _ _ _ c.requires.lengths in
-    fitting.y_ones ∙ sym c.requires.work_ones
+    (fitted _ _ _ _ _ c.requires.lengths).y_ones ∙ sym c.requires.work_ones
 
 pub copy_words-requires-2 : goal.copy_words-requires-2
 copy_words-requires-2 c =
-    -- y and s have the lengths that the key asks
-    let fitting :
-    let a = c.args in Fitted a.held (length a.y_ones.now) (length a.y_twos.now) (length a.s_ones.now) (length a.s_twos.now) =
-    fitted _ _ _ _ _ c.requires.lengths in
-    fitting.y_twos ∙ sym c.requires.work_twos
+    (fitted _ _ _ _ _ c.requires.lengths).y_twos ∙ sym c.requires.work_twos
 
 pub take_rows-requires : goal.take_rows-requires
 take_rows-requires c =
-    -- y and s have the lengths that the key asks
-    let fitting :
-    let a = c.args in Fitted a.held (length a.y_ones.now) (length a.y_twos.now) (length a.s_ones.now) (length a.s_twos.now) =
-    fitted _ _ _ _ _ c.requires.lengths in
-    let y_passed :
-    let a = c.args in planes_refusal a.y_ones.now a.y_twos.now 1 (row_trits a.held) ≡ 0 =
-    (contents _ _ _ _ _ _ _ c.requires.contents).1 in
-    -- the working space, once both planes are copied, holds y
-    let copied :
-    let a = c.args in Reads c.copy_words.new.plane c.copy_words-2.new.plane (row_words a.held) (trit_at a.y_ones.now a.y_twos.now) =
-    let f = fitting in
-    let eo = c.copy_words.ensures in
-    let et = c.copy_words-2.ensures in record {
-      row =
-          subst₂ Row (sym eo) (sym et) (planes_row 1 (row_trits c.args.held) y_passed (f.y_twos ∙ sym f.y_ones)
-          c.type_inv.y_ones c.type_inv.y_twos);
-      size = ap length eo ∙ f.y_ones;
-      trits = ap₂ trit_at eo et;
-    } in
-    -- the planes of the key, those of y and those of s passed their tests
-    let key_passed :
-    let a = c.args in planes_refusal a.ones.now a.twos.now a.held.k (row_trits a.held) ≡ 0 =
-    (contents _ _ _ _ _ _ _ c.requires.contents).0 in
-    let f = fitting in
-    let work = copied in record {
-      whole = c.requires.whole;
-      readable = planes_row c.args.held.k (row_trits c.args.held) key_passed (c.requires.whole.twos_size ∙ sym c.requires.whole.ones_size)
-          c.type_inv.ones c.type_inv.twos;
+    let p = c.requires in
+    let f = fitted _ _ _ _ _ p.lengths in
+    let work = copied c.copy_words.ensures c.copy_words-2.ensures p.y_readable f.y_ones in
+    record {
+      whole = p.whole;
+      readable = p.readable;
       work = record { row = work.row; size = work.size };
       s_trits = omega (arith, f.s_ones);
       s_twos = f.s_twos ∙ sym f.s_ones;
@@ -69,125 +50,47 @@ take_rows-requires c =
 
 pub count-first-requires : goal.count-first-requires
 count-first-requires c =
-    -- y and s have the lengths that the key asks
-    let fitting :
-    let a = c.args in Fitted a.held (length a.y_ones.now) (length a.y_twos.now) (length a.s_ones.now) (length a.s_twos.now) =
-    fitted _ _ _ _ _ c.requires.lengths in
-    let y_passed :
-    let a = c.args in planes_refusal a.y_ones.now a.y_twos.now 1 (row_trits a.held) ≡ 0 =
-    (contents _ _ _ _ _ _ _ c.requires.contents).1 in
-    -- the working space, once both planes are copied, holds y
-    let copied :
-    let a = c.args in Reads c.copy_words.new.plane c.copy_words-2.new.plane (row_words a.held) (trit_at a.y_ones.now a.y_twos.now) =
-    let f = fitting in
-    let eo = c.copy_words.ensures in
-    let et = c.copy_words-2.ensures in record {
-      row =
-          subst₂ Row (sym eo) (sym et) (planes_row 1 (row_trits c.args.held) y_passed (f.y_twos ∙ sym f.y_ones)
-          c.type_inv.y_ones c.type_inv.y_twos);
-      size = ap length eo ∙ f.y_ones;
-      trits = ap₂ trit_at eo et;
-    } in
-    let r = c.take_rows.ensures in record {
+    let p = c.requires in
+    let f = fitted _ _ _ _ _ p.lengths in
+    let work = copied c.copy_words.ensures c.copy_words-2.ensures p.y_readable f.y_ones in
+    let r = c.take_rows.ensures in
+    record {
       row = r.row;
-      ones_len_bound = omega (arith, r.size, copied.size, sizes c.args.held c.requires.whole.is_sound);
+      ones_len_bound = omega (arith, r.size, work.size, sizes c.args.begun.held p.whole.is_sound);
     }
 
 pub count-last-requires : goal.count-last-requires
 count-last-requires c =
-    -- y and s have the lengths that the key asks
-    let fitting :
-    let a = c.args in Fitted a.held (length a.y_ones.now) (length a.y_twos.now) (length a.s_ones.now) (length a.s_twos.now) =
-    fitted _ _ _ _ _ c.requires.lengths in
-    let s_passed :
-    let a = c.args in planes_refusal a.s_ones.now a.s_twos.now 1 a.held.k ≡ 0 =
-    (contents _ _ _ _ _ _ _ c.requires.contents).2 in
-    -- s can be read, and its words have the ones and twos of its k trits
-    let s_row :
-    let a = c.args in Row a.s_ones.now a.s_twos.now =
-    let f = fitting in
-    planes_row 1 c.args.held.k s_passed (f.s_twos ∙ sym f.s_ones) c.type_inv.s_ones
-    c.type_inv.s_twos in
+    let p = c.requires in
     record {
-      row = s_row;
-      ones_len_bound = omega (arith, fitting.s_ones, sizes c.args.held c.requires.whole.is_sound);
+      row = p.s_readable;
+      ones_len_bound = omega (arith, (fitted _ _ _ _ _ p.lengths).s_ones, sizes c.args.begun.held p.whole.is_sound);
     }
 
 pub add_counts-requires : goal.add_counts-requires
 add_counts-requires c =
-    -- y and s have the lengths that the key asks
-    let fitting :
-    let a = c.args in Fitted a.held (length a.y_ones.now) (length a.y_twos.now) (length a.s_ones.now) (length a.s_twos.now) =
-    fitted _ _ _ _ _ c.requires.lengths in
-    let y_passed :
-    let a = c.args in planes_refusal a.y_ones.now a.y_twos.now 1 (row_trits a.held) ≡ 0 =
-    (contents _ _ _ _ _ _ _ c.requires.contents).1 in
-    -- the working space, once both planes are copied, holds y
-    let copied :
-    let a = c.args in Reads c.copy_words.new.plane c.copy_words-2.new.plane (row_words a.held) (trit_at a.y_ones.now a.y_twos.now) =
-    let f = fitting in
-    let eo = c.copy_words.ensures in
-    let et = c.copy_words-2.ensures in record {
-      row =
-          subst₂ Row (sym eo) (sym et) (planes_row 1 (row_trits c.args.held) y_passed (f.y_twos ∙ sym f.y_ones)
-          c.type_inv.y_ones c.type_inv.y_twos);
-      size = ap length eo ∙ f.y_ones;
-      trits = ap₂ trit_at eo et;
-    } in
-    let s_passed :
-    let a = c.args in planes_refusal a.s_ones.now a.s_twos.now 1 a.held.k ≡ 0 =
-    (contents _ _ _ _ _ _ _ c.requires.contents).2 in
-    let s_counts :
-    let a = c.args in
-    let v = trit_at a.s_ones.now a.s_twos.now in counts_v v (64 * length a.s_ones.now) ≡ counts_v v a.held.k =
-    let a = c.args in
-    let f = fitting in
-    counts_ended (trit_at a.s_ones.now a.s_twos.now) a.held.k (64 * length a.s_ones.now) (omega (arith, f.s_ones))
-    (row_ended a.s_ones.now a.s_twos.now a.held.k s_passed f.s_ones f.s_twos) in
-    let a = c.args in
-    let few = sizes a.held c.requires.whole.is_sound in (
-      omega (arith, at_most c.take_rows.ensures c.count-first.ensures, copied.size, few),
-      omega (arith, ap sum_of (c.count-last.ensures ∙ s_counts), counts_le (trit_at a.s_ones.now a.s_twos.now) a.held.k, few),
+    let p = c.requires in
+    let h = c.args.begun.held in
+    let s = c.args.s in
+    let f = fitted _ _ _ _ _ p.lengths in
+    let work = copied c.copy_words.ensures c.copy_words-2.ensures p.y_readable f.y_ones in
+    let of_s = counted s.ones.now s.twos.now h.k (contents _ _ _ _ _ _ _ p.contents).2 f.s_ones f.s_twos in
+    let few = sizes h p.whole.is_sound in (
+      omega (arith, at_most c.take_rows.ensures c.count-first.ensures, work.size, few),
+      omega (arith, ap sum_of (c.count-last.ensures ∙ of_s), counts_le (trit_at s.ones.now s.twos.now) h.k, few),
     )
 
 pub returns : goal.returns
 returns c =
-    -- y and s have the lengths that the key asks
-    let fitting :
-    let a = c.args in Fitted a.held (length a.y_ones.now) (length a.y_twos.now) (length a.s_ones.now) (length a.s_twos.now) =
-    fitted _ _ _ _ _ c.requires.lengths in
-    -- the planes of the key, those of y and those of s passed their tests
-    let key_passed :
-    let a = c.args in planes_refusal a.ones.now a.twos.now a.held.k (row_trits a.held) ≡ 0 =
-    (contents _ _ _ _ _ _ _ c.requires.contents).0 in
-    let y_passed :
-    let a = c.args in planes_refusal a.y_ones.now a.y_twos.now 1 (row_trits a.held) ≡ 0 =
-    (contents _ _ _ _ _ _ _ c.requires.contents).1 in
-    -- the working space, once both planes are copied, holds y
-    let copied :
-    let a = c.args in Reads c.copy_words.new.plane c.copy_words-2.new.plane (row_words a.held) (trit_at a.y_ones.now a.y_twos.now) =
-    let f = fitting in
-    let eo = c.copy_words.ensures in
-    let et = c.copy_words-2.ensures in record {
-      row =
-          subst₂ Row (sym eo) (sym et) (planes_row 1 (row_trits c.args.held) y_passed (f.y_twos ∙ sym f.y_ones)
-          c.type_inv.y_ones c.type_inv.y_twos);
-      size = ap length eo ∙ f.y_ones;
-      trits = ap₂ trit_at eo et;
-    } in
-    let s_passed :
-    let a = c.args in planes_refusal a.s_ones.now a.s_twos.now 1 a.held.k ≡ 0 =
-    (contents _ _ _ _ _ _ _ c.requires.contents).2 in
-    let s_counts :
-    let a = c.args in
-    let v = trit_at a.s_ones.now a.s_twos.now in counts_v v (64 * length a.s_ones.now) ≡ counts_v v a.held.k =
-    let a = c.args in
-    let f = fitting in
-    counts_ended (trit_at a.s_ones.now a.s_twos.now) a.held.k (64 * length a.s_ones.now) (omega (arith, f.s_ones))
-    (row_ended a.s_ones.now a.s_twos.now a.held.k s_passed f.s_ones f.s_twos) in
-    let a = c.args in
-    let f = fitting in
+    let p = c.requires in
+    let h = c.args.begun.held in
+    let y = c.args.y in
+    let s = c.args.s in
+    let f = fitted _ _ _ _ _ p.lengths in
+    let passed = contents _ _ _ _ _ _ _ p.contents in
+    let work = copied c.copy_words.ensures c.copy_words-2.ensures p.y_readable f.y_ones in
+    let of_s = counted s.ones.now s.twos.now h.k passed.2 f.s_ones f.s_twos in
     c.add_counts.ensures
-    ∙ weighed (trit_at a.y_ones.now a.y_twos.now) (trit_at a.s_ones.now a.s_twos.now) c.requires.whole key_passed
-    (row_ended a.y_ones.now a.y_twos.now (row_trits a.held) y_passed f.y_ones f.y_twos) copied refl
-    c.take_rows.ensures c.count-first.ensures (c.count-last.ensures ∙ s_counts)
+    ∙ weighed (trit_at y.ones.now y.twos.now) (trit_at s.ones.now s.twos.now) p.whole passed.0
+    (row_ended y.ones.now y.twos.now (row_trits h) passed.1 f.y_ones f.y_twos) work refl
+    c.take_rows.ensures c.count-first.ensures (c.count-last.ensures ∙ of_s)

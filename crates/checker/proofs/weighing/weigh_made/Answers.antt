@@ -1,14 +1,12 @@
 -- The working space is y less the rows that s names; its ones and twos with those of s are the full word's (`weighed`).
 -- Assumes nothing.
-use mathlib.Core.Path.{refl, sym, ap, ◌∙◌}
+use mathlib.Core.Path.{refl, ap, ◌∙◌}
 use native.Mathlib.Omega.{arith}
 use lib.ListN.{length}
 use Rattle.trits.specs.Trit.{sum_of}
 use Rattle.trits.specs.Planes.{trit_at, Reads}
 use Rattle.trits.proofs.Counting.{counts_le}
-use Rattle.trits.proofs.Refusals.{planes_row}
 use Rattle.packed.specs.Packed.{packed_row}
-use Rattle.held_key.specs.Held.{row_trits}
 use Rattle.held_key.proofs.Sizes.{sizes}
 use Rattle.checker.proofs.Weighed.{weighed, at_most}
 use Rattle.checker.proofs.weighing.weigh_made.Goals as goal
@@ -18,8 +16,7 @@ take_packed_rows-taken-requires c =
     let p = c.requires in
     record {
       whole = p.whole;
-      readable = planes_row c.args.held.k (row_trits c.args.held) p.key_tested (p.whole.twos_size ∙ sym p.whole.ones_size)
-          c.type_inv.ones c.type_inv.twos;
+      readable = p.readable;
       work = p.work;
       s_size = p.s_size;
       s_tested = p.s_tested;
@@ -30,17 +27,17 @@ count-first-requires c =
     let r = c.take_packed_rows-taken.ensures.reads in
     record {
       row = r.row;
-      ones_len_bound = omega (arith, r.size, c.requires.work.size, sizes c.args.held c.requires.whole.is_sound);
+      ones_len_bound = omega (arith, r.size, c.requires.work.size, sizes c.args.begun.held c.requires.whole.is_sound);
     }
 
 pub add_counts-requires : goal.add_counts-requires
 add_counts-requires c =
     let a = c.args in
-    let few = sizes a.held c.requires.whole.is_sound in
+    let few = sizes a.begun.held c.requires.whole.is_sound in
     let counted = c.take_packed_rows-taken.ensures.value in
     let taken = c.take_packed_rows-taken.ensures.reads in (
       omega (arith, at_most taken c.count-first.ensures, c.requires.work.size, few),
-      omega (arith, ap sum_of counted, counts_le (packed_row a.s.now) a.held.k, few),
+      omega (arith, ap sum_of counted, counts_le (packed_row a.s.now) a.begun.held.k, few),
     )
 
 pub returns : goal.returns

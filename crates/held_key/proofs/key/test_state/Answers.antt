@@ -1,96 +1,64 @@
 -- The tests are made in the order of `row_refusal`, and each return tells what they found.
 -- Assumes nothing.
-use mathlib.Core.Path.{◌≡◌, sym, ◌∙◌}
+use mathlib.Core.Path.{◌≡◌, sym, ap, ◌∙◌}
 use mathlib.Core.Bool.{true, false}
+use Prim.Native.Nat.{ℕ}
 use lib.Dec.{eqb}
+use lib.ListN.{length}
 use borrow.Author.Tests.{eq-eqb, ne_eqb}
 use Rattle.trits.specs.Refusal.{demand}
+use Rattle.held_key.specs.declared.state.Held.{Held}
 use Rattle.held_key.specs.Held.{sound, key_words}
 use Rattle.held_key.specs.Store.{row_refusal, row_refusal_under}
 use Rattle.held_key.proofs.key.test_state.Goals as goal
+use Rattle.held_key.proofs.key.test_state.Goals.{then-key-words-via-then-key-words, then-key-words-via-else-key-words+then-key-words-2}
 
-pub returns-then-held-eq0 : goal.returns-then-held-eq0
+-- a sound state that lacks a row: the lengths decide
+lengths_left : (h : Held) (ones twos : ℕ) → eqb h.begun 0 ≡ false → sound h ≡ true → eqb h.rows h.k ≡ false
+    → row_refusal h ones twos ≡ demand (eqb ones (key_words h)) 2 (demand (eqb twos (key_words h)) 2 0)
 unfolding row_refusal_under
-returns-then-held-eq0 c =
+lengths_left h ones twos b s r = rw (b, s, r)
+
+pub returns-then-held-eq0-clause-refusal : goal.returns-then-held-eq0-clause-refusal
+unfolding row_refusal_under
+returns-then-held-eq0-clause-refusal c =
     rw (eq-eqb _ _ c.if-held-eq0.true)
 
-pub returns-then-held : goal.returns-then-held
+pub returns-in_default-clause-refusal : goal.returns-in_default-clause-refusal
 unfolding row_refusal_under
-returns-then-held c =
-    -- there is a key, and its state is sound
-    let begun : eqb c.args.held.begun 0 ≡ false =
-    ne_eqb _ _ c.if-held-eq0.false in
-    let state_sound : sound c.args.held ≡ true =
-    sym c.is_sound.ensures ∙ c.if-is_sound.true in
-    rw (begun, state_sound, eq-eqb _ _ c.if-held.true)
+returns-in_default-clause-refusal c =
+    rw (ne_eqb _ _ c.if-held-eq0.false, c.in_default.ensures)
 
-pub key_words-words-requires : goal.key_words-words-requires
-key_words-words-requires c =
-    let state_sound : sound c.args.held ≡ true =
-    sym c.is_sound.ensures ∙ c.if-is_sound.true in
-    state_sound
-
-pub returns-then-ones-words : goal.returns-then-ones-words
+pub returns-then-held-clause-refusal : goal.returns-then-held-clause-refusal
 unfolding row_refusal_under
-returns-then-ones-words c =
-    -- there is a key, and its state is sound
-    let begun : eqb c.args.held.begun 0 ≡ false =
-    ne_eqb _ _ c.if-held-eq0.false in
-    let state_sound : sound c.args.held ≡ true =
-    sym c.is_sound.ensures ∙ c.if-is_sound.true in
-    -- what is left of the chain once a row is missing: the lengths of the planes
-    let lengths_left :
-    let a = c.args in row_refusal a.held a.ones a.twos ≡ demand (eqb a.ones (key_words a.held)) 2 (demand (eqb a.twos (key_words a.held)) 2 0) =
-    rw (begun, state_sound, ne_eqb _ _ c.if-held.false) in
+returns-then-held-clause-refusal c =
+    let state_sound : sound c.args.held ≡ true = sym (ap sound c.in-Some.ensures) ∙ c.in-Some.begun.sound in
+    rw (ne_eqb _ _ c.if-held-eq0.false, state_sound, eq-eqb _ _ c.if-held.true)
+
+pub returns-then-key-words-clause-refusal : goal.returns-then-key-words-clause-refusal
+returns-then-key-words-clause-refusal c =
     let a = c.args in
-    rw (lengths_left, ne_eqb a.ones (key_words a.held) (λ e. c.if-ones-words.true (e ∙ sym c.key_words-words.ensures)))
+    let state_sound : sound a.held ≡ true = sym (ap sound c.in-Some.ensures) ∙ c.in-Some.begun.sound in
+    let left = lengths_left a.held (length a.key.ones.now) (length a.key.twos.now) (ne_eqb _ _ c.if-held-eq0.false) state_sound (ne_eqb _ _ c.if-held.false) in
+    let e = c.key_words-words.ensures ∙ ap key_words c.in-Some.ensures in
+    elim c.then-key-words.branch [
+      | then-key-words-via-then-key-words w ↦ rw (left, ne_eqb (length a.key.ones.now) (key_words a.held) (λ z. w.if-key-words.true (z ∙ sym e)))
+      | then-key-words-via-else-key-words+then-key-words-2 w ↦
+          rw (
+            left,
+            eq-eqb (length a.key.ones.now) (key_words a.held) (w.if-key-words.false ∙ e),
+            ne_eqb (length a.key.twos.now) (key_words a.held) (λ z. w.if-key-words-2.true (z ∙ sym e)),
+          )
+    ]
 
-pub returns-then-twos-words : goal.returns-then-twos-words
-unfolding row_refusal_under
-returns-then-twos-words c =
-    -- there is a key, and its state is sound
-    let begun : eqb c.args.held.begun 0 ≡ false =
-    ne_eqb _ _ c.if-held-eq0.false in
-    let state_sound : sound c.args.held ≡ true =
-    sym c.is_sound.ensures ∙ c.if-is_sound.true in
-    -- what is left of the chain once a row is missing: the lengths of the planes
-    let lengths_left :
-    let a = c.args in row_refusal a.held a.ones a.twos ≡ demand (eqb a.ones (key_words a.held)) 2 (demand (eqb a.twos (key_words a.held)) 2 0) =
-    rw (begun, state_sound, ne_eqb _ _ c.if-held.false) in
-    -- the ones plane has its length
-    let ones_fit :
-    let a = c.args in eqb a.ones (key_words a.held) ≡ true =
-    eq-eqb _ _ (c.if-ones-words.false ∙ c.key_words-words.ensures) in
+pub returns-clause-refusal : goal.returns-clause-refusal
+returns-clause-refusal c =
     let a = c.args in
+    let state_sound : sound a.held ≡ true = sym (ap sound c.in-Some.ensures) ∙ c.in-Some.begun.sound in
+    let left = lengths_left a.held (length a.key.ones.now) (length a.key.twos.now) (ne_eqb _ _ c.if-held-eq0.false) state_sound (ne_eqb _ _ c.if-held.false) in
+    let e = c.key_words-words.ensures ∙ ap key_words c.in-Some.ensures in
     rw (
-      lengths_left,
-      ones_fit,
-      ne_eqb a.twos (key_words a.held) (λ e. c.if-twos-words.true (e ∙ sym c.key_words-words.ensures)),
+      left,
+      eq-eqb (length a.key.ones.now) (key_words a.held) (c.if-key-words.false ∙ e),
+      eq-eqb (length a.key.twos.now) (key_words a.held) (c.if-key-words-2.false ∙ e),
     )
-
-pub returns-then-is_sound : goal.returns-then-is_sound
-unfolding row_refusal_under
-returns-then-is_sound c =
-    -- there is a key, and its state is sound
-    let begun : eqb c.args.held.begun 0 ≡ false =
-    ne_eqb _ _ c.if-held-eq0.false in
-    let state_sound : sound c.args.held ≡ true =
-    sym c.is_sound.ensures ∙ c.if-is_sound.true in
-    -- what is left of the chain once a row is missing: the lengths of the planes
-    let lengths_left :
-    let a = c.args in row_refusal a.held a.ones a.twos ≡ demand (eqb a.ones (key_words a.held)) 2 (demand (eqb a.twos (key_words a.held)) 2 0) =
-    rw (begun, state_sound, ne_eqb _ _ c.if-held.false) in
-    -- the ones plane has its length
-    let ones_fit :
-    let a = c.args in eqb a.ones (key_words a.held) ≡ true =
-    eq-eqb _ _ (c.if-ones-words.false ∙ c.key_words-words.ensures) in
-    let a = c.args in
-    rw (lengths_left, ones_fit, eq-eqb a.twos (key_words a.held) (c.if-twos-words.false ∙ c.key_words-words.ensures))
-
-pub returns : goal.returns
-unfolding row_refusal_under
-returns c =
-    -- there is a key, and its state is sound
-    let begun : eqb c.args.held.begun 0 ≡ false =
-    ne_eqb _ _ c.if-held-eq0.false in
-    rw (begun, sym c.is_sound.ensures ∙ c.if-is_sound.false)

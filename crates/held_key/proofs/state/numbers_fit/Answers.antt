@@ -1,93 +1,75 @@
--- The ranges are tested one after another, and each return says what the tests so far found.
+-- The ranges are tested one after another.
 -- Assumes nothing.
-use mathlib.Core.Path.{◌≡◌}
-use mathlib.Core.Bool.{◌&&◌}
-use Prim.Native.Nat.{◌-◌}
-use native.Mathlib.Omega.{arith}
-use lib.Dec.{leb}
-use borrow.Author.Tests.{le-leb, lt-leb, eq-eqb, ne_eqb}
-use Rattle.held_key.specs.Held.{most_key_number, numbers_fit, numbers_fit_under}
+use mathlib.Core.Path.{◌≡◌, refl, ap, ◌∙◌}
+use mathlib.Core.Bool.{Bool, ◌&&◌}
+use Prim.Native.Nat.{◌-◌, ◌%◌}
+use lib.Dec.{eqb, leb}
+use borrow.Author.Tests.{le-leb, lt-leb}
+use Rattle.held_key.specs.Held.{most_key_number, numbers_fit_under}
+use Rattle.held_key.proofs.Ranges.{tested, untested, in_a_row, contained}
 use Rattle.held_key.proofs.state.numbers_fit.Goals as goal
+use Rattle.held_key.proofs.state.numbers_fit.Goals.{then-number-le-MOST_KEY_NUMBER, else-number-le-MOST_KEY_NUMBER, then-contains, else-contains}
+use Rattle.held_key.proofs.state.numbers_fit.Goals.{then-n-eq0, else-n-eq0}
 
-pub returns-then-number-gt-MOST_KEY_NUMBER : goal.returns-then-number-gt-MOST_KEY_NUMBER
+pub returns-then-contains-2 : goal.returns-then-contains-2
 unfolding numbers_fit_under
-returns-then-number-gt-MOST_KEY_NUMBER c =
-    rw (lt-leb c.args.number most_key_number (omega arith))
+returns-then-contains-2 c =
+    let a = c.args in
+    let to_n : c.if-number-le-MOST_KEY_NUMBER.value ≡ (leb a.number most_key_number && (leb 4 a.n && leb a.n 16384)) =
+    elim c.if-number-le-MOST_KEY_NUMBER.branch [
+      | then-number-le-MOST_KEY_NUMBER w ↦
+          let e = w.new.ensures in
+          tested _ _ (le-leb a.number most_key_number w.if-number-le-MOST_KEY_NUMBER.true)
+          (w.value-is ∙ contained _ _ _ _ 4 16384 w.contains.ensures.value e.start e.end e.exhausted)
+      | else-number-le-MOST_KEY_NUMBER w ↦ untested _ _ (lt-leb a.number most_key_number w.if-number-le-MOST_KEY_NUMBER.false) w.value-is
+    ] in
+    let to_even : c.if-contains.value ≡ (c.if-number-le-MOST_KEY_NUMBER.value && eqb (a.n % 2) 0) =
+    elim c.if-contains.branch [
+      | then-contains w ↦ tested _ _ w.if-contains.true w.value-is
+      | else-contains w ↦ untested _ _ w.if-contains.false w.value-is
+    ] in
+    let to_k : c.if-n-eq0.value ≡ (c.if-contains.value && (leb 2 a.k && leb a.k (a.n - 2))) =
+    elim c.if-n-eq0.branch [
+      | then-n-eq0 w ↦
+          let e = w.new-then-n-eq0.ensures in
+          tested _ _ w.if-n-eq0.true
+          (w.value-is ∙ contained _ _ _ _ 2 (a.n - 2) w.contains-then-n-eq0.ensures.value e.start e.end e.exhausted)
+      | else-n-eq0 w ↦ untested _ _ w.if-n-eq0.false w.value-is
+    ] in
+    let upto_k : c.if-n-eq0.value ≡ (((leb a.number most_key_number && (leb 4 a.n && leb a.n 16384)) && eqb (a.n % 2) 0) && (leb 2 a.k && leb a.k (a.n - 2))) =
+    to_k ∙ ap (λ (t : Bool). t && (leb 2 a.k && leb a.k (a.n - 2))) (to_even ∙ ap (λ (t : Bool). t && eqb (a.n % 2) 0) to_n) in
+    let e = c.new-then-contains-2.ensures in
+    tested _ _ c.if-contains-2.true (contained _ _ _ _ 1 a.n c.contains-then-contains-2.ensures.value e.start e.end e.exhausted)
+    ∙ ap (λ (t : Bool). t && (leb 1 a.w && leb a.w a.n)) upto_k
+    ∙ in_a_row (leb a.number most_key_number) (leb 4 a.n) (leb a.n 16384) (eqb (a.n % 2) 0) (leb 2 a.k) (leb a.k (a.n - 2)) (leb 1 a.w) (leb a.w a.n)
 
-pub returns-then-n-lt4 : goal.returns-then-n-lt4
+pub returns-else-contains-2 : goal.returns-else-contains-2
 unfolding numbers_fit_under
-returns-then-n-lt4 c =
-    rw (le-leb c.args.number most_key_number (omega arith), lt-leb _ _ c.if-n-lt4.true)
-
-pub returns-then-n-gt16384 : goal.returns-then-n-gt16384
-unfolding numbers_fit_under
-returns-then-n-gt16384 c =
-    rw (le-leb c.args.number most_key_number (omega arith), le-leb _ _ c.if-n-lt4.false, lt-leb _ _ c.if-n-gt16384.true)
-
-pub returns-then-n-ne0 : goal.returns-then-n-ne0
-unfolding numbers_fit_under
-returns-then-n-ne0 c =
-    rw (
-      le-leb c.args.number most_key_number (omega arith),
-      le-leb _ _ c.if-n-lt4.false,
-      le-leb _ _ c.if-n-gt16384.false,
-      ne_eqb _ _ c.if-n-ne0.true,
-    )
-
-pub returns-then-k-lt2 : goal.returns-then-k-lt2
-unfolding numbers_fit_under
-returns-then-k-lt2 c =
-    -- what is left of the chain once n is in its range: k and w
-    let k_left : let a = c.args in numbers_fit a.number a.n a.k a.w ≡ (leb 2 a.k && (leb a.k (a.n - 2) && (leb 1 a.w && leb a.w a.n))) =
-    rw (
-      le-leb c.args.number most_key_number (omega arith),
-      le-leb _ _ c.if-n-lt4.false,
-      le-leb _ _ c.if-n-gt16384.false,
-      eq-eqb _ _ c.if-n-ne0.false,
-    ) in
-    rw (k_left, lt-leb _ _ c.if-k-lt2.true)
-
-pub returns-then-k-n : goal.returns-then-k-n
-unfolding numbers_fit_under
-returns-then-k-n c =
-    -- what is left of the chain once n is in its range: k and w
-    let k_left : let a = c.args in numbers_fit a.number a.n a.k a.w ≡ (leb 2 a.k && (leb a.k (a.n - 2) && (leb 1 a.w && leb a.w a.n))) =
-    rw (
-      le-leb c.args.number most_key_number (omega arith),
-      le-leb _ _ c.if-n-lt4.false,
-      le-leb _ _ c.if-n-gt16384.false,
-      eq-eqb _ _ c.if-n-ne0.false,
-    ) in
-    rw (k_left, le-leb _ _ c.if-k-lt2.false, lt-leb _ _ c.if-k-n.true)
-
-pub returns-then-w-lt1 : goal.returns-then-w-lt1
-unfolding numbers_fit_under
-returns-then-w-lt1 c =
-    -- what is left of the chain once n is in its range: k and w
-    let k_left : let a = c.args in numbers_fit a.number a.n a.k a.w ≡ (leb 2 a.k && (leb a.k (a.n - 2) && (leb 1 a.w && leb a.w a.n))) =
-    rw (
-      le-leb c.args.number most_key_number (omega arith),
-      le-leb _ _ c.if-n-lt4.false,
-      le-leb _ _ c.if-n-gt16384.false,
-      eq-eqb _ _ c.if-n-ne0.false,
-    ) in
-    -- and once k is too: w
-    let w_left : let a = c.args in numbers_fit a.number a.n a.k a.w ≡ (leb 1 a.w && leb a.w a.n) =
-    rw (k_left, le-leb _ _ c.if-k-lt2.false, le-leb _ _ c.if-k-n.false) in
-    rw (w_left, lt-leb _ _ c.if-w-lt1.true)
-
-pub returns : goal.returns
-unfolding numbers_fit_under
-returns c =
-    -- what is left of the chain once n is in its range: k and w
-    let k_left : let a = c.args in numbers_fit a.number a.n a.k a.w ≡ (leb 2 a.k && (leb a.k (a.n - 2) && (leb 1 a.w && leb a.w a.n))) =
-    rw (
-      le-leb c.args.number most_key_number (omega arith),
-      le-leb _ _ c.if-n-lt4.false,
-      le-leb _ _ c.if-n-gt16384.false,
-      eq-eqb _ _ c.if-n-ne0.false,
-    ) in
-    -- and once k is too: w
-    let w_left : let a = c.args in numbers_fit a.number a.n a.k a.w ≡ (leb 1 a.w && leb a.w a.n) =
-    rw (k_left, le-leb _ _ c.if-k-lt2.false, le-leb _ _ c.if-k-n.false) in
-    rw (w_left, le-leb _ _ c.if-w-lt1.false)
+returns-else-contains-2 c =
+    let a = c.args in
+    let to_n : c.if-number-le-MOST_KEY_NUMBER.value ≡ (leb a.number most_key_number && (leb 4 a.n && leb a.n 16384)) =
+    elim c.if-number-le-MOST_KEY_NUMBER.branch [
+      | then-number-le-MOST_KEY_NUMBER w ↦
+          let e = w.new.ensures in
+          tested _ _ (le-leb a.number most_key_number w.if-number-le-MOST_KEY_NUMBER.true)
+          (w.value-is ∙ contained _ _ _ _ 4 16384 w.contains.ensures.value e.start e.end e.exhausted)
+      | else-number-le-MOST_KEY_NUMBER w ↦ untested _ _ (lt-leb a.number most_key_number w.if-number-le-MOST_KEY_NUMBER.false) w.value-is
+    ] in
+    let to_even : c.if-contains.value ≡ (c.if-number-le-MOST_KEY_NUMBER.value && eqb (a.n % 2) 0) =
+    elim c.if-contains.branch [
+      | then-contains w ↦ tested _ _ w.if-contains.true w.value-is
+      | else-contains w ↦ untested _ _ w.if-contains.false w.value-is
+    ] in
+    let to_k : c.if-n-eq0.value ≡ (c.if-contains.value && (leb 2 a.k && leb a.k (a.n - 2))) =
+    elim c.if-n-eq0.branch [
+      | then-n-eq0 w ↦
+          let e = w.new-then-n-eq0.ensures in
+          tested _ _ w.if-n-eq0.true
+          (w.value-is ∙ contained _ _ _ _ 2 (a.n - 2) w.contains-then-n-eq0.ensures.value e.start e.end e.exhausted)
+      | else-n-eq0 w ↦ untested _ _ w.if-n-eq0.false w.value-is
+    ] in
+    let upto_k : c.if-n-eq0.value ≡ (((leb a.number most_key_number && (leb 4 a.n && leb a.n 16384)) && eqb (a.n % 2) 0) && (leb 2 a.k && leb a.k (a.n - 2))) =
+    to_k ∙ ap (λ (t : Bool). t && (leb 2 a.k && leb a.k (a.n - 2))) (to_even ∙ ap (λ (t : Bool). t && eqb (a.n % 2) 0) to_n) in
+    untested _ _ c.if-contains-2.false refl
+    ∙ ap (λ (t : Bool). t && (leb 1 a.w && leb a.w a.n)) upto_k
+    ∙ in_a_row (leb a.number most_key_number) (leb 4 a.n) (leb a.n 16384) (eqb (a.n % 2) 0) (leb 2 a.k) (leb a.k (a.n - 2)) (leb 1 a.w) (leb a.w a.n)

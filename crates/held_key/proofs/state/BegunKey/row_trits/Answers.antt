@@ -2,8 +2,8 @@
 -- Assumes nothing.
 use native.Mathlib.Omega.{arith}
 use Rattle.held_key.proofs.Sizes.{sizes}
-use Rattle.held_key.proofs.state.row_trits.Goals as goal
+use Rattle.held_key.proofs.state.BegunKey.row_trits.Goals as goal
 
 pub overflow_sub-result : goal.overflow_sub-result
 overflow_sub-result c =
-    omega (arith, sizes c.args.held c.requires)
+    omega (arith, sizes _ c.args.self.sound)

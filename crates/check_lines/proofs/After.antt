@@ -5,10 +5,8 @@ use Prim.Native.Nat.{ℕ, ◌+◌, ◌<◌}
 use native.Mathlib.Numerals.{add-one}
 use lib.ListN.{length, get_or, take}
 use lib.Seq.{take-suc}
-use Rattle.text_lines.specs.Machine.{Machine, machine, stepped}
-use Rattle.check_lines.specs.{after, Reached}
-use Rattle.check_lines.specs.declared.Read.{Read}
-use Rattle.check_lines.specs.declared.Read.TheVariants.{More, End, Unread, Unwritten}
+use Rattle.text_lines.specs.Machine.{Machine, stepped}
+use Rattle.check_lines.specs.{after}
 
 pub after_append : (xs ys : List ℕ) (m : Machine) → after (xs ++ ys) m ≡ after ys (after xs m)
 unfolding after
@@ -30,9 +28,3 @@ after_more bytes i m h =
 module _ (m n : Machine) (e : (text : List ℕ) × (n ≡ after text m)) where
   pub further : (k : Machine) → (text : List ℕ) × (k ≡ after text n) → (text : List ℕ) × (k ≡ after text m)
   further k q = (e.0 ++ q.0, q.1 ∙ ap (after q.0) e.1 ∙ sym (after_append e.0 q.0 m))
-
-  pub reached_from : (line ones twos : List ℕ) (r : Read) → Reached n line ones twos r → Reached m line ones twos r
-  reached_from line ones twos (More s) q = further (machine s line ones twos) q
-  reached_from line ones twos (End s) q = further (machine s line ones twos) q
-  reached_from line ones twos Unread q = tt
-  reached_from line ones twos Unwritten q = tt

@@ -1,8 +1,9 @@
 -- What is known of a reader's and a writer's bytes over several calls, and what a text prints. Assumes nothing.
-use Rattle.std.proofs.Common.{◌≡◌, refl, sym, ap, ◌∙◌, subst, ℕ, ◌+◌, ◌-◌, ◌≤◌, ◌<◌, List, [], ◌∷◌, ◌++◌, length, get_or, take, drop, append_assoc, add-one}
+use Rattle.std.proofs.Common.{◌≡◌, refl, sym, ap, ◌∙◌, subst, ℕ, ◌+◌, ◌-◌, ◌≤◌, ◌<◌, List, [], ◌∷◌, ◌++◌, length, get_or, take, drop}
+use Rattle.std.proofs.Common.{append_assoc, add-one, arith, length-append}
 use Rattle.std.proofs.lemmas.List.{append-nil, take_at, take-take}
 use Rattle.std.proofs.Math.Seq.{take-add, take-suc}
-use Rattle.std.specs.Prelude.{Option, Some, None, IfSome}
+use Rattle.std.specs.Prelude.{Option, Some, None, IfSome, Result, Ok, Err, OnOk}
 use Rattle.std.specs.Io.KnownBytes.{Appends, Consumes, Keeps, IsAtEnd}
 use Rattle.trits.specs.Planes.{zero_words}
 use Rattle.trits.specs.Rows.{put_words}
@@ -11,12 +12,9 @@ use Rattle.text_lines.specs.Machine.{Machine, machine, stepped, step_prints, end
 use Rattle.text_lines.specs.Print.{prints, no_key}
 use Rattle.text_lines.specs.declared.State.{State}
 use Rattle.text_lines.proofs.Fed.{printed_whole}
-use Rattle.check_lines.specs.{after, shown, Printed, ReadAndPrinted, EndPrinted, PrintsWhole}
+use Rattle.check_lines.specs.{after, shown, Printed, PrintedTo, AllPrinted, EndPrinted, PrintsWhole}
 use Rattle.check_lines.proofs.After.{after_append}
-use Rattle.check_lines.specs.declared.Read.{Read}
-use Rattle.check_lines.specs.declared.Read.TheVariants.{More, End, Unread, Unwritten}
-use Rattle.check_lines.specs.declared.Outcome.{Outcome}
-use Rattle.check_lines.specs.declared.Outcome.TheVariants.{Answered, NotRead, NotWritten}
+use Rattle.check_lines.specs.declared.Failure.{Failure}
 
 -- ---- known bytes
 
@@ -49,6 +47,11 @@ consumes_then (Some xs) (Some ys) (Some zs) x y p q = p ∙ ap (λ (l : List ℕ
 -- what a write takes of the bytes that are left follows those that are written
 pub taken_on : (done n count : ℕ) (l : List ℕ) → n ≤ count - done → take done l ++ take n (take (count - done) (drop done l)) ≡ take (done + n) l
 taken_on done n count l h = ap (λ (x : List ℕ). take done l ++ x) (take-take n (count - done) (drop done l) h) ∙ sym (take-add done n l)
+
+-- what was put into a buffer is no longer than it
+pub put_count : (l x m : List ℕ) (n : ℕ) → m ≡ put_words 0 l x → n ≡ length x → n ≤ length m
+unfolding put_words
+put_count l x m n e c = omega (arith, ap length e, c, length-append x (drop (0 + length x) l))
 
 pub front_put : (l x : List ℕ) (n : ℕ) → n ≡ length x → take n (put_words 0 l x) ≡ x
 unfolding put_words
@@ -115,11 +118,8 @@ module _ (r q p w v u : Option (List ℕ)) (m n : Machine) (text : List ℕ) (e 
   reached : (k : Machine) (y : List ℕ) → k ≡ after y n → k ≡ after (text ++ y) m
   reached k y z = z ∙ ap (after y) e ∙ sym (after_append text y m)
 
-  pub printed_from : (line ones twos : List ℕ) (o : Read) → ReadAndPrinted q p v u n line ones twos o → ReadAndPrinted r p w u m line ones twos o
-  printed_from line ones twos (More s) b = (text ++ b.0, reached (machine s line ones twos) b.0 b.1, further b.0 b.2)
-  printed_from line ones twos (End s) b = (text ++ b.0, reached (machine s line ones twos) b.0 b.1, further b.0 b.2, b.3)
-  printed_from line ones twos Unread b = tt
-  printed_from line ones twos Unwritten b = tt
+  pub printed_from : (line ones twos : List ℕ) (s : State) → PrintedTo q p v u n line ones twos s → PrintedTo r p w u m line ones twos s
+  printed_from line ones twos s b = (text ++ b.0, reached (machine s line ones twos) b.0 b.1, further b.0 b.2)
 
 -- ---- a whole text
 
@@ -127,6 +127,12 @@ module _ (r q p w v u : Option (List ℕ)) (m n : Machine) (text : List ℕ) (e 
 pub begun : (s : State) → s ≡ no_line → machine s (zero_words 1025) (zero_words 382) (zero_words 382) ≡ started
 unfolding started no_line no_key
 begun s e = ap (λ (t : State). machine t (zero_words 1025) (zero_words 382) (zero_words 382)) e
+
+-- the end of the text, printed or not
+pub end_printed : (w v : Option (List ℕ)) (line ones twos : List ℕ) (s : State) (o : Result Unit Failure) (bytes : List ℕ) → OnOk o (Appends w v bytes)
+    → bytes ≡ end_prints (machine s line ones twos) → EndPrinted w v line ones twos (Ok s) o
+end_printed w v line ones twos s (Ok u) bytes p e = appends_as w v e p
+end_printed w v line ones twos s (Err f) bytes p e = tt
 
 -- a reader at its end had what was taken
 all_taken : (q : Option (List ℕ)) (xs text : List ℕ) → Consumes (Some xs) q text → IsAtEnd q → text ≡ xs
@@ -144,18 +150,10 @@ module _ (w a b v : Option (List ℕ)) (h : Appends w a header) where
   known None q text c e p = tt
   known (Some xs) q text c e p = appends_as w v (ap prints (all_taken q xs text c e)) p
 
-  pub whole : (r q : Option (List ℕ)) (line ones twos : List ℕ) (read : Read) (o : Outcome) → ReadAndPrinted r q a b started line ones twos read
+  pub whole : (r q : Option (List ℕ)) (line ones twos : List ℕ) (read : Result State Failure) (o : Result Unit Failure)
+      → AllPrinted r q a b started line ones twos read
       → EndPrinted b v line ones twos read o → PrintsWhole r w v o
-  whole r q line ones twos (End s) Answered f z =
-      known r q f.0 f.2.taken f.3 (ended f.0 (machine s line ones twos) f.1 f.2.written z)
-  whole r q line ones twos (End s) NotRead f z = tt
-  whole r q line ones twos (End s) NotWritten f z = tt
-  whole r q line ones twos (More s) Answered f z = absurd z
-  whole r q line ones twos (More s) NotRead f z = tt
-  whole r q line ones twos (More s) NotWritten f z = tt
-  whole r q line ones twos Unread Answered f z = absurd z
-  whole r q line ones twos Unread NotRead f z = tt
-  whole r q line ones twos Unread NotWritten f z = tt
-  whole r q line ones twos Unwritten Answered f z = absurd z
-  whole r q line ones twos Unwritten NotRead f z = tt
-  whole r q line ones twos Unwritten NotWritten f z = tt
+  whole r q line ones twos (Ok s) (Ok u) f z = known r q f.0.0 f.0.2.taken f.1 (ended f.0.0 (machine s line ones twos) f.0.1 f.0.2.written z)
+  whole r q line ones twos (Ok s) (Err e) f z = tt
+  whole r q line ones twos (Err d) (Ok u) f z = absurd z
+  whole r q line ones twos (Err d) (Err e) f z = tt

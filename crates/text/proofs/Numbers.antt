@@ -1,6 +1,6 @@
 -- Numbers: the value of digits, digit by digit, and a value too large for any range. Assumes nothing.
 use mathlib.Core.Path.{◌≡◌, refl, sym, ap, ◌∙◌}
-use mathlib.Core.Bool.{true, false}
+use mathlib.Core.Bool.{false}
 use mathlib.Core.List.{List, [], ◌∷◌}
 use Prim.Native.Nat.{ℕ, ◌+◌, ◌-◌, ◌*◌, ◌≤◌, ◌<◌}
 use native.Mathlib.Nat.{le_refl}
@@ -9,9 +9,9 @@ use native.Mathlib.Omega.{arith}
 use borrow.Author.Tests.{lt-ltb, le-ltb, eq-eqb, ne_eqb}
 use lib.ListN.{length, get_or, drop, drop_of_length-le}
 use lib.Seq.{drop-cons}
-use Rattle.text.specs.Numbers.{value_from, value, is_number}
+use Rattle.text.specs.Numbers.{value_from, is_number}
 use Rattle.text.specs.Fields.{all_between}
-use Rattle.text.specs.Steps.{at_most_large, large, read_number}
+use Rattle.text.specs.Steps.{at_most_large, large}
 
 -- digits make no value smaller
 pub value_le : (l : List ℕ) (v : ℕ) → v ≤ value_from v l
@@ -60,11 +60,3 @@ unfolding is_number
 number_more [] h k f = absurd (h refl)
 number_more (b ∷ []) h k f = absurd (k refl)
 number_more (b ∷ c ∷ l) h k f = rw (ne_eqb b 48 f)
-
-pub number_read : (l : List ℕ) → is_number l ≡ true → at_most_large (value l) ≡ read_number l
-unfolding read_number
-number_read l e = rw e
-
-pub number_not : (l : List ℕ) → is_number l ≡ false → large + 1 ≡ read_number l
-unfolding read_number
-number_not l e = rw e

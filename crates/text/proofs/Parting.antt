@@ -1,56 +1,24 @@
--- A loop over a field, byte by byte: where the first tab stands, whether all bytes are in a range; and the parts between tabs. Assumes nothing.
-use mathlib.Core.Path.{◌≡◌, refl, sym, ap, ◌∙◌}
-use mathlib.Core.Bool.{Bool, true, false, ◌&&◌, cond, and-eq-true_iff}
+-- A text parted at its first tab, and bytes that are all in a range. Assumes nothing.
+use mathlib.Core.Path.{◌≡◌, refl, sym, ap}
+use mathlib.Core.Bool.{Bool, true, false, ◌&&◌, not, cond, and-eq-true_iff}
 use mathlib.Core.List.{List, [], ◌∷◌}
-use Prim.Native.Nat.{ℕ, zero, suc, ◌+◌, ◌-◌, ◌≤◌, ◌<◌, zero-le, suc-le-suc}
+use Prim.Native.Nat.{ℕ, zero, suc, ◌+◌, ◌-◌, ◌≤◌, ◌<◌, zero-le}
 use native.Mathlib.Nat.{not-suc-le-zero, le_of_suc-le-suc}
-use native.Mathlib.Numerals.{add-one}
-use native.Mathlib.Decide.{dec_lt}
 use native.Mathlib.Omega.{arith}
-use borrow.Author.Tests.{eq-eqb, ne_eqb, le-leb, lt-leb, leb-true}
-use lib.Dec.{eqb, leb}
-use lib.ListN.{length, get_or, take, drop, drop_of_length-le, length-drop}
-use lib.Seq.{drop-cons, drop-drop, take_all}
+use native.Mathlib.Decide.{dec_lt}
+use borrow.Author.Tests.{leb-true, ltb-true, lt-ltb}
+use lib.Dec.{eqb, leb, ltb}
+use lib.ListN.{length, get_or, take, drop, length-drop}
+use lib.Seq.{length-take-le, take_all}
+use Rattle.std.specs.Prelude.{◌==◌, Some, None}
+use Rattle.std.specs.List.{position, position_or_len}
+use Rattle.std.proofs.lemmas.Option.{cond_some, none-some}
 use Rattle.text.specs.Fields.{onto, split, fields, all_between}
-use Rattle.text.specs.Steps.{before, part}
+use Rattle.text.specs.Steps.{PartedAt}
 
--- what is left at place i is its byte and what is left after it
-next : (l : List ℕ) (i : ℕ) → i < length l → drop i l ≡ get_or l i 0 ∷ drop (i + 1) l
-next l i h = drop-cons l i 0 h ∙ ap (λ (j : ℕ). get_or l i 0 ∷ drop j l) (sym (add-one i))
-
--- ---- the first mark
-
-module _ (l : List ℕ) (i : ℕ) where
-  pub found_here : i < length l → get_or l i 0 ≡ 9 → before 9 (drop i l) ≡ 0
-  unfolding before
-  found_here h e = ap (before 9) (next l i h) ∙ rw (eq-eqb (get_or l i 0) 9 e)
-
-  pub found_later : i < length l → (get_or l i 0 ≡ 9 → ⊥) → before 9 (drop i l) ≡ suc (before 9 (drop (i + 1) l))
-  unfolding before
-  found_later h f = ap (before 9) (next l i h) ∙ rw (ne_eqb (get_or l i 0) 9 f)
-
-  pub found_none : length l ≤ i → before 9 (drop i l) ≡ 0
-  unfolding before
-  found_none h = ap (before 9) (drop_of_length-le l {i = i} h)
-
-  -- ---- bytes in a range
-
-  module _ (low high : ℕ) where
-    pub all_below : i < length l → get_or l i 0 < low → all_between low high (drop i l) ≡ false
-    unfolding all_between
-    all_below h f = ap (all_between low high) (next l i h) ∙ rw (lt-leb low (get_or l i 0) f)
-
-    pub all_above : i < length l → low ≤ get_or l i 0 → high < get_or l i 0 → all_between low high (drop i l) ≡ false
-    unfolding all_between
-    all_above h g f = ap (all_between low high) (next l i h) ∙ rw (le-leb low (get_or l i 0) g, lt-leb (get_or l i 0) high f)
-
-    pub all_next : i < length l → low ≤ get_or l i 0 → get_or l i 0 ≤ high → all_between low high (drop i l) ≡ all_between low high (drop (i + 1) l)
-    unfolding all_between
-    all_next h g f = ap (all_between low high) (next l i h) ∙ rw (le-leb low (get_or l i 0) g, le-leb (get_or l i 0) high f)
-
-    pub all_end : length l ≤ i → all_between low high (drop i l) ≡ true
-    unfolding all_between
-    all_end h = ap (all_between low high) (drop_of_length-le l {i = i} h)
+-- how many bytes stand before the first tab
+abbrev pub before : List ℕ → ℕ
+before l = position_or_len (λ b. b == 9) l
 
 -- a byte of a field whose bytes are all in a range
 pub all_at : (low high : ℕ) (l : List ℕ) (i : ℕ) → i < length l → all_between low high l ≡ true → (low ≤ get_or l i 0) × (get_or l i 0 ≤ high)
@@ -63,66 +31,73 @@ all_at low high (b ∷ l) (suc i) h e = all_at low high l i (le_of_suc-le-suc h)
 
 -- ---- the parts between marks
 
-pub before_le : (mark : ℕ) (l : List ℕ) → before mark l ≤ length l
-unfolding before
-before_le mark [] = zero-le
-before_le mark (b ∷ l) = by (eqb b mark) (before_le mark l)
+pub before_le : (l : List ℕ) → before l ≤ length l
+before_le [] = zero-le
+before_le (b ∷ l) = by (eqb b 9) (before_le l)
   where
-    by : (t : Bool) → before mark l ≤ length l → cond t 0 (suc (before mark l)) ≤ suc (length l)
+    by : (t : Bool) → before l ≤ length l → cond (not t) (1 + before l) 0 ≤ suc (length l)
     by true h = zero-le
-    by false h = suc-le-suc h
+    by false h = omega arith
 
--- where a mark is found, the first part ends there, and the others are those of what follows it
-pub split_more : (mark : ℕ) (l : List ℕ) → before mark l < length l → split mark l ≡ take (before mark l) l ∷ split mark (drop (suc (before mark l)) l)
-unfolding before split onto
-split_more mark [] h = absurd (not-suc-le-zero h)
-split_more mark (b ∷ l) h = by (eqb b mark) h (split_more mark l)
+-- where a tab is found, the first part ends there, and the others are those of what follows it
+pub split_more : (l : List ℕ) → before l < length l → fields l ≡ take (before l) l ∷ fields (drop (before l + 1) l)
+unfolding split onto
+split_more [] h = absurd (not-suc-le-zero h)
+split_more (b ∷ l) h = by (eqb b 9) h (split_more l)
   where
-    by : (t : Bool) → cond t 0 (suc (before mark l)) < suc (length l)
-        → (before mark l < length l → split mark l ≡ take (before mark l) l ∷ split mark (drop (suc (before mark l)) l))
-        → cond t ([] ∷ split mark l) (onto b (split mark l)) ≡ take (cond t 0 (suc (before mark l))) (b ∷ l) ∷ split mark
-        (drop (suc (cond t 0 (suc (before mark l)))) (b ∷ l))
+    by : (t : Bool) → cond (not t) (1 + before l) 0 < suc (length l) → (before l < length l → split 9 l ≡ take (before l) l ∷ split 9 (drop (before l + 1) l))
+        → cond t ([] ∷ split 9 l) (onto b (split 9 l)) ≡ take (cond (not t) (1 + before l) 0) (b ∷ l) ∷ split 9
+        (drop (cond (not t) (1 + before l) 0 + 1) (b ∷ l))
     by true h f = refl
-    by false h f = ap (onto b) (f (le_of_suc-le-suc h))
+    by false h f =
+        let p : 1 + before l ≡ suc (before l) = omega arith in
+        let q : 1 + before l + 1 ≡ suc (before l + 1) = omega arith in
+        rw (q, p) (ap (onto b) (f (omega arith)))
 
 -- where none is found, there is one part
-pub split_last : (mark : ℕ) (l : List ℕ) → before mark l ≡ length l → split mark l ≡ l ∷ []
-unfolding before split onto
-split_last mark [] h = refl
-split_last mark (b ∷ l) h = by (eqb b mark) h (split_last mark l)
+pub split_last : (l : List ℕ) → length l ≤ before l → fields l ≡ l ∷ []
+unfolding split onto
+split_last [] h = refl
+split_last (b ∷ l) h = by (eqb b 9) h (split_last l)
   where
-    by : (t : Bool) → cond t 0 (suc (before mark l)) ≡ suc (length l) → (before mark l ≡ length l → split mark l ≡ l ∷ [])
-        → cond t ([] ∷ split mark l) (onto b (split mark l)) ≡ (b ∷ l) ∷ []
+    by : (t : Bool) → suc (length l) ≤ cond (not t) (1 + before l) 0 → (length l ≤ before l → split 9 l ≡ l ∷ [])
+        → cond t ([] ∷ split 9 l) (onto b (split 9 l)) ≡ (b ∷ l) ∷ []
     by true h f = absurd (omega (arith, h))
     by false h f = ap (onto b) (f (omega (arith, h)))
 
 -- there is always a part
 pub some_part : (mark : ℕ) (l : List ℕ) → (first : List ℕ) × (rest : List (List ℕ)) × (split mark l ≡ first ∷ rest)
-some_part mark l = by (dec_lt (before mark l) (length l))
+unfolding split onto
+some_part mark [] = ([], [], refl)
+some_part mark (b ∷ l) = by (eqb b mark) (some_part mark l)
   where
-    by : Dec (before mark l < length l) → (first : List ℕ) × (rest : List (List ℕ)) × (split mark l ≡ first ∷ rest)
-    by (yes h) = (_, _, split_more mark l h)
-    by (no h) = (_, _, split_last mark l (omega (arith, before_le mark l)))
+    by : (t : Bool) → (first : List ℕ) × (rest : List (List ℕ)) × (split mark l ≡ first ∷ rest)
+        → (first : List ℕ) × (rest : List (List ℕ)) × (cond t ([] ∷ split mark l) (onto b (split mark l)) ≡ first ∷ rest)
+    by true s = ([], split mark l, refl)
+    by false s = (b ∷ s.0, s.1, ap (onto b) s.2)
 
--- the same from a place of a line on
-module _ (line : List ℕ) (a e : ℕ) (h : e ≡ a + before 9 (drop a line)) where
-  pub field_within : a ≤ length line → (a ≤ e) × (e ≤ length line)
-  field_within b = (omega arith, omega (arith, before_le 9 (drop a line), length-drop a line))
+-- ---- the place of the first tab, where there is one
 
-  -- a field that does not end the line has a tab after it
-  pub field_room : a ≤ length line → (e ≡ length line → ⊥) → e + 1 ≤ length line
-  field_room b f = omega (arith, f, field_within b)
+module _ (text : List ℕ) where
+  pub tab_none : None ≡ position (λ b. b == 9) text → fields text ≡ text ∷ []
+  tab_none e = by (dec_lt (before text) (length text))
+    where
+      by : Dec (before text < length text) → fields text ≡ text ∷ []
+      by (yes h) = absurd (none-some _ (rw (lt-ltb (before text) (length text) h) at e))
+      by (no h) = split_last text (omega arith)
 
-  pub field_more : a ≤ length line → (e ≡ length line → ⊥) → fields (drop a line) ≡ part a e line ∷ fields (drop (e + 1) line)
-  field_more b f =
-      let g : e - a ≡ before 9 (drop a line) = omega arith in
-      let n : a + suc (before 9 (drop a line)) ≡ e + 1 = omega arith in
-      split_more 9 (drop a line) (omega (arith, before_le 9 (drop a line), length-drop a line))
-      ∙ ap (λ (x : List ℕ). take (before 9 (drop a line)) (drop a line) ∷ fields x)
-      (drop-drop (suc (before 9 (drop a line))) a line ∙ ap (λ (j : ℕ). drop j line) n)
-      ∙ ap (λ (j : ℕ). take j (drop a line) ∷ fields (drop (e + 1) line)) (sym g)
+  module _ {at : ℕ} (e : Some at ≡ position (λ b. b == 9) text) where
+    tab_found : (at ≡ before text) × (at < length text)
+    tab_found =
+        let p = cond_some (ltb (before text) (length text)) (before text) at (sym e) in
+        (sym p.1, omega (arith, p.1, ltb-true (before text) (length text) p.0))
 
-  pub field_last : a ≤ length line → e ≡ length line → fields (drop a line) ≡ part a (length line) line ∷ []
-  field_last b f =
-      split_last 9 (drop a line) (omega (arith, length-drop a line))
-      ∙ ap (λ (x : List ℕ). x ∷ []) (sym (take_all (length line - a) (drop a line) (omega (arith, length-drop a line))))
+    pub tab_parts : PartedAt text (take at text) (take (length text - (at + 1)) (drop (at + 1) text))
+    tab_parts =
+        let p = tab_found in
+        let w : take (length text - (at + 1)) (drop (at + 1) text) ≡ drop (at + 1) text =
+        take_all (length text - (at + 1)) (drop (at + 1) text) (omega (arith, length-drop (at + 1) text)) in
+        record {
+          are = rw (w, p.0) (split_more text (omega arith));
+          size = rw w (omega (arith, length-take-le at text (omega arith), length-drop (at + 1) text));
+        }

@@ -1,21 +1,24 @@
 -- What the fields of a line say: four fields found or not, numbers in and out of their ranges, and the forms. Assumes nothing.
 use mathlib.Core.Path.{◌≡◌, refl, sym, ap, ◌∙◌}
-use mathlib.Core.Bool.{Bool, true, false, ◌&&◌, cond, and-false}
+use mathlib.Core.Bool.{Bool, true, false, ◌&&◌, cond, and-eq-true_iff}
 use mathlib.Core.List.{List, [], ◌∷◌}
-use Prim.Native.Nat.{ℕ, ◌+◌, ◌-◌, ◌≤◌, ◌<◌}
-use native.Mathlib.Decide.{dec_lt, ℕ_discrete}
+use Prim.Native.Nat.{ℕ, ◌+◌, ◌≤◌, ◌<◌}
+use native.Mathlib.Decide.{dec_lt}
 use native.Mathlib.Omega.{arith}
-use borrow.Author.Tests.{eq-eqb, ne_eqb, le-leb, lt-leb, lt-ltb, le-ltb}
-use lib.Dec.{leb}
-use lib.ListN.{length, get_or, take, drop}
-use lib.Seq.{length-take-le}
-use Rattle.text.specs.Fields.{fields}
+use borrow.Author.Tests.{ne_eqb, le-leb, lt-leb, leb-true, lt-ltb, le-ltb}
+use lib.Dec.{leb, ltb}
+use lib.ListN.{length, get_or, drop}
+use Rattle.std.specs.Prelude.{Option, None, Some, MatchOption}
+use Rattle.std.specs.Option.{is_some}
+use Rattle.text.specs.declared.forms.Form.{Form}
+use Rattle.text.specs.declared.forms.Form.TheVariants.{Key, Row, Sign}
+use Rattle.text.specs.Fields.{split, onto, fields, all_between}
 use Rattle.text.specs.Numbers.{is_number, value, in_range}
 use Rattle.text.specs.Digits.{is_digits}
 use Rattle.text.specs.Forms.{no_form, key_line, row_line, sign_line, one_field, four_fields, key_of, row_of, sign_of, is_letter, form_of, line_of, most_formula}
-use Rattle.text.specs.Steps.{before, part, large, at_most_large, read_number, Four, NotFour, bounded}
-use Rattle.text.proofs.Parting.{some_part, field_within, field_room, field_more, field_last}
-use Rattle.text.proofs.Numbers.{value_small, value_large, number_read, number_not}
+use Rattle.text.specs.Steps.{PartedAt, large, at_most_large, FourOf, NotFour, DigitsOf, bounded}
+use Rattle.text.proofs.Parting.{before, split_more, split_last, some_part}
+use Rattle.text.proofs.Numbers.{value_small, value_large}
 
 -- ---- numbers
 
@@ -27,249 +30,198 @@ bound v = by (dec_lt v large)
     by (yes l) = let e = value_small v l in (omega (arith, e), omega (arith, e), λ h. sym e)
     by (no l) = let e = value_large v (omega arith) in (omega (arith, e), omega (arith, e), λ h. absurd (omega (arith, e, h)))
 
-module _ (f : List ℕ) {r : ℕ} (e : r ≡ read_number f) where
-  pub number_in : r ≤ large → (is_number f ≡ true) × (r ≡ at_most_large (value f))
-  number_in h = by (is_number f) refl
-    where
-      by : (t : Bool) → is_number f ≡ t → (is_number f ≡ true) × (r ≡ at_most_large (value f))
-      by true q = (q, e ∙ sym (number_read f q))
-      by false q = absurd (omega (arith, h, e ∙ sym (number_not f q)))
+module _ (f : List ℕ) (most : ℕ) where
+  pub range_none : is_number f ≡ false → in_range most f ≡ false
+  unfolding in_range
+  range_none q = rw q
 
-  pub number_out : large < r → is_number f ≡ false
-  number_out h = by (is_number f) refl
-    where
-      by : (t : Bool) → is_number f ≡ t → is_number f ≡ false
-      by true q = absurd (omega (arith, h, e ∙ sym (number_read f q), (bound (value f)).1))
-      by false q = q
-
-  module _ (most : ℕ) (m : most < large) where
-    pub range_in : r ≤ most → (in_range most f ≡ true) × (r ≡ value f)
+  module _ {r : ℕ} (q : is_number f ≡ true) (e : r ≡ at_most_large (value f)) where
+    pub range_in : most < large → r ≤ most → (in_range most f ≡ true) × (r ≡ value f)
     unfolding in_range
-    range_in h =
-        let p = number_in (omega arith) in
-        let v = p.1 ∙ (bound (value f)).2 (omega (arith, p.1)) in
-        (rw (p.0, le-leb (value f) most (omega (arith, v))), v)
+    range_in m h =
+        let v : r ≡ value f = e ∙ (bound (value f)).2 (omega (arith, e)) in
+        (rw (q, le-leb (value f) most (omega (arith, v))), v)
 
     pub range_out : most < r → in_range most f ≡ false
     unfolding in_range
-    range_out h = by (is_number f) refl
-      where
-        by : (t : Bool) → is_number f ≡ t → (is_number f && leb (value f) most) ≡ false
-        by true q = rw (q, lt-leb (value f) most (omega (arith, h, e ∙ sym (number_read f q), (bound (value f)).0)))
-        by false q = rw q
+    range_out h = rw (q, lt-leb (value f) most (omega (arith, h, e, (bound (value f)).0)))
+
+-- ---- what an answer with a tested variant has said
+
+pub at_some : {A : Type 0} (P : Type 0) (Q : A → Type 0) (o : Option A) → is_some o ≡ true → MatchOption o P Q → (x : A) × Q x
+at_some P Q None e m = cc
+at_some P Q (Some x) e m = (x, m)
+
+pub at_none : {A : Type 0} (P : Type 0) (Q : A → Type 0) (o : Option A) → is_some o ≡ false → MatchOption o P Q → P
+at_none P Q None e m = m
+at_none P Q (Some x) e m = cc
 
 -- ---- four fields
 
-module _ (line : List ℕ) (b c d e : ℕ) (h : 2 ≤ length line) (hb : b ≡ 2 + before 9 (drop 2 line)) where
-  pub one_field_law : b ≡ length line → NotFour line
+module _ {text first rest : List ℕ} (p : PartedAt text first rest) where
+  pub two_fields : fields rest ≡ rest ∷ [] → NotFour text
   unfolding four_fields
-  one_field_law z = λ f. ap (four_fields f) (field_last line 2 b hb h z)
+  two_fields e = λ f. rw (p.are, e)
 
-  module _ (nb : b ≡ length line → ⊥) (hc : c ≡ b + 1 + before 9 (drop (b + 1) line)) where
-    pub two_fields : c ≡ length line → NotFour line
+  module _ {second others : List ℕ} (q : PartedAt rest second others) where
+    pub three_fields : fields others ≡ others ∷ [] → NotFour text
     unfolding four_fields
-    two_fields z =
-        λ f. ap (four_fields f) (field_more line 2 b hb h nb
-        ∙ ap (λ (x : List (List ℕ)). part 2 b line ∷ x) (field_last line (b + 1) c hc (field_room line 2 b hb h nb) z))
+    three_fields e = λ f. rw (p.are, q.are, e)
 
-    module _ (nc : c ≡ length line → ⊥) (hd : d ≡ c + 1 + before 9 (drop (c + 1) line)) where
-      pub three_fields : d ≡ length line → NotFour line
+    module _ {third fourth : List ℕ} (r : PartedAt others third fourth) where
+      pub more_fields : {a b : List ℕ} → PartedAt fourth a b → NotFour text
       unfolding four_fields
-      three_fields z = λ f. ap (four_fields f) (
-          field_more line 2 b hb h nb
-          ∙ ap (λ (x : List (List ℕ)). part 2 b line ∷ x) (
-          field_more line (b + 1) c hc (field_room line 2 b hb h nb) nc
-          ∙ ap (λ (x : List (List ℕ)). part (b + 1) c line ∷ x)
-          (field_last line (c + 1) d hd (field_room line (b + 1) c hc (field_room line 2 b hb h nb) nc) z)
-          )
-          )
+      more_fields {a} {b} s = λ f. let z = some_part 9 b in rw (p.are, q.are, r.are, s.are, z.2)
 
-      module _ (nd : d ≡ length line → ⊥) (he : e ≡ d + 1 + before 9 (drop (d + 1) line)) where
-        front : {rest : List (List ℕ)} → fields (drop (d + 1) line) ≡ rest
-            → fields (drop 2 line) ≡ part 2 b line ∷ part (b + 1) c line ∷ part (c + 1) d line ∷ rest
-        front q =
-            field_more line 2 b hb h nb
-            ∙ ap (λ (x : List (List ℕ)). part 2 b line ∷ x) (
-            field_more line (b + 1) c hc (field_room line 2 b hb h nb) nc
-            ∙ ap (λ (x : List (List ℕ)). part (b + 1) c line ∷ x)
-            (field_more line (c + 1) d hd (field_room line (b + 1) c hc (field_room line 2 b hb h nb) nc) nd
-            ∙ ap (λ (x : List (List ℕ)). part (c + 1) d line ∷ x) q)
-            )
+      pub are_four : fields fourth ≡ fourth ∷ [] → FourOf text first second third fourth
+      are_four e = record {
+        are = rw (p.are, q.are, r.are, e);
+        third_size = omega (arith, p.size, q.size, r.size);
+        fourth_size = omega (arith, p.size, q.size, r.size);
+      }
 
-        pub more_fields : (e ≡ length line → ⊥) → NotFour line
-        unfolding four_fields
-        more_fields ne = λ f.
-            let q = some_part 9 (drop (e + 1) line) in
-            ap (four_fields f) (front (field_more line (d + 1) e he
-            (field_room line (c + 1) d hd (field_room line (b + 1) c hc (field_room line 2 b hb h nb) nc) nd) ne
-            ∙ ap (λ (x : List (List ℕ)). part (d + 1) e line ∷ x) q.2))
-
-        pub four_fields_law : e ≡ length line → Four line b c d
-        four_fields_law z = record {
-          two_b = (field_within line 2 b hb h).0;
-          b_c = omega (arith, field_within line (b + 1) c hc (field_room line 2 b hb h nb));
-          c_d = omega (arith, field_within line (c + 1) d hd (field_room line (b + 1) c hc (field_room line 2 b hb h nb) nc));
-          d_end = omega arith;
-          are = front (field_last line (d + 1) e he (field_room line (c + 1) d hd (field_room line (b + 1) c hc (field_room line 2 b hb h nb) nc) nd) z);
-        }
+pub one_field_law : (text : List ℕ) → fields text ≡ text ∷ [] → NotFour text
+unfolding four_fields
+one_field_law text e = λ f. rw e
 
 -- ---- P and S
 
-module _ {line : List ℕ} {b c d : ℕ} (f : Four line b c d) (most : ℕ) where
-  module _ (q : in_range most (part 2 b line) ≡ false) where
-    pub key_not_1 : no_form ≡ bounded (four_fields (key_of most) (fields (drop 2 line)))
+module _ {text a b c d : List ℕ} (f : FourOf text a b c d) (most : ℕ) where
+  module _ (q : in_range most a ≡ false) where
+    pub key_not_1 : no_form ≡ bounded (four_fields (key_of most) (fields text))
     unfolding four_fields key_of bounded
     key_not_1 = rw (f.are, q)
 
-    pub sign_not_1 : no_form ≡ bounded (four_fields (sign_of most) (fields (drop 2 line)))
+    pub sign_not_1 : no_form ≡ bounded (four_fields (sign_of most) (fields text))
     unfolding four_fields sign_of bounded
     sign_not_1 = rw (f.are, q)
 
-  module _ (q : in_range most (part 2 b line) ≡ true) where
-    pub key_not_2 : is_number (part (b + 1) c line) ≡ false → no_form ≡ bounded (four_fields (key_of most) (fields (drop 2 line)))
+  module _ (q : in_range most a ≡ true) where
+    pub key_not_2 : is_number b ≡ false → no_form ≡ bounded (four_fields (key_of most) (fields text))
     unfolding four_fields key_of bounded
     key_not_2 r = rw (f.are, q, r)
 
-    module _ (r : is_number (part (b + 1) c line) ≡ true) where
-      pub key_not_3 : is_number (part (c + 1) d line) ≡ false → no_form ≡ bounded (four_fields (key_of most) (fields (drop 2 line)))
+    module _ (r : is_number b ≡ true) where
+      pub key_not_3 : is_number c ≡ false → no_form ≡ bounded (four_fields (key_of most) (fields text))
       unfolding four_fields key_of bounded
       key_not_3 s = rw (f.are, q, r, s)
 
-      module _ (s : is_number (part (c + 1) d line) ≡ true) where
-        pub key_not_4 : is_number (part (d + 1) (length line) line) ≡ false → no_form ≡ bounded (four_fields (key_of most) (fields (drop 2 line)))
+      module _ (s : is_number c ≡ true) where
+        pub key_not_4 : is_number d ≡ false → no_form ≡ bounded (four_fields (key_of most) (fields text))
         unfolding four_fields key_of bounded
         key_not_4 t = rw (f.are, q, r, s, t)
 
-        pub key_told : {number n k w : ℕ} → is_number (part (d + 1) (length line) line) ≡ true → number ≡ value (part 2 b line)
-            → n ≡ at_most_large (value (part (b + 1) c line))
-            → k ≡ at_most_large (value (part (c + 1) d line)) → w ≡ at_most_large (value (part (d + 1) (length line) line))
-            → key_line number n k w ≡ bounded (four_fields (key_of most) (fields (drop 2 line)))
+        pub key_told : {number n k w : ℕ} → is_number d ≡ true → number ≡ value a → n ≡ at_most_large (value b) → k ≡ at_most_large (value c)
+            → w ≡ at_most_large (value d) → key_line number n k w ≡ bounded (four_fields (key_of most) (fields text))
         unfolding four_fields key_of bounded
         key_told t e₁ e₂ e₃ e₄ = rw (f.are, q, r, s, t, ← e₁, ← e₂, ← e₃, ← e₄)
 
-    pub sign_told : {number formula : ℕ} → in_range most_formula (part (b + 1) c line) ≡ true → is_digits (part (c + 1) d line) ≡ true
-        → is_digits (part (d + 1) (length line) line) ≡ true → number ≡ value (part 2 b line) → formula ≡ value (part (b + 1) c line)
-        → sign_line number formula (part (c + 1) d line) (part (d + 1) (length line) line) ≡ bounded (four_fields (sign_of most) (fields (drop 2 line)))
+    module _ (r : in_range most_formula b ≡ true) where
+      pub sign_not_3 : is_digits c ≡ false → no_form ≡ bounded (four_fields (sign_of most) (fields text))
+      unfolding four_fields sign_of bounded
+      sign_not_3 s = rw (f.are, q, r, s)
+
+      module _ (s : is_digits c ≡ true) where
+        pub sign_not_4 : is_digits d ≡ false → no_form ≡ bounded (four_fields (sign_of most) (fields text))
+        unfolding four_fields sign_of bounded
+        sign_not_4 t = rw (f.are, q, r, s, t)
+
+        pub sign_told : {number formula : ℕ} → is_digits d ≡ true → number ≡ value a → formula ≡ value b
+            → sign_line number formula c d ≡ bounded (four_fields (sign_of most) (fields text))
+        unfolding four_fields sign_of bounded
+        sign_told t e₁ e₂ = rw (f.are, q, r, s, t, ← e₁, ← e₂)
+
+    pub sign_not_2 : in_range most_formula b ≡ false → no_form ≡ bounded (four_fields (sign_of most) (fields text))
     unfolding four_fields sign_of bounded
-    sign_told r s t e₁ e₂ = rw (f.are, q, r, s, t, ← e₁, ← e₂)
-
-  -- one field that is not what it must be is enough
-  pub sign_not_2 : in_range most_formula (part (b + 1) c line) ≡ false → no_form ≡ bounded (four_fields (sign_of most) (fields (drop 2 line)))
-  unfolding four_fields sign_of bounded
-  sign_not_2 r = rw (f.are, r, and-false (in_range most (part 2 b line)))
-
-  pub sign_not_3 : is_digits (part (c + 1) d line) ≡ false → no_form ≡ bounded (four_fields (sign_of most) (fields (drop 2 line)))
-  unfolding four_fields sign_of bounded
-  sign_not_3 s = rw (f.are, s, and-false (in_range most (part 2 b line) && in_range most_formula (part (b + 1) c line)))
-
-  pub sign_not_4 : is_digits (part (d + 1) (length line) line) ≡ false → no_form ≡ bounded (four_fields (sign_of most) (fields (drop 2 line)))
-  unfolding four_fields sign_of bounded
-  sign_not_4 t =
-      rw (f.are, t, and-false (in_range most (part 2 b line) && in_range most_formula (part (b + 1) c line) && is_digits (part (c + 1) d line)))
+    sign_not_2 r = rw (f.are, q, r)
 
 -- the fields are not four
-pub not_key : (line : List ℕ) (most : ℕ) → NotFour line → no_form ≡ bounded (four_fields (key_of most) (fields (drop 2 line)))
+pub not_key : (text : List ℕ) (most : ℕ) → NotFour text → no_form ≡ bounded (four_fields (key_of most) (fields text))
 unfolding bounded
-not_key line most f = ap bounded (sym (f (key_of most)))
+not_key text most f = ap bounded (sym (f (key_of most)))
 
-pub not_sign : (line : List ℕ) (most : ℕ) → NotFour line → no_form ≡ bounded (four_fields (sign_of most) (fields (drop 2 line)))
+pub not_sign : (text : List ℕ) (most : ℕ) → NotFour text → no_form ≡ bounded (four_fields (sign_of most) (fields text))
 unfolding bounded
-not_sign line most f = ap bounded (sym (f (sign_of most)))
+not_sign text most f = ap bounded (sym (f (sign_of most)))
 
 -- ---- K
 
-module _ (line : List ℕ) (b : ℕ) (h : 2 ≤ length line) (hb : b ≡ 2 + before 9 (drop 2 line)) where
-  pub row_more : (b ≡ length line → ⊥) → no_form ≡ bounded (one_field row_of (fields (drop 2 line)))
-  unfolding one_field bounded
-  row_more nb =
-      let q = some_part 9 (drop (b + 1) line) in
-      sym (ap (λ (x : List (List ℕ)). bounded (one_field row_of x))
-      (field_more line 2 b hb h nb ∙ ap (λ (x : List (List ℕ)). part 2 b line ∷ x) q.2))
+-- a tab is no digit
+digits_whole : (l : List ℕ) → all_between 48 50 l ≡ true → fields l ≡ l ∷ []
+unfolding all_between split onto
+digits_whole [] e = refl
+digits_whole (b ∷ l) e =
+    let p = (and-eq-true_iff (leb 48 b && leb b 50) (all_between 48 50 l)).0 e in
+    let h : 48 ≤ b = leb-true 48 b ((and-eq-true_iff (leb 48 b) (leb b 50)).0 p.0).0 in
+    rw (ne_eqb b 9 (λ z. omega (arith, h, z)), digits_whole l p.1)
 
-  pub row_told : b ≡ length line → is_digits (part 2 (length line) line) ≡ true
-      → row_line (part 2 (length line) line) ≡ bounded (one_field row_of (fields (drop 2 line)))
-  unfolding one_field row_of bounded
-  row_told z q = rw (field_last line 2 b hb h z, q)
+module _ (text : List ℕ) where
+  pub row_told : is_digits text ≡ true → row_line text ≡ bounded (one_field row_of (fields text))
+  unfolding one_field row_of bounded is_digits
+  row_told q = rw (digits_whole text ((and-eq-true_iff (ltb 0 (length text)) (all_between 48 50 text)).0 q).1, q)
 
-  pub row_not : b ≡ length line → is_digits (part 2 (length line) line) ≡ false → no_form ≡ bounded (one_field row_of (fields (drop 2 line)))
+  pub row_not : is_digits text ≡ false → no_form ≡ bounded (one_field row_of (fields text))
   unfolding one_field row_of bounded
-  row_not z q = rw (field_last line 2 b hb h z, q)
+  row_not q = by (dec_lt (before text) (length text))
+    where
+      by : Dec (before text < length text) → no_form ≡ bounded (one_field row_of (fields text))
+      by (yes h) = let z = some_part 9 (drop (before text + 1) text) in rw (split_more text h, z.2)
+      by (no h) = rw (split_last text (omega arith), q)
 
 -- ---- the letter
 
--- a field of another length than 1 is no letter
-other_length : (letter : ℕ) (l : List ℕ) → (length l ≡ 1 → ⊥) → is_letter letter l ≡ false
+-- one byte, which is this letter
+letter_is : (l : List ℕ) (b : ℕ) → length l ≡ 1 → get_or l 0 0 ≡ b → l ≡ b ∷ []
+letter_is [] b h e = absurd (omega arith)
+letter_is (x ∷ []) b h e = ap (λ (j : ℕ). j ∷ []) e
+letter_is (x ∷ y ∷ l) b h e = absurd (omega arith)
+
+-- another length, or another byte
+no_letter : (l : List ℕ) (b : ℕ) → (length l ≡ 1 → get_or l 0 0 ≡ b → ⊥) → is_letter b l ≡ false
 unfolding is_letter
-other_length letter [] h = refl
-other_length letter (b ∷ []) h = absurd (h refl)
-other_length letter (b ∷ c ∷ l) h = refl
+no_letter [] b f = refl
+no_letter (x ∷ []) b f = ne_eqb x b (λ e. f refl e)
+no_letter (x ∷ y ∷ l) b f = refl
 
-module _ (most : ℕ) (line : List ℕ) (e : ℕ) (he : e ≡ 0 + before 9 (drop 0 line)) where
-  pub form_length : (e ≡ 1 → ⊥) → no_form ≡ bounded (form_of most (fields line))
+-- a line with no tab
+pub form_alone : (most : ℕ) (line : List ℕ) → fields line ≡ line ∷ [] → no_form ≡ bounded (form_of most (fields line))
+unfolding form_of four_fields one_field bounded
+form_alone most line e = rw e (by (is_letter 80 line) (is_letter 75 line) (is_letter 83 line))
+  where
+    by : (p k s : Bool) → no_form ≡ bounded (cond p no_form (cond k no_form (cond s no_form no_form)))
+    by true k s = refl
+    by false true s = refl
+    by false false true = refl
+    by false false false = refl
+
+module _ (most : ℕ) {line letter rest : List ℕ} (p : PartedAt line letter rest) where
+  module _ (h : length letter ≡ 1) where
+    pub form_key : get_or letter 0 0 ≡ 80 → bounded (four_fields (key_of most) (fields rest)) ≡ bounded (form_of most (fields line))
+    unfolding form_of is_letter
+    form_key q = rw (p.are, letter_is letter 80 h q)
+
+    pub form_row : get_or letter 0 0 ≡ 75 → bounded (one_field row_of (fields rest)) ≡ bounded (form_of most (fields line))
+    unfolding form_of is_letter
+    form_row q = rw (p.are, letter_is letter 75 h q)
+
+    pub form_sign : get_or letter 0 0 ≡ 83 → bounded (four_fields (sign_of most) (fields rest)) ≡ bounded (form_of most (fields line))
+    unfolding form_of is_letter
+    form_sign q = rw (p.are, letter_is letter 83 h q)
+
+  pub form_none : (length letter ≡ 1 → get_or letter 0 0 ≡ 80 → ⊥) → (length letter ≡ 1 → get_or letter 0 0 ≡ 75 → ⊥)
+      → (length letter ≡ 1 → get_or letter 0 0 ≡ 83 → ⊥) → no_form ≡ bounded (form_of most (fields line))
   unfolding form_of bounded
-  form_length h = by (ℕ_discrete e (length line))
-    where
-      out : (x : List ℕ) (rest : List (List ℕ)) → (length x ≡ 1 → ⊥) → fields line ≡ x ∷ rest
-          → no_form ≡ bounded (form_of most (fields line))
-      out x rest f q = rw (q, other_length 80 x f, other_length 75 x f, other_length 83 x f)
+  form_none k r s = rw (p.are, no_letter letter 80 k, no_letter letter 75 r, no_letter letter 83 s)
 
-      by : Dec (e ≡ length line) → no_form ≡ bounded (form_of most (fields line))
-      by (yes z) = out (part 0 (length line) line) [] (λ q. h (omega (arith, z, q, length-take-le (length line - 0) line (omega arith))))
-          (field_last line 0 e he (omega arith) z)
-      by (no z) =
-          out (part 0 e line) (fields (drop (e + 1) line)) (λ q. h
-          (omega (arith, q, length-take-le (e - 0) line (omega (arith, field_within line 0 e he (omega arith)))))) (field_more line 0 e he (omega arith) z)
-
-  module _ (one : e ≡ 1) where
-    pub form_alone : length line ≡ 1 → no_form ≡ bounded (form_of most (fields line))
-    unfolding form_of four_fields one_field bounded
-    form_alone h =
-        ap bounded (by (is_letter 80 (part 0 (length line) line)) (is_letter 75 (part 0 (length line) line)) (is_letter 83 (part 0 (length line) line)))
-        ∙ sym (ap (λ (x : List (List ℕ)). bounded (form_of most x)) (field_last line 0 e he (omega arith) (omega arith)))
-      where
-        by : (p k s : Bool) → no_form ≡ cond p no_form (cond k no_form (cond s no_form no_form))
-        by true k s = refl
-        by false true s = refl
-        by false false true = refl
-        by false false false = refl
-
-    module _ (h : length line ≡ 1 → ⊥) where
-      within : (0 ≤ e) × (e ≤ length line)
-      within = field_within line 0 e he (omega arith)
-
-      front_letter : (l : List ℕ) → 1 ≤ length l → take 1 l ≡ get_or l 0 0 ∷ []
-      front_letter [] z = absurd (omega arith)
-      front_letter (x ∷ l) z = refl
-
-      cut : fields line ≡ (get_or line 0 0 ∷ []) ∷ fields (drop 2 line)
-      cut =
-          let q : e - 0 ≡ 1 = omega arith in
-          let t : e + 1 ≡ 2 = omega arith in
-          field_more line 0 e he (omega arith) (λ z. h (omega arith))
-          ∙ ap (λ (j : ℕ). take j line ∷ fields (drop (e + 1) line)) q
-          ∙ ap (λ (x : List ℕ). x ∷ fields (drop (e + 1) line)) (front_letter line (omega (arith, within)))
-          ∙ ap (λ (j : ℕ). (get_or line 0 0 ∷ []) ∷ fields (drop j line)) t
-
-      pub long : 2 ≤ length line
-      long = omega (arith, within, h)
-
-      pub form_key : get_or line 0 0 ≡ 80 → bounded (four_fields (key_of most) (fields (drop 2 line))) ≡ bounded (form_of most (fields line))
-      unfolding form_of is_letter
-      form_key q = rw (cut, eq-eqb (get_or line 0 0) 80 q)
-
-      module _ (p : get_or line 0 0 ≡ 80 → ⊥) where
-        pub form_row : get_or line 0 0 ≡ 75 → bounded (one_field row_of (fields (drop 2 line))) ≡ bounded (form_of most (fields line))
-        unfolding form_of is_letter
-        form_row q = rw (cut, ne_eqb (get_or line 0 0) 80 p, eq-eqb (get_or line 0 0) 75 q)
-
-        module _ (k : get_or line 0 0 ≡ 75 → ⊥) where
-          pub form_sign : get_or line 0 0 ≡ 83 → bounded (four_fields (sign_of most) (fields (drop 2 line))) ≡ bounded (form_of most (fields line))
-          unfolding form_of is_letter
-          form_sign q = rw (cut, ne_eqb (get_or line 0 0) 80 p, ne_eqb (get_or line 0 0) 75 k, eq-eqb (get_or line 0 0) 83 q)
-
-          pub form_none : (get_or line 0 0 ≡ 83 → ⊥) → no_form ≡ bounded (form_of most (fields line))
-          unfolding form_of is_letter bounded
-          form_none q = rw (cut, ne_eqb (get_or line 0 0) 80 p, ne_eqb (get_or line 0 0) 75 k, ne_eqb (get_or line 0 0) 83 q)
+  -- digits of what follows the letter are digits of the line
+  pub digits_rest : (form : Option Form) → DigitsOf (length rest) form → DigitsOf (length line) form
+  digits_rest None d = tt
+  digits_rest (Some (Key number n k w)) d = tt
+  digits_rest (Some (Row digits)) d = record { are_digits = d.are_digits; size = omega (arith, d.size, p.size) }
+  digits_rest (Some (Sign number formula y s)) d = (
+    record { are_digits = d.0.are_digits; size = omega (arith, d.0.size, p.size) },
+    record { are_digits = d.1.are_digits; size = omega (arith, d.1.size, p.size) },
+  )
 
 -- ---- the length of a line
 

@@ -1,5 +1,6 @@
 -- Parts of a text between marks: lines end at byte 10, fields are parted by tabs (the paper's "Held key and lines of text"). Assumes nothing.
-use Rattle.std.specs.Prelude.{Bool, ◌&&◌, cond, true, List, [], ◌∷◌, ℕ, eqb, leb}
+use Rattle.std.specs.Prelude.{Bool, ◌&&◌, cond, List, [], ◌∷◌, ℕ, eqb, leb}
+use Rattle.std.specs.List.{list_all}
 
 -- parts with one byte more at the front of the first of them
 unfoldable pub onto : ℕ → List (List ℕ) → List (List ℕ)
@@ -17,5 +18,4 @@ fields line = split 9 line
 
 -- every byte of a field is one of those from low to high
 unfoldable pub all_between : ℕ → ℕ → List ℕ → Bool
-all_between low high [] = true
-all_between low high (b ∷ field) = (leb low b && leb b high) && all_between low high field
+all_between low high field = list_all (λ b. leb low b && leb b high) field

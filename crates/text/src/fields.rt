@@ -1,67 +1,42 @@
-// One field of a line: a number, or digits.
-ghost use Rattle.std.specs.Prelude.{◌≡◌, ◌+◌, ◌-◌, ◌≤◌, length, drop};
-ghost use Rattle.text.specs.Fields.{all_between};
-ghost use Rattle.text.specs.Numbers.{is_number, value};
+// One field of a line: its end, a number, or digits.
+ghost use Rattle.std.specs.Prelude.{◌≡◌, [], ◌∷◌, ◌+◌, ◌<◌, true, false, MatchOption, position, ◌==◌};
+ghost use Rattle.text.specs.Fields.{fields, all_between};
+ghost use Rattle.text.specs.Numbers.{is_number, value, in_range};
 ghost use Rattle.text.specs.Digits.{is_digits};
-ghost use Rattle.text.specs.Steps.{before, at_most_large, read_number};
+ghost use Rattle.text.specs.Steps.{PartedAt, large, at_most_large};
 
-// The place of the first tab from `at` on, or the line's end.
-pub fn find_tab(line: &[u8], at: usize) -> usize
-    requires { at ≤ length line.now }
-    ensures { result ≡ at + before 9 (drop at line.now) }
+// The place of the first tab.
+fn find_tab(text: &[u8]) -> Option<usize>
+    ensures { result ≡ position (λ b. b == 9) text.now }
 {
-    let mut i = at;
-    while i < line.len() {
-        if line[i] == 9 {
-            return i;
-        }
-        i += 1;
-    }
-    i
+    text.iter().position(|b| *b == b'\t')
+}
+
+// A text parted at its first tab: what stands before it and what follows it.
+pub fn split_tab(text: &[u8]) -> Option<(&[u8], &[u8])>
+    ensures { MatchOption result (fields text.now ≡ text.now ∷ []) (λ p. PartedAt text.now p.0.now p.1.now) }
+{
+    let at = find_tab(text)?;
+    Some((&text[..at], &text[at + 1..]))
 }
 
 // Whether every byte is one of those from `low` to `high`.
+#[tactic(auto, unfolding(crate::specs::Fields::all_between))]
 pub fn all_between(field: &[u8], low: u8, high: u8) -> bool
     ensures { result ≡ all_between low high field.now }
 {
-    let mut i = 0;
-    while i < field.len() {
-        if field[i] < low {
-            return false;
-        }
-        if field[i] > high {
-            return false;
-        }
-        i += 1;
-    }
-    true
+    field.iter().all(|b| low <= *b && *b <= high)
 }
 
 // Whether a field is a number in decimal without leading zeros.
 pub fn is_number(field: &[u8]) -> bool
     ensures { result ≡ is_number field.now }
 {
-    if field.len() == 0 {
-        return false;
+    match field {
+        [] => false,
+        [_] => all_between(field, b'0', b'9'),
+        [first, _, ..] => *first != b'0' && all_between(field, b'0', b'9'),
     }
-    if field.len() == 1 {
-        return all_between(field, 48, 57);
-    }
-    if field[0] == 48 {
-        return false;
-    }
-    all_between(field, 48, 57)
-}
-
-// The number that a digit is.
-fn digit(b: u8) -> u64
-    ensures value { result ≡ b - 48 }
-    ensures upper_bound { result ≤ 255 }
-{
-    if b < 48 {
-        return 0;
-    }
-    (b - 48) as u64
 }
 
 // The number that whatever is too large for any range counts as: 10 to the power 18.
@@ -72,33 +47,40 @@ pub fn read_value(field: &[u8]) -> u64
     ensures { result ≡ at_most_large (value field.now) }
 {
     let mut v: u64 = 0;
-    let mut i = 0;
-    while i < field.len() {
-        v = 10 * v + digit(field[i]);
+    for b in field {
+        v = 10 * v + u64::from(b.saturating_sub(b'0'));
         if v >= LARGE {
             return LARGE;
         }
-        i += 1;
     }
     v
 }
 
-// The value of a number, at most `LARGE`, and one more where a field is no number.
-pub fn read_number(field: &[u8]) -> u64
-    ensures { result ≡ read_number field.now }
+// The value of a number, at most `LARGE`.
+pub fn read_number(field: &[u8]) -> Option<u64>
+    ensures { MatchOption result (is_number field.now ≡ false) (λ v. (is_number field.now ≡ true) × (v ≡ at_most_large (value field.now))) }
 {
-    if is_number(field) {
-        return read_value(field);
+    if !is_number(field) {
+        return None;
     }
-    LARGE + 1
+    Some(read_value(field))
+}
+
+// The value of a number from 0 to `most`.
+pub fn read_in_range(field: &[u8], most: u64) -> Option<u64>
+    requires { most < large }
+    ensures { MatchOption result (in_range most field.now ≡ false) (λ v. (in_range most field.now ≡ true) × (v ≡ value field.now)) }
+{
+    let v = read_number(field)?;
+    if v > most {
+        return None;
+    }
+    Some(v)
 }
 
 // Whether a field is one or more of 0, 1, 2.
 pub fn is_digits(field: &[u8]) -> bool
     ensures { result ≡ is_digits field.now }
 {
-    if field.len() == 0 {
-        return false;
-    }
-    all_between(field, 48, 50)
+    !field.is_empty() && all_between(field, b'0', b'2')
 }

@@ -1,13 +1,15 @@
 -- What is lent to the checker: the words of a key and of a row, and digits as planes. Assumes nothing.
 use mathlib.Core.Path.{◌≡◌, refl, ap, ◌∙◌}
+use mathlib.Core.Bool.{and-false}
 use mathlib.Core.List.{List, [], ◌++◌}
-use Prim.Native.Nat.{ℕ, zero, suc, ◌+◌, ◌-◌, ◌*◌, ◌/◌, ◌≤◌, ◌<◌, ◌^◌}
+use Prim.Native.Nat.{ℕ, zero, suc, ◌+◌, ◌-◌, ◌*◌, ◌/◌, ◌≤◌, ◌<◌}
+use native.Mathlib.Decide.{dec_lt}
 use native.Mathlib.Omega.{arith}
 use borrow.Author.Tests.{eq-eqb, ne_eqb, le-leb, lt-leb}
-use lib.ListN.{length, get_or, take, drop, length-take, length-drop}
-use Rattle.trits.specs.Planes.{tabulate, ones_of, twos_of, ones_word, twos_word, words_for, zero_words, Reads}
+use lib.Dec.{leb}
+use lib.ListN.{length, take, drop}
+use Rattle.trits.specs.Planes.{tabulate, ones_of, twos_of, ones_word, twos_word, words_for, zero_words, Holds}
 use Rattle.trits.proofs.Lists.{take_tabulate}
-use Rattle.trits.proofs.Reading.{reads_holds}
 use Rattle.text.specs.Digits.{digit_row}
 use Rattle.held_key.specs.declared.state.Held.{Held}
 use Rattle.held_key.specs.Held.{row_trits, row_words, key_words}
@@ -44,6 +46,17 @@ most_words_law n k l h = by ((n - k + 63) / 64) refl
     by (suc (suc (suc (suc zero)))) e = omega (arith, e)
     by (suc (suc (suc (suc (suc q))))) e = absurd (omega (arith, e))
 
+-- the words of a key are those of its rows
+module _ (h : Held) where
+  pub key_asked : (h.k * asked h (row_words h) ≡ asked h (key_words h)) × (asked h (key_words h) ≤ 382)
+  unfolding asked
+  key_asked = by (dec_lt 256 h.n) (dec_lt h.n h.k)
+    where
+      by : Dec (256 < h.n) → Dec (h.n < h.k) → (h.k * asked h (row_words h) ≡ asked h (key_words h)) × (asked h (key_words h) ≤ 382)
+      by (yes l) k = rw (lt-leb h.n 256 l) (omega arith, omega arith)
+      by (no l) (yes k) = rw (lt-leb h.k h.n k, and-false (leb h.n 256)) (omega arith, omega arith)
+      by (no l) (no k) = rw (le-leb h.n 256 (omega arith), le-leb h.k h.n (omega arith)) (refl, most_words_law h.n h.k (omega arith) (omega arith))
+
 -- ---- the first words of a table
 
 pub take_zeros : (w n : ℕ) → w ≤ n → take w (zero_words n) ≡ zero_words w
@@ -57,13 +70,11 @@ module _ (m : ℕ) (digits : List ℕ) where
   unfolding offered_ones offered_twos
   offered_none f = (rw (ne_eqb (length digits) m f), rw (ne_eqb (length digits) m f))
 
-  pub offered : {o t : List ℕ} (w : ℕ) → length digits ≡ m → w ≡ words_for (length digits) → w ≤ 16 → Reads o t 16 (digit_row digits)
-      → ((j : ℕ) → get_or o j 0 < 2 ^ 64) → ((j : ℕ) → get_or t j 0 < 2 ^ 64)
+  pub offered : {o t : List ℕ} (w : ℕ) → length digits ≡ m → w ≡ words_for (length digits) → w ≤ 16 → Holds o t 16 (digit_row digits)
       → (take w o ≡ offered_ones m digits) × (take w t ≡ offered_twos m digits)
   unfolding offered_ones offered_twos ones_of twos_of
-  offered {o} {t} w e q l r ho ht =
+  offered w e q l a =
       let v = digit_row digits in
-      let a = reads_holds o t 16 v r ho ht in
       let z : w ≡ words_for m = q ∙ ap words_for e in (
         rw (eq-eqb (length digits) m e) (ap (take w) a.ones_are ∙ take_tabulate w 16 (ones_word v) l ∙ ap (tabulate (ones_word v)) z),
         rw (eq-eqb (length digits) m e) (ap (take w) a.twos_are ∙ take_tabulate w 16 (twos_word v) l ∙ ap (tabulate (twos_word v)) z),
@@ -71,22 +82,14 @@ module _ (m : ℕ) (digits : List ℕ) where
 
 -- ---- a row offered, and a check asked, with what is lent
 
--- a part is no longer than the whole
-pub part_short : (k a : ℕ) (l : List ℕ) → length (take k (drop a l)) ≤ length l
-part_short k a l = simp (length-take, length-drop) (omega arith)
-
--- the part of a plane from its front on, and what follows it
-pub front_part : (w : ℕ) (plane : List ℕ) → take (w - 0) (drop 0 plane) ≡ take w plane
-front_part w plane = let z : w - 0 ≡ w = omega arith in ap (λ (j : ℕ). take j plane) z
-
 module _ (h : Held) (plane : List ℕ) {w : ℕ} (e : w ≡ asked h (key_words h)) where
-  pub part_key : take (w - 0) (drop 0 plane) ≡ key_part h plane
+  pub part_key : take w plane ≡ key_part h plane
   unfolding key_part
-  part_key = front_part w plane ∙ ap (λ (j : ℕ). take j plane) e
+  part_key = ap (λ (j : ℕ). take j plane) e
 
-  pub part_after : drop (w - 0) (drop 0 plane) ≡ after_key h plane
+  pub part_after : drop w plane ≡ after_key h plane
   unfolding after_key
-  part_after = let z : w - 0 ≡ w = omega arith in ap (λ (j : ℕ). drop j plane) (z ∙ e)
+  part_after = ap (λ (j : ℕ). drop j plane) e
 
 module _ (h : Held) (ones twos : List ℕ) {p q : List ℕ} (ep : p ≡ key_part h ones) (eq : q ≡ key_part h twos) where
   module _ (digits : List ℕ) {x y : List ℕ} (ex : x ≡ offered_ones (row_trits h) digits) (ey : y ≡ offered_twos (row_trits h) digits) where

@@ -50,11 +50,3 @@ pub record ForHandle (line ones twos out : List ℕ) : Type 0 where
   pub ones_size : length ones ≡ 382
   pub twos_size : length twos ≡ 382
   pub room : 96 ≤ length out
-
--- the front of a buffer, planes for the key, and room for the answer
-pub record ForHandleFront (buffer : List ℕ) (len : ℕ) (ones twos out : List ℕ) : Type 0 where
-  pub short : len ≤ 1024
-  pub buffer_size : length buffer ≡ 1025
-  pub ones_size : length ones ≡ 382
-  pub twos_size : length twos ≡ 382
-  pub room : 96 ≤ length out

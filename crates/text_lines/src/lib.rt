@@ -8,15 +8,21 @@ ghost use Rattle.text_line.specs.Answer.{line_prints};
 ghost use Rattle.text_lines.specs.Machine.{machine, gathered, ended, stepped, step_prints, finished, end_prints, no_line};
 
 use held_key::state::Held;
+use text_line::handle::Handled;
+use trits::refusal::Refusal;
 
-// What is held between two bytes: the length of the line so far, up to 1,025, and the module's state.
-#[derive(Clone, Copy)]
+// The byte that ends a line.
+const LINE_END: u8 = b'\n';
+
+// What is held between two bytes: the length of the line so far, up to 1,025, and the module's state. The line itself is in lent memory.
+#[derive(Clone, Copy, Default)]
 pub struct State {
     pub len: usize,
     pub held: Held,
 }
 
 // The state after a call, and how many bytes of the lent buffer are to be printed.
+// A count and not the part: what the buffer has past it is promised too.
 #[derive(Clone, Copy)]
 pub struct Next {
     pub state: State,
@@ -30,18 +36,9 @@ pub fn begin(out: &mut [u8; 96]) -> Next
     ensures out_after { out.new ≡ put_words 0 out.old header }
 {
     let count = text::answers::put_header(out);
-    let held = Held {
-        begun: 0,
-        number: 0,
-        n: 0,
-        k: 0,
-        w: 0,
-        rows: 0,
-    };
-    let state = State { len: 0, held: held };
     Next {
-        state: state,
-        count: count,
+        state: State::default(),
+        count,
     }
 }
 
@@ -61,25 +58,17 @@ fn end_line(
         (line_prints (machine state line.now ones.old twos.old).kept
         (gathered (machine state line.now ones.old twos.old))) }
 {
-    let len = state.len;
-    let held = state.held;
+    let State { len, held } = state;
     if len > 1024 {
-        let count = text::answers::put_line_refused(out, 11);
-        let next = State { len: 0, held: held };
         return Next {
-            state: next,
-            count: count,
+            state: State { len: 0, held },
+            count: text::answers::put_line_refused(out, Refusal::Line),
         };
     }
-    let done = text_line::handle::handle_front(line, len, held, ones, twos, out);
-    let after = done.held;
-    let next = State {
-        len: 0,
-        held: after,
-    };
+    let Handled { held, count } = text_line::handle::handle(&line[..len], held, ones, twos, out);
     Next {
-        state: next,
-        count: done.count,
+        state: State { len: 0, held },
+        count,
     }
 }
 
@@ -98,26 +87,18 @@ pub fn step(
     ensures out_after { out.new ≡ put_words 0 out.old
         (step_prints byte (machine state line.old ones.old twos.old)) }
 {
-    if byte == 10 {
+    if byte == LINE_END {
         return end_line(state, line, ones, twos, out);
     }
-    let len = state.len;
+    let State { len, held } = state;
     if len < 1025 {
         line[len] = byte;
-        let held = state.held;
-        let next = State {
-            len: len + 1,
-            held: held,
-        };
         return Next {
-            state: next,
+            state: State { len: len + 1, held },
             count: 0,
         };
     }
-    Next {
-        state: state,
-        count: 0,
-    }
+    Next { state, count: 0 }
 }
 
 // The end of the text.
@@ -134,10 +115,7 @@ pub fn end(
     ensures out_after { out.new ≡ put_words 0 out.old (end_prints (machine state line.now ones.old twos.old)) }
 {
     if state.len == 0 {
-        return Next {
-            state: state,
-            count: 0,
-        };
+        return Next { state, count: 0 };
     }
     end_line(state, line, ones, twos, out)
 }

@@ -9,11 +9,11 @@ use Rattle.trits.specs.Rows.{put_words}
 use Rattle.text_lines.proofs.Bytes.{step_end, step_none, step_more, step_full}
 use Rattle.text_lines.proofs.step.Goals as goal
 
-pub returns-then-byte-eq10 : goal.returns-then-byte-eq10
-returns-then-byte-eq10 c =
+pub returns-then-byte-eq-LINE_END : goal.returns-then-byte-eq-LINE_END
+returns-then-byte-eq-LINE_END c =
     let a = c.args in
     let m = machine a.state a.line.now a.ones.now a.twos.now in
-    let q = step_end m a.byte c.if-byte-eq10.true in
+    let q = step_end m a.byte c.if-byte-eq-LINE_END.true in
     let p = c.end_line.ensures in
     record {
       twos_after = p.twos_after ∙ q.0;
@@ -24,7 +24,7 @@ returns-then-byte-eq10 c =
 pub returns-then-len-lt1025 : goal.returns-then-len-lt1025
 returns-then-len-lt1025 c =
     let m = machine c.args.state c.args.line.now c.args.ones.now c.args.twos.now in
-    let f = c.if-byte-eq10.false in
+    let f = c.if-byte-eq-LINE_END.false in
     let z = step_none m c.args.byte f in record {
       twos_after = step_more m c.args.byte f (omega (arith, c.if-len-lt1025.true));
       count_value = ap length z;
@@ -34,7 +34,7 @@ returns-then-len-lt1025 c =
 pub returns : goal.returns
 returns c =
     let m = machine c.args.state c.args.line.now c.args.ones.now c.args.twos.now in
-    let f = c.if-byte-eq10.false in
+    let f = c.if-byte-eq-LINE_END.false in
     let z = step_none m c.args.byte f in
     record {
       twos_after = step_full m c.args.byte f c.if-len-lt1025.false;

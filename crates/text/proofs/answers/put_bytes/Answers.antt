@@ -1,13 +1,7 @@
--- The row of bytes is written to the part that begins at its place (`put_front`).
--- Assumes nothing.
-use mathlib.Core.Path.{refl}
-use Rattle.trits.proofs.Parts.{put_front}
+-- The bytes are written to the part that begins at their place (`put_part`).
+use native.Mathlib.Omega.{arith}
+use Rattle.text.proofs.Written.{put_part}
 use Rattle.text.proofs.answers.put_bytes.Goals as goal
 
-pub returns : goal.returns
-returns c =
-    let a = c.args in
-    record {
-      value = refl;
-      out_after = put_front a.at a.bytes.now a.out.now _ c.requires c.write_bytes.ensures;
-    }
+pub returns-clause-out_after : goal.returns-clause-out_after
+returns-clause-out_after c = put_part c.args.at c.args.bytes.now c.args.out.now (omega arith) c.copy_from_slice.ensures.after

@@ -1,15 +1,14 @@
 -- What is lent to the checker is what the definition says (`row_refusal`, `row_kept_law`).
--- Assumes nothing.
 use Prim.Native.Nat.{ℕ}
 use mathlib.Core.Path.{refl, ap, ◌∙◌}
-use Rattle.text_line.specs.Answer.{offered_ones, offered_twos}
-use Rattle.text_line.proofs.Lent.{front_part, part_key, part_after, row_refusal, row_kept_law}
 use Rattle.trits.specs.Planes.{zero_words, tabulate}
+use Rattle.text_line.specs.Answer.{offered_ones, offered_twos}
+use Rattle.text_line.proofs.Lent.{part_key, part_after, row_refusal, row_kept_law}
 use Rattle.text_line.proofs.handle.store_digits.Goals as goal
 
-pub offer-count-requires : goal.offer-count-requires
+pub offer-row-requires : goal.offer-row-requires
 unfolding tabulate zero_words
-offer-count-requires c =
+offer-row-requires c =
     record {
       are_digits = c.requires.are_digits;
       short = c.requires.short;
@@ -25,13 +24,13 @@ returns c =
     let twos = a.twos.now in
     let d = a.digits.now in
     let w = c.key_words-words.ensures.value in
-    let o = c.offer-count.ensures in
+    let o = c.offer-row.ensures in
     let m = c.row_trits.ensures in
-    let ex = front_part c.offer-count.result c.offer-count.new.ones ∙ o.ones_after ∙ ap (λ (x : ℕ). offered_ones x d) m in
-    let ey = front_part c.offer-count.result c.offer-count.new.twos ∙ o.twos_after ∙ ap (λ (x : ℕ). offered_twos x d) m in
-    let (told, state, ones_kept, twos_kept) = c.store_row-stored.ensures in
+    let ex = o.ones_after ∙ ap (λ (x : ℕ). offered_ones x d) m in
+    let ey = o.twos_after ∙ ap (λ (x : ℕ). offered_twos x d) m in
+    let (told, state, ones_kept, twos_kept) = c.store_row.ensures in
     let p = part_key h ones w in
     let q = part_key h twos w in record {
-      refusal_value = c.code.ensures ∙ told ∙ row_refusal h ones twos p q d ex ey;
-      twos_after = row_kept_law h ones twos p q d ex ey (state) (ones_kept) (twos_kept) (part_after h ones w) (part_after h twos w);
+      refusal = told ∙ row_refusal h ones twos p q d ex ey;
+      kept = row_kept_law h ones twos p q d ex ey state ones_kept twos_kept (part_after h ones w) (part_after h twos w);
     }

@@ -1,6 +1,6 @@
 -- The column rule of a build ("Building a key") on a matrix whose columns stand in the order, so that a column that is exchanged in the order is
 -- exchanged in the matrix. No rule of the paper: code is tied to it, and its laws to `arranged`. Assumes nothing.
-use Rattle.std.specs.Prelude.{◌≡◌, cond, List, ℕ, zero, suc, ◌+◌, ◌-◌, ◌≤◌, ◌<◌, eqb, ltb, length}
+use Rattle.std.specs.Prelude.{◌≡◌, cond, List, ℕ, zero, suc, ◌+◌, ◌-◌, ◌≤◌, ◌<◌, eqb, min, length}
 use Rattle.trits.specs.Trit.{t0}
 use Rattle.matrix.specs.Linear.{Matrix}
 use Rattle.matrix.specs.Steps.{has_pivot, step_of}
@@ -41,7 +41,7 @@ pub record SameEnd (r : ℕ) (s s' : Standing) : Type 0 where
 
 -- as many pivots as a block that begins at row `at` has
 abbrev pub most : ℕ → ℕ → ℕ
-most r at = cond (ltb 12 (r - at)) 12 (r - at)
+most r at = min (r - at) 12
 
 -- k pivots of a block that begins at row and column `at` are taken, and n columns are left: what is to come leads to the same end; the block's rows are
 -- the identity at its columns, and where the rows from `at` on were 0 before column `at`, they and the block's rows are

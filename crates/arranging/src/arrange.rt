@@ -24,9 +24,10 @@ pub fn take_pivots(
     ensures pivots_taken { PivotsTaken r at (most r at) left result order.old order.new (matrix_at w ones.old twos.old)
         (matrix_at w ones.new twos.new) }
 {
-    let end = pivoting::pivot::least(12, r - at);
+    let end = (r - at).min(12);
     let mut n = left;
     let mut k = 0;
+    // a column without a pivot leaves k as it is: no range counts the turns
     while k < end {
         n -= 1;
         if pivoting::pivot::next_pivot(ones, twos, rows, w, at / 64, w, r, at, k, at) {
@@ -54,11 +55,9 @@ pub fn clear_below(
         (matrix_at w ones.new twos.new) order.new }
 {
     let mut left = order.len();
-    let mut at = 0;
-    while at < r {
-        let k = pivoting::pivot::least(12, r - at);
+    for at in (0..r).step_by(12) {
+        let k = (r - at).min(12);
         left = take_pivots(ones, twos, rows, w, r, at, order, left);
         blocks::block_rows::clear_block(ones, twos, rows, w, at / 64, w, r, k, at, at + k, r);
-        at += k;
     }
 }

@@ -6,15 +6,15 @@ ghost use Rattle.scheme.specs.Build.{swap};
 ghost use Rattle.arranging.specs.Columns.{exchanged, exchanged_in};
 ghost use Rattle.arranging.specs.Steps.{ForExchangeTrits, ForExchangeColumns};
 
+use pivoting::search;
+use trits::Planes;
+
 // Two places of the order are exchanged.
 pub fn exchange(order: &mut [u16], j: usize, l: usize)
     requires { (j < length order.old) × (l < length order.old) }
     ensures { order.new ≡ swap j l order.old }
 {
-    let a = order[j];
-    let b = order[l];
-    order[j] = b;
-    order[l] = a;
+    order.swap(j, l);
 }
 
 // The trits of row i at the columns a and b are exchanged.
@@ -30,8 +30,9 @@ pub fn exchange_trits(
     requires { ForExchangeTrits ones.old twos.old rows w a b i }
     ensures { Grid ones.new twos.new rows w (exchanged_in a b i (matrix_at w ones.old twos.old)) }
 {
-    let x = pivoting::search::trit_of(ones, twos, rows, w, i, a);
-    let y = pivoting::search::trit_of(ones, twos, rows, w, i, b);
+    let m = Planes { ones, twos };
+    let x = search::trit_of(m, rows, w, i, a);
+    let y = search::trit_of(m, rows, w, i, b);
     grid::places::put_at(ones, twos, rows, w, i, a, y);
     grid::places::put_at(ones, twos, rows, w, i, b, x);
 }
@@ -48,9 +49,7 @@ pub fn exchange_columns(
     requires { ForExchangeColumns ones.old twos.old rows w a b }
     ensures { Grid ones.new twos.new rows w (exchanged a b (matrix_at w ones.old twos.old)) }
 {
-    let mut i = 0;
-    while i < rows {
+    for i in 0..rows {
         exchange_trits(ones, twos, rows, w, a, b, i);
-        i += 1;
     }
 }

@@ -67,6 +67,3 @@ module _ (r c i : ℕ) (A : Matrix) where
         (ap₂ (λ (n : ℕ) (B : Matrix). clear_row i n (c + j) B) e g.cells
         ∙ brought_turn k j u h (λ z. omega (arith, basis_past r j))
         ∙ ap (λ (n : ℕ). brought n c (basis r A) i A) (omega arith))
-
-    pub bring_done : (k : ℕ) → j ≡ k → Grid o t rows w (brought k c (basis r A) i A)
-    bring_done k e = grid_to g (ap (λ (n : ℕ). brought n c (basis r A) i A) e)

@@ -8,7 +8,7 @@ use native.Mathlib.Omega.{arith}
 use borrow.Author.Tests.{eq-eqb, ne_eqb}
 use Rattle.trits.specs.Rows.{matrix_at}
 use Rattle.matrix.specs.Linear.{Vector, Matrix}
-use Rattle.matrix.specs.Blocks.{less_of, UnitAt, basis_row, basis, from, brought, Cleared}
+use Rattle.matrix.specs.Blocks.{less_of, UnitAt, basis_row, basis, from, brought}
 use Rattle.grid.specs.Steps.{Rows, Grid}
 use Rattle.matrix.proofs.BasisRows.{basis_past}
 
@@ -17,9 +17,6 @@ pub record Clearing (rows w r k c a i : ℕ) (A : Matrix) (ones twos : List ℕ)
   pub grid : Rows ones twos rows w
   pub cleared : (s : ℕ) → a ≤ s → s < i → matrix_at w ones twos s ≡ less_of k (from c) (basis r A) (A s)
   pub kept : (s : ℕ) → (s < a) ⊎ (i ≤ s) → matrix_at w ones twos s ≡ A s
-
-pub clearing_none : {o t : List ℕ} {rows w : ℕ} (r k c a : ℕ) → Rows o t rows w → Clearing rows w r k c a a (matrix_at w o t) o t
-clearing_none r k c a g = record { grid = g; cleared = λ s h l. absurd (omega arith); kept = λ s h. refl }
 
 module _ {o t : List ℕ} {rows w r k c a i : ℕ} {A : Matrix} (g : Clearing rows w r k c a i A o t) where
   module _ (h : i ≤ r) where
@@ -57,10 +54,3 @@ module _ {o t : List ℕ} {rows w r k c a i : ℕ} {A : Matrix} (g : Clearing ro
         before : (s : ℕ) → (s < a) ⊎ (i + 1 ≤ s) → (s < a) ⊎ (i ≤ s)
         before s (inl n) = inl n
         before s (inr n) = inr (omega arith)
-
-  pub clearing_done : (b : ℕ) → i ≡ b → Cleared r k c a b A (matrix_at w o t)
-  clearing_done b e = subst (λ (n : ℕ). Cleared r k c a n A (matrix_at w o t)) e (record { cleared = g.cleared; kept = λ s h n. g.kept s h })
-
--- a block of as many rows
-pub cleared_of : {r k n c a b : ℕ} {A B : Matrix} → Cleared r k c a b A B → k ≡ n → Cleared r n c a b A B
-cleared_of {r} {c = c} {a} {b} {A} {B} g e = subst (λ (m : ℕ). Cleared r m c a b A B) e g

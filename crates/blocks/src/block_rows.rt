@@ -12,17 +12,12 @@ pub fn basis_row(r: usize, j: usize) -> usize
     ensures { result ≡ basis_row r j }
 {
     let table = r + 81 * (j / 4);
-    let d = j % 4;
-    if d == 0 {
-        return table + 1;
+    match j % 4 {
+        0 => table + 1,
+        1 => table + 3,
+        2 => table + 9,
+        _ => table + 27,
     }
-    if d == 1 {
-        return table + 3;
-    }
-    if d == 2 {
-        return table + 9;
-    }
-    table + 27
 }
 
 // Row i is cleared at the k columns from c on, by the block's rows, which are 0 at all places but those of the words f to v - 1.
@@ -42,11 +37,8 @@ pub fn bring(
     ensures { Grid ones.new twos.new rows w
         (brought k c (basis r (matrix_at w ones.old twos.old)) i (matrix_at w ones.old twos.old)) }
 {
-    let mut j = 0;
-    while j < k {
-        let p = basis_row(r, j);
-        elimination::step::clear_row(ones, twos, rows, w, f, v, c + j, p, i);
-        j += 1;
+    for j in 0..k {
+        elimination::step::clear_row(ones, twos, rows, w, f, v, c + j, basis_row(r, j), i);
     }
 }
 
@@ -68,10 +60,8 @@ pub fn bring_rows(
     ensures rows { Rows ones.new twos.new rows w }
     ensures cleared { Cleared r k c a b (matrix_at w ones.old twos.old) (matrix_at w ones.new twos.new) }
 {
-    let mut i = a;
-    while i < b {
+    for i in a..b {
         bring(ones, twos, rows, w, f, v, r, k, c, i);
-        i += 1;
     }
 }
 

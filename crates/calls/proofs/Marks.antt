@@ -2,7 +2,8 @@
 use mathlib.Core.Path.{◌≡◌, refl, sym, ap, ◌∙◌}
 use mathlib.Core.Bool.{Bool, true, false, not, ◌&&◌, ◌||◌, cond}
 use mathlib.Core.List.{List, [], ◌∷◌}
-use Prim.Native.Nat.{ℕ, ◌+◌, ◌≤◌, ◌<◌}
+use Prim.Native.Nat.{ℕ, zero, suc, ◌+◌, ◌≤◌, ◌<◌}
+use native.Mathlib.Nat.{zero-add}
 use native.Mathlib.Numerals.{add-one}
 use native.Mathlib.Decide.{dec_lt, ℕ_discrete}
 use native.Mathlib.Omega.{arith}
@@ -10,12 +11,14 @@ use borrow.Author.Tests.{eq-eqb, ne_eqb, lt-ltb, le-ltb}
 use lib.Dec.{eqb, ltb}
 use lib.ListN.{length, get_or, set, take, replicate, get_or-replicate, length-set}
 use lib.Seq.{take-suc, take_all, get_or-set_same, get_or-set_other}
-use Rattle.trits.specs.Trit.{any_to, is_set, number}
-use Rattle.trits.proofs.Tests.{any_cong, any_found, any_passed}
+use Rattle.std.specs.List.{list_any, list_all, range_with_len}
+use Rattle.std.proofs.lemmas.List.Folds.{list_any_more, list_all_more}
+use Rattle.std.proofs.lemmas.List.FromFn.{length-range_with_len, get_or-range_with_len}
+use Rattle.trits.specs.Trit.{Trit, t0, t1, t2, any_to, is_set, number}
+use Rattle.trits.proofs.Tests.{any_cong}
 use Rattle.matrix.specs.Linear.{Vector, elem}
 use Rattle.matrix.specs.Orders.{is_order}
 use Rattle.matrix.proofs.Places.{elem_append}
-use Rattle.matrix.proofs.Field.{number_set, number_unset}
 use Rattle.calls.specs.Steps.{flag, Marked, mark_place, all_set}
 use Rattle.scheme.specs.Secret.{has_zero}
 
@@ -93,32 +96,56 @@ marked_order n l flags e m =
 
 -- ---- the two searches
 
-abbrev pub clear : List ℕ → ℕ → Bool
-clear flags q = eqb (get_or flags q 0) 0
+module _ {X : Type 0} (p : X → Bool) (xs : List X) (d : X) where
+  any_taken : (i : ℕ) → i ≤ length xs → list_any p (take i xs) ≡ any_to (λ q. p (get_or xs q d)) i
+  unfolding any_to
+  any_taken zero h = refl
+  any_taken (suc i) h =
+      ap (λ (k : ℕ). list_any p (take k xs)) (sym (add-one i))
+      ∙ list_any_more p xs i d h ∙ ap (λ (t : Bool). t || p (get_or xs i d)) (any_taken i (omega arith))
 
-module _ (flags : List ℕ) (n i : ℕ) where
-  pub clear_found : i < n → get_or flags i 0 ≡ 0 → false ≡ all_set n flags
-  unfolding all_set
-  clear_found h e = sym (ap not (any_found (clear flags) i n h (eq-eqb (get_or flags i 0) 0 e)))
+  all_taken : (i : ℕ) → i ≤ length xs → list_all p (take i xs) ≡ not (any_to (λ q. not (p (get_or xs q d))) i)
+  unfolding any_to
+  all_taken zero h = refl
+  all_taken (suc i) h =
+      ap (λ (k : ℕ). list_all p (take k xs)) (sym (add-one i))
+      ∙ list_all_more p xs i d h ∙ ap (λ (t : Bool). t && p (get_or xs i d)) (all_taken i (omega arith))
+      ∙ both (any_to (λ q. not (p (get_or xs q d))) i) (p (get_or xs i d))
+    where
+      both : (a b : Bool) → (not a && b) ≡ not (a || not b)
+      both true b = refl
+      both false true = refl
+      both false false = refl
 
-  pub clear_passed : any_to (clear flags) i ≡ false → (get_or flags i 0 ≡ 0 → ⊥) → any_to (clear flags) (i + 1) ≡ false
-  clear_passed a f = any_passed (clear flags) i a (ne_eqb (get_or flags i 0) 0 f)
-
-  pub clear_none : i ≡ n → any_to (clear flags) i ≡ false → true ≡ all_set n flags
-  unfolding all_set
-  clear_none e a = sym (ap not (ap (any_to (clear flags)) (sym e) ∙ a))
+-- no flag below n is 0
+pub all_flags : (n : ℕ) (flags : List ℕ) → n ≤ length flags → list_all (λ x. not (eqb x 0)) (take n flags) ≡ all_set n flags
+unfolding all_set
+all_flags n flags h =
+    all_taken (λ x. not (eqb x 0)) flags 0 n h
+    ∙ ap not (any_cong n (λ q. not (not (eqb (get_or flags q 0) 0))) (λ q. eqb (get_or flags q 0) 0) (λ q k. twice (eqb (get_or flags q 0) 0)))
+  where
+    twice : (t : Bool) → not (not t) ≡ t
+    twice true = refl
+    twice false = refl
 
 abbrev pub is_zero : Vector → ℕ → Bool
 is_zero v i = not (is_set (v i))
 
-module _ (v : Vector) (m i : ℕ) {x : ℕ} (r : x ≡ number (v i)) where
-  pub zero_found : i < m → x ≡ 0 → true ≡ has_zero m v
-  unfolding has_zero
-  zero_found h e = sym (any_found (is_zero v) i m h (ap not (number_unset (v i) (sym r ∙ e))))
-
-  pub zero_passed : any_to (is_zero v) i ≡ false → (x ≡ 0 → ⊥) → any_to (is_zero v) (i + 1) ≡ false
-  zero_passed a f = any_passed (is_zero v) i a (ap not (number_set (v i) (λ z. f (r ∙ z))))
-
-pub zero_none : (v : Vector) (m i : ℕ) → i ≡ m → any_to (is_zero v) i ≡ false → false ≡ has_zero m v
+-- one of the first m trits is 0
+pub any_zero : (v : Vector) (m : ℕ) → list_any (λ i. eqb (number (v i)) 0) (range_with_len 0 m) ≡ has_zero m v
 unfolding has_zero
-zero_none v m i e a = sym (ap (any_to (is_zero v)) (sym e) ∙ a)
+any_zero v m =
+    ap (list_any tested) (sym (take_all m places (omega (arith, length-range_with_len 0 m))))
+    ∙ any_taken tested places 0 m (omega (arith, length-range_with_len 0 m))
+    ∙ any_cong m (λ q. tested (get_or places q 0)) (is_zero v) (λ q h. ap tested (get_or-range_with_len 0 m q 0 h ∙ zero-add q) ∙ by (v q))
+  where
+    tested : ℕ → Bool
+    tested i = eqb (number (v i)) 0
+
+    places : List ℕ
+    places = range_with_len 0 m
+
+    by : (t : Trit) → eqb (number t) 0 ≡ not (is_set t)
+    by t0 = refl
+    by t1 = refl
+    by t2 = refl

@@ -11,7 +11,7 @@ use Rattle.scheme.specs.declared.sizes.Sizes.{Sizes}
 use Rattle.scheme.specs.Sizes.{places, dim, codim, GapsTest, gaps_fit, sizes_fit_under}
 use Rattle.scheme.specs.Secret.{Secret}
 use Rattle.scheme.specs.Build.{build_refusal, key_order, key_row}
-use Rattle.calls.specs.Lent.{Planes, half_words, secret_of, pair_differs, secret_differs, secret_refusal_under}
+use Rattle.calls.specs.Lent.{Planes, half_words, secret_of, pair_differs, differs, secret_refusal_under}
 
 -- ---- what is lent
 
@@ -43,9 +43,7 @@ key_differs z s p k1 k2 w1 w2 = pair_differs (places z) s p || (pair_differs (di
 -- every length
 unfoldable pub build_lengths_differ : Sizes → BuildCall → Bool
 build_lengths_differ z i =
-    let k = i.secret in
-    secret_differs z (length k.hu.ones) (length k.hu.twos) (length k.hv.ones) (length k.hv.twos) (length k.b.ones) (length k.b.twos)
-    (length k.c.ones) (length k.c.twos)
+    differs z i.secret
     || key_differs z (length i.start) (length i.p) (length i.key.ones) (length i.key.twos) (length i.work.ones) (length i.work.twos)
 
 -- ---- the answer: 1, every length, the contents of the secret and of the starting order, then 9 and 10

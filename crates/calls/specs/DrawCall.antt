@@ -9,7 +9,10 @@ use Rattle.matrix.specs.Orders.{is_order}
 use Rattle.scheme.specs.declared.sizes.Sizes.{Sizes}
 use Rattle.scheme.specs.Sizes.{half, places, dim, ru, rv, codim, gap_u, GapsTest, gaps_fit, sizes_fit_under}
 use Rattle.scheme.specs.Draw.{Choices, drawn, draw_refusal, signature}
-use Rattle.calls.specs.Lent.{Planes, half_words, secret_of, pair_differs, secret_differs, secret_refusal_under}
+use Rattle.trits.specs.declared.Planes.{Planes as LentPlanes}
+use Rattle.calls.specs.declared.lent.SecretPlanes.{SecretPlanes}
+use Rattle.calls.specs.declared.lent.Choices.{Choices as LentChoices}
+use Rattle.calls.specs.Lent.{Planes, planes_of, half_words, secret_of, pair_differs, differs, secret_refusal_under}
 use Rattle.scheme.specs.Secret.{has_zero}
 
 -- ---- what is lent
@@ -42,6 +45,12 @@ draw_call s p yo yt ov vo vt ou uo ut eo et so st wo wt = record {
   work = pair_of wo wt;
 }
 
+-- that call from what the code is lent
+abbrev pub draw_lent : SecretPlanes → List ℕ → LentPlanes → LentChoices → List ℕ → List ℕ → List ℕ → List ℕ → List ℕ → List ℕ → DrawCall
+draw_lent s p y ch =
+    draw_call (planes_of s) p y.ones.now y.twos.now
+    ch.v_order.now ch.v.ones.now ch.v.twos.now ch.u_order.now ch.u.ones.now ch.u.twos.now
+
 -- the syndrome and the choices that it holds
 abbrev pub syndrome_of : DrawCall → Vector
 syndrome_of i = trit_at i.y.ones i.y.twos
@@ -72,12 +81,17 @@ choices_differ z p y1 y2 ov v1 v2 ou u1 u2 e1 e2 s1 s2 w1 w2 =
     || (pair_differs (words_for (dim z)) s1 s2
     || pair_differs (draw_work_words z) w1 w2))))))
 
+-- those of what the code is lent
+abbrev pub lent_differ : Sizes → List ℕ → LentPlanes → LentChoices → LentPlanes → LentPlanes → LentPlanes → Bool
+lent_differ z p y ch e s w =
+    choices_differ z (length p) (length y.ones.now) (length y.twos.now) (length ch.v_order.now) (length ch.v.ones.now) (length ch.v.twos.now)
+    (length ch.u_order.now) (length ch.u.ones.now) (length ch.u.twos.now)
+    (length e.ones.now) (length e.twos.now) (length s.ones.now) (length s.twos.now) (length w.ones.now) (length w.twos.now)
+
 -- every length
 unfoldable pub draw_lengths_differ : Sizes → DrawCall → Bool
 draw_lengths_differ z i =
-    let k = i.secret in
-    secret_differs z (length k.hu.ones) (length k.hu.twos) (length k.hv.ones) (length k.hv.twos) (length k.b.ones) (length k.b.twos)
-    (length k.c.ones) (length k.c.twos)
+    differs z i.secret
     || choices_differ z (length i.p) (length i.y.ones) (length i.y.twos) (length i.order_v) (length i.v.ones) (length i.v.twos)
     (length i.order_u) (length i.u.ones) (length i.u.twos)
     (length i.word.ones) (length i.word.twos) (length i.s.ones) (length i.s.twos) (length i.work.ones) (length i.work.twos)

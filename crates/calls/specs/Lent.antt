@@ -1,13 +1,14 @@
 -- What both calls of the editor's half are lent: the secret in planes ("The secret pairs"), its
 -- lengths and its contents ("Turned back by the input"). Assumes nothing.
 -- What depends on the test of a pair of planes is defined with any other in its place, by a name that ends in `Under`.
-use Rattle.std.specs.Prelude.{Bool, not, ◌||◌, List, ℕ, ◌*◌, eqb}
+use Rattle.std.specs.Prelude.{Bool, not, ◌||◌, List, ℕ, ◌*◌, eqb, length}
 use Rattle.trits.specs.Planes.{Pair, pair_of, trit_at, words_for}
 use Rattle.trits.specs.Rows.{matrix_at}
 use Rattle.trits.specs.Refusal.{refuse, first, PlanesTest, planes_refusal}
 use Rattle.scheme.specs.declared.sizes.Sizes.{Sizes}
 use Rattle.scheme.specs.Sizes.{half, ru, rv}
 use Rattle.scheme.specs.Secret.{Secret, has_zero}
+use Rattle.calls.specs.declared.lent.SecretPlanes.{SecretPlanes}
 
 -- ---- the secret
 
@@ -20,6 +21,10 @@ pub record Planes : Type 0 where
 
 abbrev pub planes : List ℕ → List ℕ → List ℕ → List ℕ → List ℕ → List ℕ → List ℕ → List ℕ → Planes
 planes uo ut vo vt bo bt co ct = record { hu = pair_of uo ut; hv = pair_of vo vt; b = pair_of bo bt; c = pair_of co ct }
+
+-- the planes behind what a call is lent
+abbrev pub planes_of : SecretPlanes → Planes
+planes_of s = planes s.hu.ones.now s.hu.twos.now s.hv.ones.now s.hv.twos.now s.b.ones.now s.b.twos.now s.c.ones.now s.c.twos.now
 
 -- the words of a row of H_U, H_V, b or c
 abbrev pub half_words : Sizes → ℕ
@@ -47,6 +52,12 @@ secret_differs z hu1 hu2 hv1 hv2 b1 b2 c1 c2 =
     || (pair_differs (rv z * half_words z) hv1 hv2
     || (pair_differs (half_words z) b1 b2
     || pair_differs (half_words z) c1 c2))
+
+-- the lengths of a secret's planes
+abbrev pub differs : Sizes → Planes → Bool
+differs z i =
+    secret_differs z (length i.hu.ones) (length i.hu.twos) (length i.hv.ones) (length i.hv.twos)
+    (length i.b.ones) (length i.b.twos) (length i.c.ones) (length i.c.twos)
 
 -- ---- 4, 3 and 8: the contents, buffer after buffer
 

@@ -25,6 +25,12 @@ pub record SecretLengths (z : Sizes) (a b c d e f g h : ℕ) : Type 0 where
   pub c1 : g ≡ half_words z
   pub c2 : h ≡ half_words z
 
+-- those of a secret's planes
+abbrev pub Lengths : Sizes → Planes → Type 0
+Lengths z i =
+    SecretLengths z (length i.hu.ones) (length i.hu.twos) (length i.hv.ones) (length i.hv.twos)
+    (length i.b.ones) (length i.b.twos) (length i.c.ones) (length i.c.twos)
+
 -- what a secret whose lengths and contents are right has: rows that can be read, of the right sizes
 pub record Readable (z : Sizes) (i : Planes) : Type 0 where
   pub hu : Rows i.hu.ones i.hu.twos (ru z) (half_words z)

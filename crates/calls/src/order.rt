@@ -19,10 +19,8 @@ pub fn mark_places(order: &[u16], n: usize, flags: &mut [u8])
     requires marked { Marked n [] flags.old }
     ensures { Marked n order.now flags.new }
 {
-    let mut i = 0;
-    while i < order.len() {
-        mark_place(order[i] as usize, n, flags);
-        i += 1;
+    for &place in order {
+        mark_place(usize::from(place), n, flags);
     }
 }
 
@@ -31,14 +29,7 @@ pub fn all_marked(flags: &[u8], n: usize) -> bool
     requires { n ≤ length flags.now }
     ensures { result ≡ all_set n flags.now }
 {
-    let mut i = 0; // the place that comes next
-    while i < n {
-        if flags[i] == 0 {
-            return false;
-        }
-        i += 1;
-    }
-    true
+    flags[..n].iter().all(|&flag| flag != 0)
 }
 
 // Whether each place below the length of the order stands in it.
@@ -46,7 +37,7 @@ pub fn is_order(order: &[u16]) -> bool
     requires { length order.now ≤ 16384 }
     ensures { result ≡ is_order (length order.now) order.now }
 {
-    let mut flags = [0u8; 16384];
+    let mut flags = [0u8; 16384]; // fixed memory: the core has no heap
     let n = order.len();
     mark_places(order, n, &mut flags);
     all_marked(&flags, n)

@@ -1,16 +1,7 @@
-// The working space: its rows, and its end.
-ghost use Rattle.std.specs.Prelude.{◌≡◌, cond, ltb, length};
+// The working space at its end.
+// What is written stays two slices: of a slice the length and the ranges of words are known with no clause, of one in a struct they are not.
+ghost use Rattle.std.specs.Prelude.{◌≡◌, length};
 ghost use Rattle.trits.specs.Planes.{zero_words};
-
-// The larger of two numbers of rows.
-pub fn more_rows(ru: usize, rv: usize) -> usize
-    ensures { result ≡ cond (ltb ru rv) rv ru }
-{
-    if ru < rv {
-        return rv;
-    }
-    ru
-}
 
 // Both working planes are made 0.
 pub fn clear(work_ones: &mut [u64], work_twos: &mut [u64])

@@ -5,6 +5,7 @@ ghost use Rattle.grid.specs.Steps.{Grid, clear_row, taken_out};
 ghost use Rattle.elimination.specs.Steps.{ForScaleRow, ForClearRow, ForClearRows};
 
 use grid::{one_row, two_rows};
+use trits::Planes;
 
 // The trit of row `at` at column c, which is not 0, is made 1: the row is negated where it is 2.
 pub fn scale_row(ones: &mut [u64], twos: &mut [u64], rows: usize, w: usize, c: usize, at: usize)
@@ -12,7 +13,7 @@ pub fn scale_row(ones: &mut [u64], twos: &mut [u64], rows: usize, w: usize, c: u
     ensures { Grid ones.new twos.new rows w
         (scale_row at (matrix_at w ones.old twos.old at c) (matrix_at w ones.old twos.old)) }
 {
-    if planes::places::trit_at(ones, twos, 64 * (at * w) + c) == 2 {
+    if planes::places::trit_at(Planes { ones, twos }, 64 * (at * w) + c) == 2 {
         one_row::negate(ones, twos, rows, w, at);
     }
 }
@@ -32,11 +33,10 @@ pub fn clear_row(
     requires { ForClearRow ones.old twos.old rows w f v c at i }
     ensures { Grid ones.new twos.new rows w (clear_row i at c (matrix_at w ones.old twos.old)) }
 {
-    let t = planes::places::trit_at(ones, twos, 64 * (i * w) + c);
-    if t == 1 {
-        two_rows::sub_rows(ones, twos, rows, w, f, v, i, at);
-    } else if t == 2 {
-        two_rows::add_rows(ones, twos, rows, w, f, v, i, at);
+    match planes::places::trit_at(Planes { ones, twos }, 64 * (i * w) + c) {
+        1 => two_rows::sub_rows(ones, twos, rows, w, f, v, i, at),
+        2 => two_rows::add_rows(ones, twos, rows, w, f, v, i, at),
+        _ => {}
     }
 }
 
@@ -56,9 +56,7 @@ pub fn clear_rows(
     requires { ForClearRows ones.old twos.old rows w f v c at from to }
     ensures { Grid ones.new twos.new rows w (taken_out from to at c (matrix_at w ones.old twos.old)) }
 {
-    let mut i = from;
-    while i < to {
+    for i in from..to {
         clear_row(ones, twos, rows, w, f, v, c, at, i);
-        i += 1;
     }
 }

@@ -1,5 +1,5 @@
 -- One plane: a word of some rows, these rows, and all rows gathered. Assumes nothing.
-use mathlib.Core.Path.{◌≡◌, refl, ap, ◌∙◌}
+use mathlib.Core.Path.{◌≡◌, refl, ap, ◌∙◌, subst}
 use mathlib.Core.List.{List}
 use Prim.Native.Nat.{ℕ, ◌+◌, ◌-◌, ◌*◌, ◌/◌, ◌%◌, ◌≤◌, ◌<◌}
 use native.Mathlib.Nat.{mul-le-mul_right}
@@ -104,10 +104,6 @@ module _ {l₀ l l' h order : List ℕ} {w r i e m c : ℕ} (rows : EndOf i r e)
     past = λ p g. b.past p g ∙ a.past p g;
   }
 
--- where the loop begins, and where it ends
-pub rows_begin : {l₀ l h order : List ℕ} {w r i e m : ℕ} → GatheringRows w r i e h order m 0 l₀ l → GatheringRows w r i e h order m 0 l l
-rows_begin a = record { kept = refl; columns = a.columns; bits = a.bits; before = λ p g. refl; past = λ p g. refl }
-
 pub rows_done : {l₀ l₁ l h order : List ℕ} {w r i e m c : ℕ} → GatheringRows w r i e h order m 0 l₀ l₁ → GatheringRows w r i e h order m c l₁ l → c ≡ w
     → GatheredRows w r i e h order m l₀ l
 rows_done a b d = record {
@@ -135,3 +131,9 @@ plane_turn {l₀} {l} {l'} {h} {order} {w} {r} {i} {e} {m} a b = record {
         → bit (q % 64) (get_or l' (k * w + q / 64) 0) ≡ picked (λ p. bit (p % 64) (get_or h (k * w + p / 64) 0)) order m q
     by k q f o (yes d) = ap (bit (q % 64)) (b.before (k * w + q / 64) (omega (arith, row_le w d))) ∙ a.bits k q (omega arith) d o
     by k q f o (no d) = b.bits k q (omega arith) f o
+
+-- where they end at row n, by whatever reckoning
+pub plane_to : {l₀ l l' h order : List ℕ} {w r i e m : ℕ} (n k : ℕ) → GatheredRows w r 0 k h order m l₀ l → k ≡ i → GatheredRows w r i e h order m l l'
+    → e ≡ n → GatheredRows w r 0 n h order m l₀ l'
+plane_to {l₀} {l} {l'} {h} {order} {w} {r} {m = m} n k a f b g =
+    subst (λ (x : ℕ). GatheredRows w r 0 x h order m l₀ l') g (plane_turn (subst (λ (x : ℕ). GatheredRows w r 0 x h order m l₀ l) f a) b)

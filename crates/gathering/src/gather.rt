@@ -1,19 +1,19 @@
 // The columns of a lent matrix are gathered in another order, plane by plane and 64 rows at a time: the rows are turned, so that a column is a word.
-ghost use Rattle.std.specs.Prelude.{◌≡◌, ◌<◌, get_or};
+// Loops go over indices: the working words that are read stand in the plane that is written.
+ghost use Rattle.std.specs.Prelude.{◌≡◌, ◌+◌, ◌<◌, min, get_or};
 ghost use Rattle.trits.specs.Rows.{matrix_at};
 ghost use Rattle.matrix.specs.Blocks.{Front, columns_by};
 ghost use Rattle.grid.specs.Steps.{Rows};
-ghost use Rattle.gathering.specs.Steps.{picked, Loaded, TurnedBlock, Columns, Picked, TurnedPick, Stored, GatheredWord, GatheredRows, EndOf};
+ghost use Rattle.gathering.specs.Steps.{picked, Loaded, TurnedBlock, Columns, Picked, TurnedPick, Stored, GatheredWord, GatheredRows};
 ghost use Rattle.gathering.specs.Steps.{ForLoadBlock, ForColumns, ForPick, ForPickBlock, ForStore, ForWord, ForRows, ForPlane, ForGather};
+
+use trits::Planes;
 
 // Word p of a plane, 0 past its end.
 pub fn word_at(h: &[u64], p: usize) -> u64
     ensures { result ≡ get_or h.now p 0 }
 {
-    if p < h.len() {
-        return h[p];
-    }
-    0
+    h.get(p).copied().unwrap_or(0)
 }
 
 // The words c of the 64 rows from row i on of a lent plane, 0 past its rows.
@@ -21,11 +21,8 @@ pub fn load_block(block: &mut [u64], h: &[u64], i: usize, w: usize, c: usize)
     requires { ForLoadBlock block.old i w c }
     ensures { Loaded h.now i w c block.new }
 {
-    let mut x = 0;
-    while x < 64 {
-        let p = (i + x) * w + c;
-        block[x] = word_at(h, p);
-        x += 1;
+    for x in 0..64 {
+        block[x] = word_at(h, (i + x) * w + c);
     }
 }
 
@@ -43,12 +40,10 @@ pub fn turn_columns(work: &mut [u64], h: &[u64], i: usize, w: usize)
     requires { ForColumns work.old i w }
     ensures { Columns h.now i w w work.old work.new }
 {
-    let mut c = 0;
-    while c < w {
+    for c in 0..w {
         let a = 64 * c;
         let e = a + 64;
         turn_block(&mut work[a..e], h, i, w, c);
-        c += 1;
     }
 }
 
@@ -58,10 +53,10 @@ pub fn pick(work: &[u64], order: &[u16], m: usize, p: usize) -> u64
     ensures { result ≡ picked (λ q. get_or work.now q 0) order.now m p }
 {
     if p < m {
-        let q = order[p] as usize;
-        return work[q];
+        work[usize::from(order[p])]
+    } else {
+        0
     }
-    0
 }
 
 // The words of the columns at the 64 positions from 64 * c on, after the columns.
@@ -69,11 +64,8 @@ pub fn pick_block(work: &mut [u64], order: &[u16], m: usize, w: usize, c: usize)
     requires { ForPickBlock work.old order.now m w c }
     ensures { Picked order.now m w c work.old work.new }
 {
-    let mut x = 0;
-    while x < 64 {
-        let v = pick(work, order, m, 64 * c + x);
-        work[64 * w + x] = v;
-        x += 1;
+    for x in 0..64 {
+        work[64 * w + x] = pick(work, order, m, 64 * c + x);
     }
 }
 
@@ -93,11 +85,8 @@ pub fn store_block(plane: &mut [u64], at: usize, w: usize, i: usize, e: usize, c
     requires { ForStore plane.old at w i e c }
     ensures { Stored at w i e c plane.old plane.new }
 {
-    let mut k = i;
-    while k < e {
-        let v = plane[at + (k - i)];
-        plane[k * w + c] = v;
-        k += 1;
+    for k in i..e {
+        plane[k * w + c] = plane[at + (k - i)];
     }
 }
 
@@ -138,22 +127,17 @@ pub fn gather_rows(
     let a = r * w;
     let z = a + 243 * w;
     turn_columns(&mut plane[a..z], h, i, w);
-    let mut c = 0;
-    while c < w {
+    for c in 0..w {
         gather_word(plane, w, r, i, e, order, m, c);
-        c += 1;
     }
 }
 
 // The end of the rows from row i on that are gathered together.
 pub fn end_of(i: usize, r: usize) -> usize
     requires { i < r }
-    ensures { EndOf i r result }
+    ensures { result ≡ min (i + 64) r }
 {
-    if r - i < 64 {
-        return r;
-    }
-    i + 64
+    i + (r - i).min(64)
 }
 
 // The first r rows of one plane.
@@ -161,11 +145,8 @@ pub fn gather_plane(plane: &mut [u64], w: usize, r: usize, h: &[u64], order: &[u
     requires { ForPlane plane.old w r order.now m }
     ensures { GatheredRows w r 0 r h.now order.now m plane.old plane.new }
 {
-    let mut i = 0;
-    while i < r {
-        let e = end_of(i, r);
-        gather_rows(plane, w, r, i, e, h, order, m);
-        i = e;
+    for i in (0..r).step_by(64) {
+        gather_rows(plane, w, r, i, end_of(i, r), h, order, m);
     }
 }
 
@@ -176,18 +157,17 @@ pub fn gather(
     rows: usize,
     w: usize,
     r: usize,
-    ho: &[u64],
-    ht: &[u64],
+    h: Planes,
     order: &[u16],
     m: usize,
 )
-    requires { ForGather ones.old twos.old rows w r ho.now ht.now order.now m }
+    requires { ForGather ones.old twos.old rows w r h.ones.now h.twos.now order.now m }
     ensures rows { Rows ones.new twos.new rows w }
-    ensures front { Front r (columns_by (λ j. get_or order.now j 0) m (matrix_at w ho.now ht.now))
+    ensures front { Front r (columns_by (λ j. get_or order.now j 0) m (matrix_at w h.entry.ones.now h.entry.twos.now))
         (matrix_at w ones.old twos.old) (matrix_at w ones.new twos.new) }
 {
-    gather_plane(ones, w, r, ho, order, m);
-    gather_plane(twos, w, r, ht, order, m);
+    gather_plane(ones, w, r, h.ones, order, m);
+    gather_plane(twos, w, r, h.twos, order, m);
     let a = r * w;
     let z = a + 243 * w;
     planes::words::zero_words(&mut ones[a..z]); // so that no place there is both 1 and 2

@@ -8,11 +8,10 @@ use native.Mathlib.Omega.{arith}
 use borrow.Author.Tests.{eq-eqb, ne_eqb}
 use borrow.Rule.Slice.PartMut.{mid_of, put_mid}
 use lib.ListN.{length}
-use Rattle.trits.specs.Trit.{Trit, t0, t2, add_t, sub_t, neg_t, neg_v, zip_v, zip_at, one, two}
+use Rattle.trits.specs.Trit.{Trit, t0, t2, add_t, sub_t, neg_t, neg_v, zip_v, zip_at}
 use Rattle.trits.specs.Planes.{trit_at, Reads}
 use Rattle.trits.specs.Rows.{matrix_at}
 use Rattle.trits.proofs.Arithmetic.{add_comm}
-use Rattle.trits.proofs.WordOps.{WordOp, table, add_ones, add_twos, add_op}
 use Rattle.trits.proofs.Patches.{zip_at_here, zip_below, zip_above}
 use Rattle.trits.proofs.Parts.{part_back, part_trit}
 use Rattle.trits.proofs.Matrix.{row_le, rows_apart}
@@ -52,21 +51,6 @@ module _ {o₀ t₀ o t : List ℕ} {r w : ℕ} (g : Rows o₀ t₀ r w) (op : T
       by k q l (no f) = sym (cell_past w o₀ t₀ k q l) ∙ old k q f
 
 -- ---- row j is joined to row i
-
--- the masks of the difference: those of the sum, with the planes of the second exchanged
-abbrev pub sub_ones : ℕ → ℕ → ℕ → ℕ → ℕ
-sub_ones a b c d = add_ones a b d c
-
-abbrev pub sub_twos : ℕ → ℕ → ℕ → ℕ → ℕ
-sub_twos a b c d = add_twos a b d c
-
-pub sub_op : WordOp sub_ones sub_twos sub_t
-sub_op = record {
-  ones_bit = λ i a b c d. add_op.ones_bit i a b d c;
-  twos_bit = λ i a b c d. add_op.twos_bit i a b d c;
-  ones_table = table (λ x y. sub_ones (one x) (two x) (one y) (two y)) (λ x y. one (sub_t x y)) tt;
-  twos_table = table (λ x y. sub_twos (one x) (two x) (one y) (two y)) (λ x y. two (sub_t x y)) tt;
-}
 
 -- row i gets what the operation makes of it and row j
 pub join_put : (op : Trit → Trit → Trit) (i j : ℕ) (A : Matrix) → put_row i (zip_v op (A i) (A j)) A ≡ join_row op i j A

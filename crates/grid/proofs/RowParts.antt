@@ -9,7 +9,7 @@ use native.Mathlib.Omega.{arith}
 use borrow.Author.Tests.{eq-eqb, ne_eqb}
 use borrow.Rule.Slice.PartMut.{mid_of, put_mid}
 use lib.ListN.{length}
-use Rattle.trits.specs.Trit.{Trit, t0, number, trit_of, put_v, up_to, zip_at, dot_v}
+use Rattle.trits.specs.Trit.{Trit, t0, number, trit_of, put_v, up_to, zip_at}
 use Rattle.trits.specs.Planes.{trit_at, zero_words, Row, Reads}
 use Rattle.trits.specs.Rows.{matrix_at, row_part}
 use Rattle.trits.proofs.Reading.{read_past, reads_to}
@@ -19,7 +19,7 @@ use Rattle.trits.proofs.Parts.{part_back, part_row, length_mid}
 use Rattle.trits.proofs.Matrix.{row_le, rows_apart, part_there, part_reads, part_length, part_trits}
 use Rattle.trits.proofs.Arithmetic.{number_lt, trit_number}
 use Rattle.matrix.specs.Linear.{Vector, Matrix, zeros}
-use Rattle.grid.specs.Steps.{Rows, Grid, put_row}
+use Rattle.grid.specs.Steps.{Rows, Grid, HeldRow, put_row}
 use Rattle.grid.proofs.Cells.{cell, cell_past, grid_by, grid_to}
 use Rattle.grid.proofs.Joins.{row_op}
 
@@ -74,24 +74,11 @@ lent_trits {o} {t} {r} w i k g h e =
     ∙ fun_ext (λ q. part_trits r w i g.row g.size h q)
 
 -- and is a row of its own
-pub record Part (o t : List ℕ) (w i k : ℕ) : Type 0 where
-  pub row : Row (mid_of (i * w) k o) (mid_of (i * w) k t)
-  pub size : length (mid_of (i * w) k o) ≡ w
-  pub trits : trit_at (mid_of (i * w) k o) (mid_of (i * w) k t) ≡ matrix_at w o t i
-
-pub lent_part : {o t : List ℕ} {r w : ℕ} → Rows o t r w → (i : ℕ) → i < r → (k : ℕ) → k ≡ w → Part o t w i k
+pub lent_part : {o t : List ℕ} {r w : ℕ} → Rows o t r w → (i : ℕ) → i < r → (k : ℕ) → k ≡ w
+    → HeldRow (mid_of (i * w) k o) (mid_of (i * w) k t) w (matrix_at w o t i)
 lent_part {o} {t} {r} {w} g i h k e =
     let fits : i * w + k ≤ length o = omega (arith, row_le w h, g.size) in
     record { row = part_row g.row (i * w) k fits; size = length_mid (i * w) k o fits ∙ e; trits = lent_trits w i k g h e }
-
--- the dot product of two rows that are lent, of one matrix or of two
-pub rows_product : {o t o' t' : List ℕ} {w i j k l n : ℕ} (a : Part o t w i k) (b : Part o' t' w j l)
-    → n ≡ number (dot_v (trit_at (mid_of (i * w) k o) (mid_of (i * w) k t)) (trit_at (mid_of (j * w) l o') (mid_of (j * w) l t'))
-    (64 * length (mid_of (i * w) k o)))
-    → n ≡ number (dot_v (matrix_at w o t i) (matrix_at w o' t' j) (64 * w))
-rows_product {o} {t} {o'} {t'} {w} {i} {j} {k} a b d =
-    d ∙ ap₂ (λ (u v : Vector). number (dot_v u v (64 * length (mid_of (i * w) k o)))) a.trits b.trits
-    ∙ ap (λ (m : ℕ). number (dot_v (matrix_at w o t i) (matrix_at w o' t' j) (64 * m))) a.size
 
 -- ---- a matrix with another row
 

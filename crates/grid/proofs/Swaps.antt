@@ -1,7 +1,7 @@
 -- Two rows of a matrix in planes change places, word by word. Assumes nothing.
-use mathlib.Core.Path.{◌≡◌, refl, sym, ap, ap₂, ◌∙◌, fun_ext}
+use mathlib.Core.Path.{◌≡◌, refl, sym, ap, ap₂, ◌∙◌, fun_ext, subst}
 use mathlib.Core.Logic.{◌⊎◌, inl, inr, ◌≢◌}
-use mathlib.Core.List.{List}
+use mathlib.Core.List.{List, [], ◌∷◌}
 use Prim.Native.Nat.{ℕ, zero, suc, ◌+◌, ◌*◌, ◌/◌, ◌%◌, ◌≤◌, ◌<◌}
 use native.Mathlib.Nat.{div-add-mod', mod-lt, mul-zero, zero-lt-suc}
 use native.Mathlib.Decide.{dec_lt, ℕ_discrete}
@@ -10,6 +10,8 @@ use borrow.Author.Tests.{eq-eqb, ne_eqb}
 use lib.ListN.{length, get_or, set, length-set, get_or-eq_default}
 use lib.Seq.{get_or-set_same, get_or-set_other}
 use lib.Bits.{bit_and}
+use Rattle.std.specs.List.{swap}
+use Rattle.std.proofs.lemmas.Grind.{get_or_default_zero}
 use Rattle.trits.specs.Planes.{bit, trit}
 use Rattle.trits.specs.Rows.{matrix_at}
 use Rattle.trits.proofs.Matrix.{row_le, rows_apart}
@@ -43,9 +45,6 @@ pub record SwappedTo (a b w k : ℕ) (l₀ l : List ℕ) : Type 0 where
   pub moved : (i j : ℕ) → j < k → get_or l (i * w + j) 0 ≡ get_or l₀ (other a b i * w + j) 0
   pub rest : (i j : ℕ) → k ≤ j → j < w → get_or l (i * w + j) 0 ≡ get_or l₀ (i * w + j) 0
 
-pub swap_none : (a b w : ℕ) (l : List ℕ) → SwappedTo a b w 0 l l
-swap_none a b w l = record { kept = refl; moved = λ i j h. absurd (omega arith); rest = λ i j h g. refl }
-
 pub other_first : (a b : ℕ) → other a b a ≡ b
 other_first a b = rw (eq-eqb a a refl)
 
@@ -59,9 +58,9 @@ other_second a b = by (ℕ_discrete b a)
 pub other_else : (a b i : ℕ) → (i ≡ a → ⊥) → (i ≡ b → ⊥) → other a b i ≡ i
 other_else a b i f g = rw (ne_eqb i a f, ne_eqb i b g)
 
-pub swap_turn : {a b w k : ℕ} {l₀ l : List ℕ} {r : ℕ} → SwappedTo a b w k l₀ l → length l₀ ≡ r * w → a < r → b < r → k < w
+sets_turn : {a b w k : ℕ} {l₀ l : List ℕ} {r : ℕ} → SwappedTo a b w k l₀ l → length l₀ ≡ r * w → a < r → b < r → k < w
     → SwappedTo a b w (k + 1) l₀ (set (set l (a * w + k) (get_or l (b * w + k) 0)) (b * w + k) (get_or l (a * w + k) 0))
-swap_turn {a} {b} {w} {k} {l₀} {l} {r} s e ha hb hk = record {
+sets_turn {a} {b} {w} {k} {l₀} {l} {r} s e ha hb hk = record {
   kept = length-set (set l (a * w + k) y) (b * w + k) x ∙ length-set l (a * w + k) y ∙ s.kept;
   moved = λ i j h. go i j h (ℕ_discrete j k) (ℕ_discrete i b) (ℕ_discrete i a);
   rest = λ i j h g. still i j (off_place w i a j k (λ z. omega arith) g hk) (off_place w i b j k (λ z. omega arith) g hk) ∙ s.rest i j (omega arith) g;
@@ -106,8 +105,18 @@ swap_turn {a} {b} {w} {k} {l₀} {l} {r} s e ha hb hk = record {
         at i j i (other_else a b i c d)
         (still i j (off_row w i a j k c (omega arith) hk) (off_row w i b j k d (omega arith) hk) ∙ s.rest i j (omega arith) (omega arith))
 
-pub swap_done : {a b w k : ℕ} {l₀ l : List ℕ} → SwappedTo a b w k l₀ l → k ≡ w → Swapped a b w l₀ l
-swap_done s e = record { kept = s.kept; words = λ i j h. s.moved i j (omega arith) }
+-- what the library's swap makes of two words of the plane
+swap_sets : (l : List ℕ) (i j : ℕ) → i < length l → j < length l → swap l i j ≡ set (set l i (get_or l j 0)) j (get_or l i 0)
+swap_sets [] i j h g = absurd (omega arith)
+swap_sets (d ∷ ys) i j h g =
+    ap₂ (λ (x y : ℕ). set (set (d ∷ ys) i x) j y) (get_or_default_zero (d ∷ ys) j d g) (get_or_default_zero (d ∷ ys) i d h)
+
+pub swap_turn : {a b w k : ℕ} {l₀ l : List ℕ} {r : ℕ} → SwappedTo a b w k l₀ l → length l₀ ≡ r * w → a < r → b < r → k < w
+    → SwappedTo a b w (k + 1) l₀ (swap l (a * w + k) (b * w + k))
+swap_turn {a} {b} {w} {k} {l₀} {l} s e ha hb hk =
+    let la : a * w + k < length l = omega (arith, row_le w ha, s.kept, e) in
+    let lb : b * w + k < length l = omega (arith, row_le w hb, s.kept, e) in
+    subst (SwappedTo a b w (k + 1) l₀) (sym (swap_sets l (a * w + k) (b * w + k) la lb)) (sets_turn s e ha hb hk)
 
 -- a word of the planes is a word of a row
 pub split : (w r q : ℕ) → q < r * w → (i : ℕ) × (j : ℕ) × (j < w) × (q ≡ i * w + j)

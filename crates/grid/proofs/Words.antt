@@ -1,5 +1,5 @@
 -- A row of a matrix in planes that a loop makes anew, word after word, from words of other rows. Assumes nothing.
-use mathlib.Core.Path.{◌≡◌, refl, sym, ap, ap₂, ◌∙◌}
+use mathlib.Core.Path.{◌≡◌, refl, sym, ap, ap₂, ◌∙◌, fun_ext}
 use mathlib.Core.Bool.{Bool, ◌&&◌, cond, and-false}
 use mathlib.Core.Logic.{◌⊎◌, inl, inr, ◌≢◌}
 use mathlib.Core.List.{List}
@@ -15,10 +15,9 @@ use Rattle.trits.specs.Trit.{Trit, t0}
 use Rattle.trits.specs.Planes.{bit, trit}
 use Rattle.trits.specs.Rows.{matrix_at}
 use Rattle.trits.proofs.Reading.{trit_at_word}
-use Rattle.trits.proofs.WordOps.{WordOp, op_trit, op_apart}
 use Rattle.trits.proofs.Matrix.{row_le, rows_apart}
 use Rattle.matrix.specs.Linear.{Vector}
-use Rattle.grid.specs.Steps.{Rows, Grid, put_row, within}
+use Rattle.grid.specs.Steps.{Rows, Grid, Joined, put_row, within}
 use Rattle.grid.proofs.Cells.{cell_past, cell_word, grid_by}
 
 -- ---- two words, and the trits that they hold
@@ -27,12 +26,12 @@ pub record Word (x y : ℕ) (v : Vector) : Type 0 where
   pub apart : bit_and x y ≡ 0
   pub bits : (b : ℕ) → b < 64 → trit (bit b x) (bit b y) ≡ v b
 
--- an operation's masks
-pub word_op : {F G : ℕ → ℕ → ℕ → ℕ → ℕ} {op : Trit → Trit → Trit} {a b c d : ℕ} {u v : Vector} → WordOp F G op → Word a b u → Word c d v
-    → Word (F a b c d) (G a b c d) (λ k. op (u k) (v k))
-word_op {op = op} {a} {b} {c} {d} o p q = record {
-  apart = op_apart o a b c d p.apart q.apart;
-  bits = λ k l. op_trit o a b c d p.apart q.apart k ∙ ap₂ op (p.bits k l) (q.bits k l);
+-- what an operation makes of them
+pub joined_word : {op : Trit → Trit → Trit} {a b c d : ℕ} {r : ℕ × ℕ} {u v : Vector} → Joined op a b c d r → Word a b u → Word c d v
+    → Word r.0 r.1 (λ k. op (u k) (v k))
+joined_word {op = op} o p q = record {
+  apart = o.apart p.apart q.apart;
+  bits = λ k l. o.trits p.apart q.apart k ∙ ap₂ op (p.bits k l) (q.bits k l);
 }
 
 -- words like two others
@@ -229,3 +228,13 @@ module _ {x : Vector} {r w f v d k : ℕ} {o₀ t₀ o t : List ℕ} (m : Making
       let out : (q : ℕ) → 64 * v ≤ q → matrix_at w o₀ t₀ d q ≡ within f v x (matrix_at w o₀ t₀ d) q =
       λ q a. sym (within_out f v x (matrix_at w o₀ t₀ d) q (inr a)) in
       made_grid m.making (λ q a b. out q (omega arith)) (λ q a. sym (cell_past w o₀ t₀ d q a) ∙ out q (omega arith))
+
+-- all words of row d from row i: past both rows is nothing
+pub within_whole : (w : ℕ) (o t : List ℕ) (d i : ℕ) → within 0 w (matrix_at w o t i) (matrix_at w o t d) ≡ matrix_at w o t i
+within_whole w o t d i = fun_ext (λ q. at q (dec_lt q (64 * w)))
+  where
+    at : (q : ℕ) → Dec (q < 64 * w) → within 0 w (matrix_at w o t i) (matrix_at w o t d) q ≡ matrix_at w o t i q
+    at q (yes l) = within_in 0 w (matrix_at w o t i) (matrix_at w o t d) q (omega arith, l)
+    at q (no h) =
+        within_out 0 w (matrix_at w o t i) (matrix_at w o t d) q (inr (omega arith))
+        ∙ cell_past w o t d q (omega arith) ∙ sym (cell_past w o t i q (omega arith))

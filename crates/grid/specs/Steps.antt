@@ -1,7 +1,7 @@
 -- Matrices held in two planes, row after row, and the operations on their rows. No rule of the paper: code is tied to it. Assumes nothing.
-use Rattle.std.specs.Prelude.{◌≡◌, ◌&&◌, cond, List, ◌≢◌, ◌⊎◌, ℕ, ◌+◌, ◌*◌, ◌≤◌, ◌<◌, eqb, leb, ltb, length, get_or}
+use Rattle.std.specs.Prelude.{bit_and, ◌≡◌, ◌&&◌, cond, List, ◌≢◌, ◌⊎◌, ℕ, ◌+◌, ◌*◌, ◌≤◌, ◌<◌, eqb, leb, ltb, length, get_or}
 use Rattle.trits.specs.Trit.{Trit, t0, sub_t, mul_t, zip_v}
-use Rattle.trits.specs.Planes.{Row}
+use Rattle.trits.specs.Planes.{Row, bit, trit, trit_at}
 use Rattle.trits.specs.Rows.{matrix_at}
 use Rattle.matrix.specs.Linear.{Vector, Matrix}
 
@@ -14,6 +14,12 @@ pub record Rows (ones twos : List ℕ) (r w : ℕ) : Type 0 where
 pub record Grid (ones twos : List ℕ) (r w : ℕ) (A : Matrix) : Type 0 where
   pub rows : Rows ones twos r w
   pub cells : matrix_at w ones twos ≡ A
+
+-- planes of one row of w words that hold the trits v
+pub record HeldRow (ones twos : List ℕ) (w : ℕ) (v : Vector) : Type 0 where
+  pub row : Row ones twos
+  pub size : length ones ≡ w
+  pub trits : trit_at ones twos ≡ v
 
 -- row j has the trits v
 abbrev pub put_row : ℕ → Vector → Matrix → Matrix
@@ -35,6 +41,11 @@ pub record Swapped (a b w : ℕ) (l₀ l : List ℕ) : Type 0 where
 -- row j is joined to row i by an operation
 abbrev pub join_row : (Trit → Trit → Trit) → ℕ → ℕ → Matrix → Matrix
 join_row op i j A k t = cond (eqb k i) (op (A k t) (A j t)) (A k t)
+
+-- two words, r, hold what an operation makes of the trits of the words a and b and those of c and d
+pub record Joined (op : Trit → Trit → Trit) (a b c d : ℕ) (r : ℕ × ℕ) : Type 0 where
+  pub apart : bit_and a b ≡ 0 → bit_and c d ≡ 0 → bit_and r.0 r.1 ≡ 0
+  pub trits : bit_and a b ≡ 0 → bit_and c d ≡ 0 → (k : ℕ) → trit (bit k r.0) (bit k r.1) ≡ op (trit (bit k a) (bit k b)) (trit (bit k c) (bit k d))
 
 -- row i less the rows a, b and c
 abbrev pub less_three : Matrix → ℕ → ℕ → ℕ → ℕ → Vector

@@ -5,6 +5,8 @@ ghost use Rattle.trits.specs.Planes.{trit_at};
 ghost use Rattle.trits.specs.Rows.{matrix_at};
 ghost use Rattle.grid.specs.Steps.{Grid, put_row, ForPutAt, ForPutFrom};
 
+use trits::Planes;
+
 // The trit t is put at place q of row i.
 pub fn put_at(ones: &mut [u64], twos: &mut [u64], rows: usize, w: usize, i: usize, q: usize, t: u8)
     requires { ForPutAt ones.old twos.old rows w i q t }
@@ -22,15 +24,14 @@ pub fn put_from(
     w: usize,
     e: usize,
     q: usize,
-    vo: &[u64],
-    vt: &[u64],
+    v: Planes,
     j: usize,
 )
-    requires { ForPutFrom ones.old twos.old rows w e q vo.now vt.now j }
+    requires { ForPutFrom ones.old twos.old rows w e q v.ones.now v.twos.now j }
     ensures { Grid ones.new twos.new rows w
-        (put_row e (put_v (matrix_at w ones.old twos.old e) q (trit_at vo.now vt.now j))
+        (put_row e (put_v (matrix_at w ones.old twos.old e) q (trit_at v.entry.ones.now v.entry.twos.now j))
         (matrix_at w ones.old twos.old)) }
 {
-    let t = planes::places::trit_at(vo, vt, j);
+    let t = planes::places::trit_at(v, j);
     put_at(ones, twos, rows, w, e, q, t);
 }

@@ -1,4 +1,5 @@
 // Two rows of one matrix: exchanged, added, subtracted, one taken from the other, and their dot product.
+// Loops go over indices: the row that is read and the one that is written stand in the same planes.
 ghost use Rattle.std.specs.Prelude.{◌≡◌, ◌*◌, ◌<◌};
 ghost use Rattle.trits.specs.Trit.{add_t, sub_t, zip_v, number, dot_v};
 ghost use Rattle.trits.specs.Rows.{matrix_at};
@@ -6,6 +7,8 @@ ghost use Rattle.matrix.specs.Steps.{swap_rows};
 ghost use Rattle.grid.specs.Steps.{Grid, Swapped, put_row, join_row, ForSwapPlane, ForSwapRows, ForRowDot, ForAddRows, ForAddWords};
 
 use super::one_row;
+use super::operations::{Difference, Operation, Sum};
+use trits::Planes;
 
 // Rows a and b of one plane change places.
 pub fn swap_plane(plane: &mut [u64], rows: usize, w: usize, a: usize, b: usize)
@@ -14,15 +17,8 @@ pub fn swap_plane(plane: &mut [u64], rows: usize, w: usize, a: usize, b: usize)
 {
     let at = a * w;
     let from = b * w;
-    let mut j = 0;
-    while j < w {
-        let p = at + j;
-        let q = from + j;
-        let x = plane[p];
-        let y = plane[q];
-        plane[p] = y;
-        plane[q] = x;
-        j += 1;
+    for j in 0..w {
+        plane.swap(at + j, from + j);
     }
 }
 
@@ -36,6 +32,29 @@ pub fn swap_rows(ones: &mut [u64], twos: &mut [u64], rows: usize, w: usize, a: u
     }
     swap_plane(ones, rows, w, a, b);
     swap_plane(twos, rows, w, a, b);
+}
+
+// Row j is joined to row i by an operation, in the words f to v - 1: row j is 0 at all others.
+pub(crate) fn join_rows<O: Operation>(
+    ones: &mut [u64],
+    twos: &mut [u64],
+    rows: usize,
+    w: usize,
+    f: usize,
+    v: usize,
+    i: usize,
+    j: usize,
+)
+    requires { ForAddWords ones.old twos.old rows w f v i j }
+    ensures { Grid ones.new twos.new rows w (join_row O.op i j (matrix_at w ones.old twos.old)) }
+{
+    let at = i * w;
+    let from = j * w;
+    for k in f..v {
+        let p = at + k;
+        let q = from + k;
+        (ones[p], twos[p]) = O::words(ones[p], twos[p], ones[q], twos[q]);
+    }
 }
 
 // Row j is added to row i, in the words f to v - 1: row j is 0 at all others.
@@ -52,21 +71,7 @@ pub fn add_rows(
     requires { ForAddWords ones.old twos.old rows w f v i j }
     ensures { Grid ones.new twos.new rows w (join_row add_t i j (matrix_at w ones.old twos.old)) }
 {
-    let at = i * w;
-    let from = j * w;
-    let mut k = f;
-    while k < v {
-        let p = at + k;
-        let q = from + k;
-        let a = ones[p];
-        let b = twos[p];
-        let c = ones[q];
-        let d = twos[q];
-        let t = (a | d) ^ (b | c);
-        ones[p] = (b | d) ^ t;
-        twos[p] = (a | c) ^ t;
-        k += 1;
-    }
+    join_rows::<Sum>(ones, twos, rows, w, f, v, i, j);
 }
 
 // Row j is subtracted from row i, in the words f to v - 1: row j is 0 at all others.
@@ -83,21 +88,7 @@ pub fn sub_rows(
     requires { ForAddWords ones.old twos.old rows w f v i j }
     ensures { Grid ones.new twos.new rows w (join_row sub_t i j (matrix_at w ones.old twos.old)) }
 {
-    let at = i * w;
-    let from = j * w;
-    let mut k = f;
-    while k < v {
-        let p = at + k;
-        let q = from + k;
-        let a = ones[p];
-        let b = twos[p];
-        let c = ones[q];
-        let d = twos[q];
-        let t = (a | c) ^ (b | d);
-        ones[p] = (b | c) ^ t;
-        twos[p] = (a | d) ^ t;
-        k += 1;
-    }
+    join_rows::<Difference>(ones, twos, rows, w, f, v, i, j);
 }
 
 // Row i is taken from row j, and becomes what is left.
@@ -112,14 +103,13 @@ pub fn take_from(ones: &mut [u64], twos: &mut [u64], rows: usize, w: usize, i: u
 }
 
 // The dot product of rows i and j.
-pub fn row_dot(ones: &[u64], twos: &[u64], rows: usize, w: usize, i: usize, j: usize) -> u8
-    requires { ForRowDot ones.now twos.now rows w i j }
-    ensures { result ≡ number (dot_v (matrix_at w ones.now twos.now i) (matrix_at w ones.now twos.now j)
+pub fn row_dot(m: Planes, rows: usize, w: usize, i: usize, j: usize) -> u8
+    requires { ForRowDot m.ones.now m.twos.now rows w i j }
+    ensures { result ≡ number (dot_v (matrix_at w m.entry.ones.now m.entry.twos.now i) (matrix_at w m.entry.ones.now m.entry.twos.now j)
         (64 * w)) }
 {
-    let a = i * w;
-    let b = a + w;
-    let c = j * w;
-    let d = c + w;
-    rows::dot(&ones[a..b], &twos[a..b], &ones[c..d], &twos[c..d])
+    rows::dot(
+        one_row::row_of(m, rows, w, i),
+        one_row::row_of(m, rows, w, j),
+    )
 }

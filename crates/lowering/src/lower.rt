@@ -49,16 +49,10 @@ pub fn lower(
 {
     let mut at = 0; // the rows that have pivots
     let mut c = 0;
-    while c < m {
-        if at == r {
-            return at;
-        }
+    // steps of varying length: no range counts them
+    while c < m && at < r {
         let k = pass_block(ones, twos, rows, w, v, r, at, c, m);
-        if k == 0 {
-            c += 1;
-        } else {
-            c += k;
-        }
+        c += k.max(1);
         at += k;
     }
     at

@@ -1,5 +1,5 @@
 -- What the pivots of a block ask of the grid, and what they leave. No rule of the paper: code is tied to it. Assumes nothing.
-use Rattle.std.specs.Prelude.{◌≡◌, ◌≢◌, ◌⊎◌, true, false, List, ℕ, ◌+◌, ◌*◌, ◌≤◌, ◌<◌, length}
+use Rattle.std.specs.Prelude.{◌≡◌, ◌≢◌, ◌⊎◌, true, false, List, Option, None, Some, ℕ, ◌+◌, ◌*◌, ◌≤◌, ◌<◌, length}
 use Rattle.trits.specs.Trit.{t0, sub_t, mul_t, is_set}
 use Rattle.trits.specs.Rows.{matrix_at}
 use Rattle.matrix.specs.Linear.{Matrix}
@@ -33,6 +33,11 @@ pub record ForFindNow (ones twos : List ℕ) (rows w r at k c : ℕ) : Type 0 wh
   pub few : k < 12
   pub column : c + k < 64 * w
   pub at_most : at + k ≤ r
+
+-- the row that was looked for among the first r: none exactly where the search ended at r
+abbrev pub FoundRow : Option ℕ → ℕ → ℕ → Type 0
+FoundRow None r row = row ≡ r
+FoundRow (Some i) r row = (i < r) × (i ≡ row)
 
 -- and the block's rows with the one that joins them, which is 0 outside the words f .. v - 1
 pub record ForJoin (ones twos : List ℕ) (rows w f v r k c : ℕ) : Type 0 where

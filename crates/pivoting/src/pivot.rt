@@ -1,5 +1,4 @@
 // One pivot more of a block, and a block of them.
-ghost use Rattle.std.specs.Prelude.{◌≡◌, cond, ltb};
 ghost use Rattle.trits.specs.Rows.{matrix_at};
 ghost use Rattle.matrix.specs.Blocks.{basis, pivot_taken, NextPivot, Block};
 ghost use Rattle.grid.specs.Steps.{Rows, Grid};
@@ -7,6 +6,7 @@ ghost use Rattle.pivoting.specs.Steps.{JoinedRows, Ended, ForJoin, ForBringPivot
 
 use super::search;
 use grid::two_rows;
+use trits::Planes;
 
 // The block's k rows are cleared at the column c + k, by the row that joins them, which is 0 at all places but those of the words f to v - 1.
 pub fn join(
@@ -25,11 +25,9 @@ pub fn join(
     ensures joined_rows { JoinedRows r k c k (matrix_at w ones.old twos.old) (matrix_at w ones.new twos.new) }
 {
     let p = blocks::block_rows::basis_row(r, k);
-    let mut j = 0;
-    while j < k {
+    for j in 0..k {
         let b = blocks::block_rows::basis_row(r, j);
         elimination::step::clear_row(ones, twos, rows, w, f, v, c + k, p, b);
-        j += 1;
     }
 }
 
@@ -73,10 +71,9 @@ pub fn next_pivot(
     ensures rows { Rows ones.new twos.new rows w }
     ensures next_pivot { NextPivot result r at k c (matrix_at w ones.old twos.old) (matrix_at w ones.new twos.new) }
 {
-    let i = search::find_now(ones, twos, rows, w, r, at, k, c);
-    if i == r {
+    let Some(i) = search::find_now(Planes { ones, twos }, rows, w, r, at, k, c) else {
         return false;
-    }
+    };
     bring_pivot(ones, twos, rows, w, f, v, r, at, k, c, i);
     let p = blocks::block_rows::basis_row(r, k);
     grid::sums::copy_row(ones, twos, rows, w, p, at + k);
@@ -102,23 +99,11 @@ pub fn take_block(
     ensures block { Block r at c m result (matrix_at w ones.old twos.old) (matrix_at w ones.new twos.new) }
     ensures ended { Ended r at c result (matrix_at w ones.old twos.old) }
 {
-    let most = least(12, least(m - c, r - at));
-    let mut k = 0;
-    while k < most {
+    let most = (m - c).min(r - at).min(12);
+    for k in 0..most {
         if !next_pivot(ones, twos, rows, w, f, v, r, at, k, c) {
             return k;
         }
-        k += 1;
     }
-    k
-}
-
-// The lesser of two numbers.
-pub fn least(a: usize, b: usize) -> usize
-    ensures { result ≡ cond (ltb a b) a b }
-{
-    if a < b {
-        return a;
-    }
-    b
+    most
 }

@@ -1,5 +1,5 @@
 -- Rows copied to a block, one after another. Assumes nothing.
-use mathlib.Core.Path.{◌≡◌, refl, sym, ap, ◌∙◌, subst, fun_ext}
+use mathlib.Core.Path.{◌≡◌, refl, sym, ap, ◌∙◌, fun_ext}
 use mathlib.Core.Logic.{◌⊎◌, inl, inr, ◌≢◌}
 use mathlib.Core.List.{List}
 use Prim.Native.Nat.{ℕ, ◌+◌, ◌*◌, ◌≤◌, ◌<◌}
@@ -14,9 +14,6 @@ use Rattle.grid.specs.Steps.{Grid, put_row, within}
 use Rattle.grid.proofs.Words.{within_in, within_out}
 use Rattle.matrix.proofs.BasisRows.{basis_past, basis_in, basis_less}
 use Rattle.raising.specs.Steps.{Copied}
-
-pub copied_none : (f r c : ℕ) (A : Matrix) → Copied f r 0 c A A
-copied_none f r c A = record { block = λ j t h. absurd (omega arith); before = λ j t h. absurd (omega arith); kept = λ i h. refl }
 
 -- one row more: it is made 0, and its words from f on are copied
 module _ {o t : List ℕ} {rows w f r j c : ℕ} {A B Z : Matrix} {p : ℕ} (past : (i q : ℕ) → 64 * w ≤ q → A i q ≡ t0) (g : Copied f r j c A B) (few : j < 12)
@@ -64,6 +61,3 @@ module _ {o t : List ℕ} {rows w f r j c : ℕ} {A B Z : Matrix} {p : ℕ} (pas
       cleared : (l q : ℕ) → l < j + 1 → q < 64 * f → Dec (l ≡ j) → matrix_at w o t (basis_row r l) q ≡ t0
       cleared l q k m (yes s) = rw s (ap (λ (i : ℕ). matrix_at w o t i q) (sym e) ∙ empty q m)
       cleared l q k m (no s) = ap (λ (v : Vector). v q) (earlier l (omega (arith, s))) ∙ g.before l q (omega (arith, s)) m
-
-pub copied_done : {f r j c : ℕ} {A B : Matrix} → Copied f r j c A B → j ≡ 12 → Copied f r 12 c A B
-copied_done {f} {r} {c = c} {A} {B} g e = subst (λ (n : ℕ). Copied f r n c A B) e g

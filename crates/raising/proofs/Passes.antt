@@ -1,5 +1,5 @@
 -- The last pass, block by block: what is still to be cleared gives the first rows of the result. Assumes nothing.
-use mathlib.Core.Path.{◌≡◌, refl, sym, ap, ap₂, ◌∙◌, subst, fun_ext}
+use mathlib.Core.Path.{◌≡◌, sym, ap, ap₂, ◌∙◌, subst, fun_ext}
 use mathlib.Core.Logic.{◌⊎◌, inl, inr, ◌≢◌}
 use mathlib.Core.Bool.{cond}
 use mathlib.Core.List.{List}
@@ -76,10 +76,6 @@ among_turn {b = b} {e} {i} A j g z l h d =
     grid_to d
     (ap (taken_out b j j j) (g.cells ∙ ap (λ (n : ℕ). risen_from b (e - i) n A) z)
     ∙ among_next b (e - i) j A h ∙ ap (λ (n : ℕ). risen_from b n j A) (omega arith))
-
-pub among_done : {o t : List ℕ} {rows w b j : ℕ} (e : ℕ) (A : Matrix) → Grid o t rows w (risen_from b (e - j) j A) → j ≡ b
-    → Grid o t rows w (risen_from b (e - b) b A)
-among_done {b = b} e A g z = grid_to g (ap (λ (n : ℕ). risen_from b (e - n) n A) z)
 
 -- ---- stretch after stretch
 
@@ -178,9 +174,6 @@ pub record Rising (r e : ℕ) (A B : Matrix) : Type 0 where
   pub todo : (i t : ℕ) → i < r → r ≤ t → raised (range r) r A i t ≡ raised (range r) e B i t
   pub triangular : Triangular e B
   pub kept : (i : ℕ) → r + 243 ≤ i → B i ≡ A i
-
-pub rising_none : (r : ℕ) (A : Matrix) → Triangular r A → Rising r r A A
-rising_none r A d = record { few = omega arith; todo = λ i t h l. refl; triangular = d; kept = λ i h. refl }
 
 pub rising_turn : {r e : ℕ} {A B C : Matrix} (b : ℕ) → Rising r e A B → b ≤ e → AtEnds r b (risen (e - b) b B) B C → Rising r b A C
 rising_turn {r} {e} {A} {B} {C} b g h f = record {

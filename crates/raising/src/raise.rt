@@ -11,9 +11,7 @@ pub fn raise_among(ones: &mut [u64], twos: &mut [u64], rows: usize, w: usize, b:
     requires { ForRaiseAmong ones.old twos.old rows w b e }
     ensures { Grid ones.new twos.new rows w (risen_from b (e - b) b (matrix_at w ones.old twos.old)) }
 {
-    let mut j = e;
-    while b < j {
-        j -= 1;
+    for j in (b..e).rev() {
         elimination::step::clear_rows(ones, twos, rows, w, j / 64, w, j, j, b, j);
     }
 }
@@ -32,12 +30,10 @@ pub fn copy_block(
     ensures rows { Rows ones.new twos.new rows w }
     ensures copied { Copied f r 12 c (matrix_at w ones.old twos.old) (matrix_at w ones.new twos.new) }
 {
-    let mut j = 0;
-    while j < 12 {
+    for j in 0..12 {
         let p = blocks::block_rows::basis_row(r, j);
         grid::one_row::zero_row(ones, twos, rows, w, p);
         grid::sums::copy_words(ones, twos, rows, w, f, w, p, c + j);
-        j += 1;
     }
 }
 
@@ -71,11 +67,8 @@ pub fn raise(ones: &mut [u64], twos: &mut [u64], rows: usize, w: usize, r: usize
     ensures at_ends { AtEnds r 0 (raised (range r) r (matrix_at w ones.old twos.old)) (matrix_at w ones.old twos.old)
         (matrix_at w ones.new twos.new) }
 {
-    let mut e = r;
-    while 12 < e {
-        let b = e - 12;
-        raise_block(ones, twos, rows, w, r, b, e);
-        e = b;
+    for done in (0..r).step_by(12) {
+        let e = r - done;
+        raise_block(ones, twos, rows, w, r, e.saturating_sub(12), e);
     }
-    raise_block(ones, twos, rows, w, r, 0, e);
 }

@@ -1,6 +1,9 @@
 // The sizes of a key, the test of their ranges, and the numbers that they come to.
-ghost use Rattle.std.specs.Prelude.{◌≡◌, true};
+ghost use Rattle.std.specs.Prelude.{◌≡◌, true, false, MatchResult};
+ghost use Rattle.trits.specs.declared.refusal.Refusal.TheVariants.{Size};
 ghost use Rattle.scheme.specs.Sizes.{sizes_fit, shape_of};
+
+use trits::refusal::Refusal;
 
 // n places, k_U and k_V, the gaps g_V and g_U, the weight w.
 #[repr(C)]
@@ -18,37 +21,14 @@ pub struct Sizes {
 pub fn sizes_fit(z: Sizes) -> bool
     ensures { result ≡ sizes_fit z }
 {
-    if z.n < 4 {
-        return false;
-    }
-    if z.n > 16384 {
-        return false;
-    }
-    if z.n % 2 != 0 {
-        return false;
-    }
-    if z.ku < 1 {
-        return false;
-    }
-    if z.ku > z.n / 2 - 1 {
-        return false;
-    }
-    if z.kv < 1 {
-        return false;
-    }
-    if z.kv > z.n / 2 - 1 {
-        return false;
-    }
-    if z.gu > z.ku {
-        return false;
-    }
-    if z.gv > z.kv {
-        return false;
-    }
-    if z.w < 1 {
-        return false;
-    }
-    z.w <= z.n
+    let half = z.n / 2;
+    (4..=16384).contains(&z.n)
+        && z.n % 2 == 0
+        && (1..half).contains(&z.ku)
+        && (1..half).contains(&z.kv)
+        && z.gu <= z.ku
+        && z.gv <= z.kv
+        && (1..=z.n).contains(&z.w)
 }
 
 // N, the words of a row of N trits, and the rows of H_U and of H_V.
@@ -60,16 +40,39 @@ pub struct Shape {
     pub rv: usize,
 }
 
-// The numbers that sizes in their ranges come to.
-pub fn shape_of(z: Sizes) -> Shape
-    requires { sizes_fit z ≡ true }
-    ensures { result ≡ shape_of z }
-{
-    let half = z.n as usize / 2;
-    Shape {
-        half: half,
-        words: (half + 63) / 64,
-        ru: half - z.ku as usize,
-        rv: half - z.kv as usize,
+// Sizes in their ranges.
+#[derive(Clone, Copy)]
+pub struct FittingSizes {
+    pub sizes: Sizes,
+    pub ghost fit: { sizes_fit sizes ≡ true },
+}
+
+// Refused where a size is outside its range, and only there.
+impl TryFrom<Sizes> for FittingSizes {
+    type Error = Refusal;
+
+    ghost try_from_gives = { λ z r. MatchResult r (λ f. f.sizes ≡ z) (λ e. (e ≡ Size) × (sizes_fit z ≡ false)) };
+
+    fn try_from(sizes: Sizes) -> Result<FittingSizes, Refusal> {
+        if !sizes_fit(sizes) {
+            return Err(Refusal::Size);
+        }
+        Ok(FittingSizes { sizes })
+    }
+}
+
+impl FittingSizes {
+    // The numbers that they come to.
+    pub fn shape(self) -> Shape
+        ensures { result ≡ shape_of self.sizes }
+    {
+        let z = self.sizes;
+        let half = z.n as usize / 2;
+        Shape {
+            half,
+            words: half.div_ceil(64),
+            ru: half - z.ku as usize,
+            rv: half - z.kv as usize,
+        }
     }
 }

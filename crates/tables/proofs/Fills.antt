@@ -16,9 +16,6 @@ use Rattle.tables.specs.Tables.{Extended, Table, Tables}
 
 -- ---- the loop over the entries
 
-pub extended_none : (f v z p : ℕ) (A : Matrix) → Extended f v z p 1 A A
-extended_none f v z p A = record { sums = λ a t h l w. absurd (omega arith); kept = λ i h. refl }
-
 -- the next of them becomes a sum
 pub extended_more : {f v z p n : ℕ} {A B C : Matrix} → 0 < p → 0 < n → Extended f v z p n A B
     → C ≡ put_row (z + (p + n)) (within f v (zip_v add_t (B (z + p)) (B (z + n))) (B (z + (p + n)))) B
@@ -48,9 +45,6 @@ extended_more {f} {v} {z} {p} {n} {A} {B} {C} some more s e = record { sums = λ
     by : (i : ℕ) → (i ≤ z + p) ⊎ (z + (p + (n + 1)) ≤ i) → C i ≡ A i
     by i (inl h) = else i (λ g. omega arith) ∙ s.kept i (inl h)
     by i (inr h) = else i (λ g. omega arith) ∙ s.kept i (inr (omega arith))
-
-pub extended_all : {f v z p n : ℕ} {A B : Matrix} (m : ℕ) → n ≡ m → Extended f v z p n A B → Extended f v z p m A B
-extended_all m e s = rw e at s
 
 -- ---- a table, from one entry to three times as many
 

@@ -8,7 +8,7 @@ use lib.Bits.{bit_and, bit_or}
 use Rattle.trits.specs.Trit.{number}
 use Rattle.trits.specs.Planes.{bit, bit_at, trit_at, Row}
 use Rattle.trits.specs.Rows.{matrix_at}
-use Rattle.trits.proofs.Bits.{bit_lt, shr_bit}
+use Rattle.trits.proofs.Bits.{shr_bit}
 use Rattle.trits.proofs.Reading.{bits_within, bits_across, number_at}
 use Rattle.trits.proofs.Put.{low_bit}
 use Rattle.matrix.specs.Linear.{Vector}
@@ -16,10 +16,6 @@ use Rattle.matrix.specs.Blocks.{base3, pow3}
 use Rattle.matrix.proofs.Entries.{base3_lt}
 use Rattle.grid.proofs.Cells.{cell}
 use Rattle.tables.specs.Steps.{Twelve, two_digits, digit_pairs}
-
--- the bit that is read is 0 or 1
-pub read_bit : (w b : ℕ) → bit_and (w / 2 ^ b) 1 < 2
-read_bit w b = omega (arith, low_bit b w, bit_lt b w)
 
 pub number_read : {os ts : List ℕ} (p : ℕ) → Row os ts
     → bit_and (get_or os (p / 64) 0 / 2 ^ (p % 64)) 1 + 2 * bit_and (get_or ts (p / 64) 0 / 2 ^ (p % 64)) 1 ≡ number (trit_at os ts p)

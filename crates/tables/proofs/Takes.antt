@@ -97,9 +97,6 @@ module _ {r c a i : ℕ} {A B : Matrix} (l : i ≤ r) (s : Taken r c a i A B) wh
       by k (inl h) = else k (λ z. omega arith) ∙ s.kept k (inl h)
       by k (inr h) = else k (λ z. omega arith) ∙ s.kept k (inr (omega arith))
 
-pub taken_all : {r c a i : ℕ} {A B : Matrix} (b : ℕ) → i ≡ b → Taken r c a i A B → Taken r c a b A B
-taken_all b e s = rw e at s
-
 -- the tables stay tables
 pub taken_tabled : {f v r c a i : ℕ} {A B : Matrix} → i ≤ r → Taken r c a i A B → Tabled f v r A → Tabled f v r B
 taken_tabled {f} {v} {r} {c} {a} {i} {A} {B} l s t = record {
@@ -109,9 +106,6 @@ taken_tabled {f} {v} {r} {c} {a} {i} {A} {B} l s t = record {
 }
 
 -- ---- the whole
-
-pub cleared_none : (r c a b : ℕ) (A : Matrix) → b ≤ a → Cleared r 12 c a b A A
-cleared_none r c a b A h = record { cleared = λ i l m. absurd (omega arith); kept = λ i l m. refl }
 
 pub cleared_by : {f v r c a b : ℕ} {A B C : Matrix} → b ≤ r → Tables f v r A B → Taken r c a b B C → Cleared r 12 c a b A C
 cleared_by {r = r} {c} {a} {b} {A} {B} {C} l s t = record {

@@ -4,16 +4,18 @@ ghost use Rattle.trits.specs.Trit.{number};
 ghost use Rattle.trits.specs.Planes.{trit_at, Row};
 ghost use Rattle.tables.specs.Steps.{Twelve, digit_pairs};
 
+use trits::Planes;
+
 // The number of the trit at place p, without a branch.
-pub fn number_at(ones: &[u64], twos: &[u64], p: usize) -> usize
-    requires row { Row ones.now twos.now }
-    requires p_bound { p < 64 * length ones.now }
-    ensures { result ≡ number (trit_at ones.now twos.now p) }
+pub fn number_at(m: Planes, p: usize) -> usize
+    requires row { Row m.ones.now m.twos.now }
+    requires p_bound { p < 64 * length m.ones.now }
+    ensures { result ≡ number (trit_at m.entry.ones.now m.entry.twos.now p) }
 {
     let j = p / 64;
     let b = p % 64;
-    let x = (ones[j] >> b & 1) as usize;
-    let y = (twos[j] >> b & 1) as usize;
+    let x = (m.ones[j] >> b & 1) as usize;
+    let y = (m.twos[j] >> b & 1) as usize;
     x + 2 * y
 }
 
@@ -26,9 +28,10 @@ pub fn twelve_from(plane: &[u64], p: usize) -> u64
     let b = p % 64;
     let n = plane[j] >> b;
     if b > 52 {
-        return n | plane[j + 1] << (64 - b);
+        n | plane[j + 1] << (64 - b)
+    } else {
+        n
     }
-    n
 }
 
 // Of the lowest twelve bits the first two of each four, as digits of a number to the base 3: each number in four bits of its own.

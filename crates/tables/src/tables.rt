@@ -24,10 +24,8 @@ pub fn fill_table(
     ensures extended { Extended f v z p (2 * p) (matrix_at w ones.old twos.old) (matrix_at w ones.new twos.new) }
 {
     let n = 2 * p;
-    let mut a = 1;
-    while a < n {
+    for a in 1..n {
         grid::sums::sum_row(ones, twos, rows, w, f, v, z + (p + a), z + p, z + a);
-        a += 1;
     }
 }
 
@@ -127,10 +125,8 @@ pub fn take_rows(
     ensures rows { Rows ones.new twos.new rows w }
     ensures taken { Taken r c a b (matrix_at w ones.old twos.old) (matrix_at w ones.new twos.new) }
 {
-    let mut i = a;
-    while i < b {
+    for i in a..b {
         take_entries(ones, twos, rows, w, f, v, r, c, i);
-        i += 1;
     }
 }
 
@@ -151,7 +147,7 @@ pub fn clear_by_tables(
     ensures rows { Rows ones.new twos.new rows w }
     ensures cleared { Cleared r 12 c a b (matrix_at w ones.old twos.old) (matrix_at w ones.new twos.new) }
 {
-    if b - a == 0 {
+    if a == b {
         return;
     }
     make_tables(ones, twos, rows, w, f, v, r);

@@ -1,4 +1,5 @@
 // A block of 64 words is turned in six stages: a stage of width j exchanges bit j of a row's number with bit j of a column's number.
+// Loops go over indices: both rows of a pair are written, and each stage is a call of its own with its own mask.
 ghost use Rattle.std.specs.Prelude.{◌≡◌, ◌+◌, ◌*◌, length};
 ghost use Rattle.turning.specs.Steps.{ExchangedPairs, Exchanged, Turned, ForExchangeRun, ForExchange};
 
@@ -8,8 +9,7 @@ pub fn exchange_run(block: &mut [u64], t: usize, j: usize, mask: u64)
     ensures { ExchangedPairs j (j * t) (j * t + j) block.old block.new }
 {
     let s = 2 * (j * t);
-    let mut x = 0;
-    while x < j {
+    for x in 0..j {
         let k = s + x;
         let n = k + j;
         let a = block[k];
@@ -17,7 +17,6 @@ pub fn exchange_run(block: &mut [u64], t: usize, j: usize, mask: u64)
         let y = (a >> j ^ b) & mask;
         block[k] = a ^ y << j;
         block[n] = b ^ y;
-        x += 1;
     }
 }
 
@@ -27,10 +26,8 @@ pub fn exchange(block: &mut [u64], j: usize, mask: u64)
     ensures { Exchanged j block.old block.new }
 {
     let n = 32 / j;
-    let mut t = 0;
-    while t < n {
+    for t in 0..n {
         exchange_run(block, t, j, mask);
-        t += 1;
     }
 }
 

@@ -4,35 +4,23 @@ use mathlib.Core.Path.{ap, ◌∙◌}
 use native.Mathlib.Omega.{arith}
 use Rattle.trits.specs.Rows.{matrix_at}
 use Rattle.matrix.specs.Linear.{Vector}
-use Rattle.grid.proofs.Cells.{grid_of, rows_most}
+use Rattle.grid.proofs.Cells.{grid_of}
 use Rattle.matrix.proofs.BasisRows.{basis_past, basis_in}
-use Rattle.blocks.proofs.Bring.{brought_none, bring_block, bring_turn, bring_done}
+use Rattle.blocks.proofs.Bring.{brought_none, bring_block, bring_turn}
 use Rattle.blocks.proofs.block_rows.bring.Goals as goal
 
 pub loop-j-init : goal.loop-j-init
 loop-j-init c =
     let a = c.args in
-    (omega arith, grid_of c.requires.grid (brought_none a.r a.c a.i (matrix_at a.w a.ones.now a.twos.now)))
-
-pub basis_row-p-requires : goal.basis_row-p-requires
-basis_row-p-requires c =
-    record {
-      r_bound = omega (arith, rows_most c.requires.grid (omega arith), c.requires.small, c.requires.room);
-      j_bound = omega (arith, c.requires.few);
-    }
-
-pub overflow_add-c : goal.overflow_add-c
-overflow_add-c c =
-    let p = c.requires in
-    omega (arith, p.narrow, p.columns)
+    grid_of c.requires.grid (brought_none a.r a.c a.i (matrix_at a.w a.ones.now a.twos.now))
 
 pub clear_row-requires : goal.clear_row-requires
 clear_row-requires c =
     let a = c.args in
     let l = c.loop-j in
-    let g = l.invariant.1.rows in
-    let e = c.basis_row-p.ensures in
-    let same = bring_block a.r a.c a.i (matrix_at a.w a.ones.now a.twos.now) l.j l.invariant.1 c.requires.i_in l.j in record {
+    let g = l.invariant.rows in
+    let e = c.basis_row.ensures in
+    let same = bring_block a.r a.c a.i (matrix_at a.w a.ones.now a.twos.now) l.j l.invariant c.requires.i_in l.j in record {
       grid = g;
       small = omega (arith, g.size, c.requires.grid.size);
       width = c.requires.width;
@@ -46,21 +34,5 @@ clear_row-requires c =
 pub loop-j-preserved : goal.loop-j-preserved
 loop-j-preserved c =
     let a = c.args in
-    let l = c.loop-j in (
-      omega arith,
-      bring_turn a.r a.c a.i (matrix_at a.w a.ones.now a.twos.now) l.invariant.1 a.k c.requires.unit (omega arith) c.requires.i_in
-          c.basis_row-p.ensures c.clear_row.ensures,
-    )
-
-pub shape_of-ones : goal.shape_of-ones
-shape_of-ones c =
-    omega (arith, c.loop-j.invariant.1.rows.size, c.requires.grid.size)
-
-pub shape_of-twos : goal.shape_of-twos
-shape_of-twos c =
-    omega (arith, c.loop-j.invariant.1.rows.size, c.requires.grid.size, c.loop-j.invariant.1.rows.row.same, c.requires.grid.row.same)
-
-pub returns : goal.returns
-returns c =
-    let a = c.args in
-    bring_done a.r a.c a.i (matrix_at a.w a.ones.now a.twos.now) c.loop-j.invariant.1 a.k (omega arith)
+    bring_turn a.r a.c a.i (matrix_at a.w a.ones.now a.twos.now) c.loop-j.invariant a.k c.requires.unit (omega arith) c.requires.i_in
+    c.basis_row.ensures c.clear_row.ensures

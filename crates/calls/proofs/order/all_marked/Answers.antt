@@ -1,26 +1,17 @@
--- No flag below i is 0; one that is 0 decides.
+-- Each flag is looked at (`all_flags`).
 -- Assumes nothing.
-use mathlib.Core.Path.{refl}
-use native.Mathlib.Omega.{arith}
-use Rattle.trits.specs.Trit.{any_to}
-use Rattle.calls.proofs.Marks.{clear_found, clear_passed, clear_none}
+use mathlib.Core.Path.{◌∙◌}
+use mathlib.Core.Bool.{not}
+use lib.Dec.{eqb}
+use lib.ListN.{take}
+use Rattle.std.proofs.Common.{rules, tests}
+use Rattle.std.proofs.lemmas.Iterator.{YieldsList-from_slice}
+use Rattle.std.proofs.lemmas.Iterator.Search.{all_from_yields_List}
+use Rattle.calls.proofs.Marks.{all_flags}
 use Rattle.calls.proofs.order.all_marked.Goals as goal
-
-pub loop-i-init : goal.loop-i-init
-unfolding any_to
-loop-i-init c =
-    (omega arith, refl)
-
-pub returns-then-flags-i-eq0 : goal.returns-then-flags-i-eq0
-returns-then-flags-i-eq0 c =
-    clear_found _ _ c.loop-i.i (omega arith) c.if-flags-i-eq0.true
-
-pub loop-i-preserved : goal.loop-i-preserved
-loop-i-preserved c = (
-  omega arith,
-  clear_passed c.args.flags.now c.args.n c.loop-i.i c.loop-i.invariant.1 c.if-flags-i-eq0.false,
-)
 
 pub returns : goal.returns
 returns c =
-    clear_none _ _ c.loop-i.i (omega arith) c.loop-i.invariant.1
+    all_from_yields_List (λ x. not (eqb x 0)) _ _ c.all.result c.all.ensures.ran
+    (YieldsList-from_slice (take c.args.n c.args.flags.now) (cc)) (λ x b q k. search (rules, tests))
+    ∙ all_flags c.args.n c.args.flags.now c.requires

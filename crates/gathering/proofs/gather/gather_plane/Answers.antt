@@ -2,42 +2,29 @@
 -- Assumes nothing.
 use mathlib.Core.Path.{◌≡◌}
 use native.Mathlib.Omega.{arith}
-use Rattle.gathering.proofs.Planes.{plane_none, plane_turn}
+use Rattle.std.specs.Prelude.{min}
+use Rattle.gathering.proofs.Planes.{plane_none, plane_to}
 use Rattle.gathering.proofs.gather.gather_plane.Goals as goal
 
 pub loop-i-init : goal.loop-i-init
 loop-i-init c =
     let a = c.args in
-    (omega arith, plane_none a.w a.r a.h.now a.order.now a.m a.plane.now)
-
-pub gather_rows-requires : goal.gather_rows-requires
-gather_rows-requires c =
-    let l = c.loop-i in
-    let p = c.requires in
-    record {
-      plane_of = record {
-        room = omega (arith, l.invariant.1.kept, p.room);
-        small = omega (arith, l.invariant.1.kept, p.small);
-        front = p.front;
-        places = p.places;
-      };
-      rows = c.end_of-e.ensures;
-    }
-
-pub loop-i-smaller : goal.loop-i-smaller
-loop-i-smaller c =
-    omega (arith, c.end_of-e.ensures)
+    let e : min 0 a.r ≡ 0 = omega arith in
+    rw e (plane_none a.w a.r a.h.now a.order.now a.m a.plane.now)
 
 pub loop-i-preserved : goal.loop-i-preserved
 loop-i-preserved c =
-    (c.end_of-e.ensures.within, plane_turn c.loop-i.invariant.1 c.gather_rows.ensures)
-
-pub shape_of-plane : goal.shape_of-plane
-shape_of-plane c =
-    omega (arith, c.loop-i.invariant.1.kept)
+    let l = c.loop-i in
+    plane_to _ (min l.i c.args.r) l.invariant (omega arith) c.gather_rows.ensures c.end_of.ensures
 
 pub returns : goal.returns
 returns c =
     let l = c.loop-i in
-    let e : l.i ≡ c.args.r = omega arith in
-    rw e at l.invariant.1
+    let e : min l.i c.args.r ≡ c.args.r = omega arith in
+    rw e at l.invariant
+
+-- the last rows
+pub returns-2 : goal.returns-2
+returns-2 c =
+    let l = c.loop-i in
+    plane_to c.args.r (min l.i c.args.r) l.invariant (omega arith) c.gather_rows.ensures (omega (arith, c.end_of.ensures))

@@ -1,12 +1,8 @@
 -- The columns are made first; each turn gathers one word more of each row (`rows_turn`).
 -- Assumes nothing.
-use Prim.Native.Nat.{◌-◌, ◌≤◌}
 use Rattle.gathering.proofs.Planes.{GatheringRows}
 use Rattle.gathering.proofs.gather.gather_rows.Given as goal
 
 abbrev pub invariant-loop-c : goal.invariant-loop-c
 invariant-loop-c l =
-    (l.c ≤ l.w) × GatheringRows l.w l.r l.i l.e l.h l.order l.m l.c l.initial.plane l.plane
-
-abbrev pub decreases-loop-c : goal.decreases-loop-c
-decreases-loop-c l = l.w - l.c
+    GatheringRows l.w l.r l.i l.e l.h l.order l.m l.c l.initial.plane l.plane

@@ -1,37 +1,10 @@
 -- The picked word of each row is made in the working words and stored (`word_gathered`).
 -- Assumes nothing.
 use Prim.Native.Nat.{ℕ, ◌+◌, ◌-◌, ◌*◌, ◌<◌}
-use native.Mathlib.Nat.{mul-le-mul_right}
 use native.Mathlib.Omega.{arith}
 use lib.ListN.{get_or}
-use Rattle.trits.proofs.Parts.{length_mid}
 use Rattle.gathering.proofs.Planes.{word_gathered}
 use Rattle.gathering.proofs.gather.gather_word.Goals as goal
-
-pub turn_pick-requires : goal.turn_pick-requires
-turn_pick-requires c =
-    let a = c.args in
-    let p = c.requires.plane_of in
-    let e = length_mid (a.r * a.w) (a.r * a.w + 243 * a.w - a.r * a.w) a.plane.now (omega (arith, p.room)) in
-    record {
-      room = omega (arith, e, c.requires.column);
-      small = omega (arith, e, p.room, p.small);
-      column = c.requires.column;
-      front = p.front;
-      places = p.places;
-    }
-
-pub store_block-requires : goal.store_block-requires
-store_block-requires c =
-    let a = c.args in
-    let p = c.requires.plane_of in
-    record {
-      begins = omega (arith, c.requires.rows.some);
-      after = omega (arith, mul-le-mul_right {m = a.e} {n = a.r} a.w c.requires.rows.within);
-      room = omega (arith, p.room, c.requires.rows.near, c.requires.column);
-      small = omega (arith, p.small);
-      column = c.requires.column;
-    }
 
 pub returns : goal.returns
 returns c =

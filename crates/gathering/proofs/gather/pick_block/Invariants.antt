@@ -1,6 +1,6 @@
 -- Each turn picks one column more (`patch_more`), and the columns stand before what is written.
 -- Assumes nothing.
-use Prim.Native.Nat.{◌+◌, ◌-◌, ◌*◌, ◌≤◌}
+use Prim.Native.Nat.{◌+◌, ◌*◌}
 use lib.ListN.{get_or}
 use Rattle.trits.proofs.Patches.{Patched}
 use Rattle.gathering.specs.Steps.{picked}
@@ -8,7 +8,4 @@ use Rattle.gathering.proofs.gather.pick_block.Given as goal
 
 abbrev pub invariant-loop-x : goal.invariant-loop-x
 invariant-loop-x l =
-    (l.x ≤ 64) × Patched (λ y. picked (λ q. get_or l.initial.work q 0) l.order l.m (64 * l.c + y)) (64 * l.w) l.x l.initial.work l.work
-
-abbrev pub decreases-loop-x : goal.decreases-loop-x
-decreases-loop-x l = 64 - l.x
+    Patched (λ y. picked (λ q. get_or l.initial.work q 0) l.order l.m (64 * l.c + y)) (64 * l.w) l.x l.initial.work l.work

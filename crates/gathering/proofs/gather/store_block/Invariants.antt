@@ -1,12 +1,8 @@
 -- Each turn stores one word more (`stored_turn`); the block stands after the rows.
 -- Assumes nothing.
-use Prim.Native.Nat.{◌-◌, ◌≤◌}
 use Rattle.gathering.specs.Steps.{Stored}
 use Rattle.gathering.proofs.gather.store_block.Given as goal
 
 abbrev pub invariant-loop-k : goal.invariant-loop-k
 invariant-loop-k l =
-    ((l.i ≤ l.k) × (l.k ≤ l.e)) × Stored l.at l.w l.i l.k l.c l.initial.plane l.plane
-
-abbrev pub decreases-loop-k : goal.decreases-loop-k
-decreases-loop-k l = l.e - l.k
+    Stored l.at l.w l.i l.k l.c l.initial.plane l.plane

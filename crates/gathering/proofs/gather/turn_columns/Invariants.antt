@@ -1,12 +1,8 @@
 -- Each turn makes 64 columns more (`columns_turn`).
 -- Assumes nothing.
-use Prim.Native.Nat.{◌-◌, ◌≤◌}
 use Rattle.gathering.specs.Steps.{Columns}
 use Rattle.gathering.proofs.gather.turn_columns.Given as goal
 
 abbrev pub invariant-loop-c : goal.invariant-loop-c
 invariant-loop-c l =
-    (l.c ≤ l.w) × Columns l.h l.i l.w l.c l.initial.work l.work
-
-abbrev pub decreases-loop-c : goal.decreases-loop-c
-decreases-loop-c l = l.w - l.c
+    Columns l.h l.i l.w l.c l.initial.work l.work

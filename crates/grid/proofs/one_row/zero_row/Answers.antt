@@ -7,36 +7,6 @@ use Rattle.trits.proofs.Matrix.{row_le}
 use Rattle.grid.proofs.RowParts.{zero_grid}
 use Rattle.grid.proofs.one_row.zero_row.Goals as goal
 
-pub overflow_mul-a : goal.overflow_mul-a
-overflow_mul-a c =
-    let a = c.args in
-    omega (arith, row_le a.w {i = a.i} {m = a.rows} c.requires.i_lt_rows, c.requires.rows.size, c.requires.rows.row.same)
-
-pub overflow_add-e : goal.overflow_add-e
-overflow_add-e c =
-    let a = c.args in
-    omega (arith, row_le a.w {i = a.i} {m = a.rows} c.requires.i_lt_rows, c.requires.rows.size, c.requires.rows.row.same)
-
-pub offset_bounds-ones-a : goal.offset_bounds-ones-a
-offset_bounds-ones-a c =
-    let a = c.args in
-    omega (arith, row_le a.w {i = a.i} {m = a.rows} c.requires.i_lt_rows, c.requires.rows.size, c.requires.rows.row.same)
-
-pub slice_bounds-zero_words-end : goal.slice_bounds-zero_words-end
-slice_bounds-zero_words-end c =
-    let a = c.args in
-    omega (arith, row_le a.w {i = a.i} {m = a.rows} c.requires.i_lt_rows, c.requires.rows.size, c.requires.rows.row.same)
-
-pub offset_bounds-twos-a : goal.offset_bounds-twos-a
-offset_bounds-twos-a c =
-    let a = c.args in
-    omega (arith, row_le a.w {i = a.i} {m = a.rows} c.requires.i_lt_rows, c.requires.rows.size, c.requires.rows.row.same)
-
-pub slice_bounds-zero_words-end-2 : goal.slice_bounds-zero_words-end-2
-slice_bounds-zero_words-end-2 c =
-    let a = c.args in
-    omega (arith, row_le a.w {i = a.i} {m = a.rows} c.requires.i_lt_rows, c.requires.rows.size, c.requires.rows.row.same)
-
 pub returns : goal.returns
 returns c =
     let a = c.args in

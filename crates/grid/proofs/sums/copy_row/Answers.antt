@@ -1,30 +1,14 @@
--- Every word of row d becomes that of row i (`Making`).
+-- All words of row d become those of row i (`within_whole`).
 -- Assumes nothing.
-use mathlib.Core.Path.{sym}
-use native.Mathlib.Omega.{arith}
-use Rattle.trits.proofs.Matrix.{row_le}
-use Rattle.grid.proofs.Cells.{cell_past}
-use Rattle.grid.proofs.Words.{making_from, other_word, making_more, made_grid}
+use mathlib.Core.Path.{ap}
+use Rattle.trits.specs.Rows.{matrix_at}
+use Rattle.grid.specs.Steps.{put_row}
+use Rattle.grid.proofs.Cells.{grid_to}
+use Rattle.grid.proofs.Words.{within_whole}
 use Rattle.grid.proofs.sums.copy_row.Goals as goal
-
-pub overflow_mul-at : goal.overflow_mul-at
-overflow_mul-at c = omega (arith, row_le c.args.w {i = c.args.d} {m = c.args.rows} c.requires.i_in, c.requires.grid.size)
-
-pub overflow_mul-from : goal.overflow_mul-from
-overflow_mul-from c = omega (arith, row_le c.args.w {i = c.args.i} {m = c.args.rows} c.requires.j_in, c.requires.grid.size)
-
-pub loop-k-init : goal.loop-k-init
-loop-k-init c = (
-  making_from 0 c.requires.grid c.requires.i_in (λ q h. absurd (omega arith)),
-  omega (arith, row_le c.args.w {i = c.args.i} {m = c.args.rows} c.requires.j_in, c.requires.grid.size),
-)
-
-pub loop-k-preserved : goal.loop-k-preserved
-loop-k-preserved c =
-    let l = c.loop-k.invariant in
-    (making_more l.0 (omega arith) (other_word l.0 c.args.i c.requires.apart (omega arith)), l.1)
 
 pub returns : goal.returns
 returns c =
     let a = c.args in
-    made_grid c.loop-k.invariant.0 (λ q h l. absurd (omega arith)) (λ q h. sym (cell_past a.w a.ones.now a.twos.now a.i q h))
+    let A = matrix_at a.w a.ones.now a.twos.now in
+    grid_to c.copy_words.ensures (ap (λ v. put_row a.d v A) (within_whole a.w a.ones.now a.twos.now a.d a.i))

@@ -1,7 +1,5 @@
--- Each of the words f to v - 1 of row i becomes the masks' difference of it and those of rows a, b and c (`within_more`, `sub_op`).
+-- Each of the words f to v - 1 of row i becomes the difference of it and those of rows a, b and c (`within_more`).
 -- Assumes nothing.
-use Prim.Native.Nat.{◌+◌, ◌-◌, ◌*◌, ◌≤◌}
-use lib.ListN.{length}
 use Rattle.trits.specs.Rows.{matrix_at}
 use Rattle.grid.specs.Steps.{less_three}
 use Rattle.grid.proofs.Words.{MakingWithin}
@@ -11,7 +9,3 @@ abbrev pub invariant-loop-k : goal.invariant-loop-k
 invariant-loop-k l =
     MakingWithin (less_three (matrix_at l.w l.initial.ones l.initial.twos) l.i l.a l.b l.c) l.rows l.w l.f l.v l.i l.k l.initial.ones l.initial.twos l.ones
     l.twos
-    × ((l.a * l.w + l.w ≤ length l.initial.ones) × ((l.b * l.w + l.w ≤ length l.initial.ones) × (l.c * l.w + l.w ≤ length l.initial.ones)))
-
-abbrev pub decreases-loop-k : goal.decreases-loop-k
-decreases-loop-k l = l.v - l.k

@@ -1,7 +1,5 @@
--- Each of the words f to v - 1 of row d becomes the masks' sum of those of rows a and b (`within_more`, `add_op`).
+-- Each of the words f to v - 1 of row d becomes the sum of those of rows a and b (`within_more`).
 -- Assumes nothing.
-use Prim.Native.Nat.{◌+◌, ◌-◌, ◌*◌, ◌≤◌}
-use lib.ListN.{length}
 use Rattle.trits.specs.Trit.{add_t, zip_v}
 use Rattle.trits.specs.Rows.{matrix_at}
 use Rattle.grid.proofs.Words.{MakingWithin}
@@ -11,7 +9,3 @@ abbrev pub invariant-loop-k : goal.invariant-loop-k
 invariant-loop-k l =
     MakingWithin (zip_v add_t (matrix_at l.w l.initial.ones l.initial.twos l.a) (matrix_at l.w l.initial.ones l.initial.twos l.b)) l.rows l.w l.f l.v l.d
     l.k l.initial.ones l.initial.twos l.ones l.twos
-    × ((l.a * l.w + l.w ≤ length l.initial.ones) × (l.b * l.w + l.w ≤ length l.initial.ones))
-
-abbrev pub decreases-loop-k : goal.decreases-loop-k
-decreases-loop-k l = l.v - l.k

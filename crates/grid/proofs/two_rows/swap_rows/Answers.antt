@@ -1,10 +1,7 @@
 -- A row that changes places with itself stays (`swapped_none`); rows exchanged in both planes are exchanged in the matrix (`swapped_grid`).
 -- Assumes nothing.
-use Rattle.grid.proofs.Swaps.{swapped_none, swapped_grid}
+use Rattle.grid.proofs.Swaps.{swapped_grid}
 use Rattle.grid.proofs.two_rows.swap_rows.Goals as goal
-
-pub returns-then-a-b : goal.returns-then-a-b
-returns-then-a-b c = swapped_none c.requires.grid c.if-a-b.true
 
 pub returns : goal.returns
 returns c =

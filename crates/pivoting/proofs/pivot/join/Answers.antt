@@ -1,47 +1,22 @@
 -- Each turn clears one row of the block more (`join_turn`); none of them is the one that joins.
 -- Assumes nothing.
 use Prim.Native.Nat.{◌+◌}
-use mathlib.Core.Path.{◌≡◌, ap, ap₂, ◌∙◌}
+use mathlib.Core.Path.{ap, ap₂, ◌∙◌}
 use native.Mathlib.Omega.{arith}
 use Rattle.trits.specs.Rows.{matrix_at}
 use Rattle.matrix.specs.Linear.{Vector, Matrix}
 use Rattle.grid.specs.Steps.{clear_row}
 use Rattle.matrix.proofs.BasisRows.{basis_in, basis_less}
-use Rattle.grid.proofs.Cells.{rows_most}
-use Rattle.pivoting.proofs.Pivots.{join_none, join_kept, join_turn}
+use Rattle.pivoting.proofs.Pivots.{join_kept, join_turn}
 use Rattle.pivoting.proofs.pivot.join.Goals as goal
-
--- a row of the block is one of the rows
-pub basis_row-p-requires : goal.basis_row-p-requires
-basis_row-p-requires c =
-    record {
-      r_bound = omega (arith, rows_most c.requires.grid (omega (arith, c.requires.column)), c.requires.room, c.requires.small);
-      j_bound = c.requires.few;
-    }
-
-pub loop-j-init : goal.loop-j-init
-loop-j-init c =
-    let a = c.args in
-    (omega arith, c.requires.grid, join_none a.r a.k a.c (matrix_at a.w a.ones.now a.twos.now))
-
-pub basis_row-b-requires : goal.basis_row-b-requires
-basis_row-b-requires c =
-    record {
-      r_bound = omega (arith, rows_most c.requires.grid (omega (arith, c.requires.column)), c.requires.room, c.requires.small);
-      j_bound = omega (arith, c.requires.few);
-    }
-
-pub overflow_add-c : goal.overflow_add-c
-overflow_add-c c =
-    omega (arith, c.requires.column, c.requires.narrow)
 
 pub clear_row-requires : goal.clear_row-requires
 clear_row-requires c =
     let a = c.args in
-    let g = c.loop-j.invariant.1 in
+    let g = c.loop-j.invariant.0 in
     let p = c.basis_row-p.ensures in
     let b = c.basis_row-b.ensures in
-    let same = join_kept c.loop-j.invariant.2 (omega arith) in record {
+    let same = join_kept c.loop-j.invariant.1 (omega arith) in record {
       grid = g;
       small = omega (arith, g.size, c.requires.grid.size, c.requires.small);
       width = c.requires.width;
@@ -57,26 +32,7 @@ loop-j-preserved c =
     let a = c.args in
     let g = c.clear_row.ensures in
     let L : Matrix = matrix_at a.w c.loop-j.ones c.loop-j.twos in (
-      omega arith,
       g.rows,
-      join_turn c.loop-j.invariant.2 (omega arith)
+      join_turn c.loop-j.invariant.1 (omega arith)
           (g.cells ∙ ap₂ (λ p b. clear_row b p (a.c + a.k) L) c.basis_row-p.ensures c.basis_row-b.ensures),
     )
-
-pub shape_of-ones : goal.shape_of-ones
-shape_of-ones c = omega (arith, c.loop-j.invariant.1.size, c.requires.grid.size)
-
-pub shape_of-twos : goal.shape_of-twos
-shape_of-twos c =
-    let g = c.loop-j.invariant.1 in
-    omega (arith, g.size, g.row.same, c.requires.grid.size, c.requires.grid.row.same)
-
-pub returns : goal.returns
-returns c =
-    let a = c.args in
-    let l = c.loop-j in
-    let e : l.j ≡ a.k = omega arith in
-    record {
-      rows = l.invariant.1;
-      joined_rows = rw e at l.invariant.2;
-    }

@@ -1,66 +1,49 @@
 -- What is still to be cleared gives the result, and a block is so many columns of it (`rising_turn`).
 -- Assumes nothing.
-use Prim.Native.Nat.{◌-◌}
-use mathlib.Core.Path.{refl}
-use mathlib.Core.Logic.{inl, inr}
+use Prim.Native.Nat.{ℕ, ◌+◌, ◌-◌, ◌<◌}
+use mathlib.Core.Path.{◌≡◌, subst}
+use mathlib.Core.Logic.{◌⊎◌, inl, inr}
+use native.Mathlib.Decide.{dec_lt}
 use native.Mathlib.Omega.{arith}
 use Rattle.trits.specs.Rows.{matrix_at}
-use Rattle.raising.proofs.Passes.{rising_none, rising_turn, rising_done}
+use Rattle.raising.proofs.Passes.{Rising, rising_turn, rising_done}
 use Rattle.raising.proofs.raise.raise.Goals as goal
 
-pub loop-e-init : goal.loop-e-init
-loop-e-init c =
+-- a block that is not the first has twelve rows
+twelve : (e : ℕ) {b : ℕ} → b ≡ e - 12 → (b ≡ 0) ⊎ (e ≡ b + 12)
+twelve e {b} z = by (dec_lt e 12)
+  where
+    by : Dec (e < 12) → (b ≡ 0) ⊎ (e ≡ b + 12)
+    by (yes h) = inl (omega arith)
+    by (no h) = inr (omega arith)
+
+pub loop-done-preserved : goal.loop-done-preserved
+loop-done-preserved c =
     let a = c.args in
-    (c.requires.grid, rising_none a.r (matrix_at a.w a.ones.now a.twos.now) c.requires.triangular)
-
-pub raise_block-requires : goal.raise_block-requires
-raise_block-requires c =
-    let p = c.requires in
-    let g = c.loop-e.invariant in record {
-      grid = g.0;
-      small = omega (arith, g.0.size, p.grid.size, p.small);
-      room = p.room;
-      columns = omega (arith, g.1.few, p.columns);
-      ordered = omega arith;
-      twelve = inr (omega arith);
-      end = g.1.few;
-      triangular = g.1.triangular;
-    }
-
-pub loop-e-preserved : goal.loop-e-preserved
-loop-e-preserved c =
-    let l = c.loop-e in
+    let l = c.loop-done in
     let d = c.raise_block.ensures in
-    (d.rows, rising_turn (l.e - 12) l.invariant.1 (omega arith) d.at_ends)
-
-pub raise_block-requires-2 : goal.raise_block-requires-2
-raise_block-requires-2 c =
-    let p = c.requires in
-    let g = c.loop-e.invariant in record {
-      grid = g.0;
-      small = omega (arith, g.0.size, p.grid.size, p.small);
-      room = p.room;
-      columns = omega (arith, g.1.few, p.columns);
-      ordered = omega arith;
-      twelve = inl refl;
-      end = g.1.few;
-      triangular = g.1.triangular;
-    }
-
-pub shape_of-ones : goal.shape_of-ones
-shape_of-ones c =
-    omega (arith, c.raise_block-2.ensures.rows.size, c.requires.grid.size)
-
-pub shape_of-twos : goal.shape_of-twos
-shape_of-twos c =
-    let g = c.raise_block-2.ensures.rows in
-    omega (arith, g.size, c.requires.grid.size, g.row.same, c.requires.grid.row.same)
+    let A = matrix_at a.w a.ones.now a.twos.now in
+    let B = matrix_at a.w c.raise_block.new.ones c.raise_block.new.twos in
+    let e : c.saturating_sub.result ≡ a.r - (l.done + 12) = omega arith in
+    (d.rows, subst (λ n. Rising a.r n A B) e (rising_turn c.saturating_sub.result l.invariant.1 (omega arith) d.at_ends))
 
 pub returns : goal.returns
 returns c =
-    let l = c.loop-e in
-    let d = c.raise_block-2.ensures in
+    let a = c.args in
+    let l = c.loop-done in
+    let A = matrix_at a.w a.ones.now a.twos.now in
+    let e : a.r - l.done ≡ 0 = omega arith in
+    record { rows = l.invariant.0; at_ends = rising_done (subst (λ n. Rising a.r n A (matrix_at a.w l.ones l.twos)) e l.invariant.1) }
+
+-- after the last turn
+pub returns-2 : goal.returns-2
+returns-2 c =
+    let d = c.raise_block.ensures in
+    let a = c.args in
+    let A = matrix_at a.w a.ones.now a.twos.now in
+    let B = matrix_at a.w c.raise_block.new.ones c.raise_block.new.twos in
+    let e : c.saturating_sub.result ≡ 0 = omega arith in
     record {
       rows = d.rows;
-      at_ends = rising_done (rising_turn 0 l.invariant.1 (omega arith) d.at_ends);
+      at_ends = rising_done (subst (λ n. Rising a.r n A B) e (rising_turn c.saturating_sub.result c.loop-done.invariant.1 (omega arith) d.at_ends));
     }

@@ -5,13 +5,13 @@ use mathlib.Core.Logic.{inl}
 use native.Mathlib.Omega.{arith}
 use Rattle.trits.specs.Rows.{matrix_at}
 use Rattle.grid.proofs.Cells.{grid_of}
-use Rattle.raising.proofs.Passes.{among_none, among_outside, among_turn, among_done}
+use Rattle.raising.proofs.Passes.{among_none, among_outside, among_turn}
 use Rattle.raising.proofs.raise.raise_among.Goals as goal
 
 pub loop-j-init : goal.loop-j-init
 loop-j-init c =
     let a = c.args in
-    ((c.requires.ordered, omega arith), grid_of c.requires.grid (among_none a.b a.e (matrix_at a.w a.ones.now a.twos.now)))
+    (c.requires.ordered, grid_of c.requires.grid (among_none a.b a.e (matrix_at a.w a.ones.now a.twos.now)))
 
 pub clear_rows-requires : goal.clear_rows-requires
 clear_rows-requires c =
@@ -26,7 +26,7 @@ clear_rows-requires c =
       ordered = omega arith;
       end = omega (arith, c.requires.end);
       beside = inl (omega arith);
-      outside = among_outside (matrix_at a.w a.ones.now a.twos.now) (l.j - 1) l.invariant.1 (omega arith) l.invariant.0.1 (omega arith)
+      outside = among_outside (matrix_at a.w a.ones.now a.twos.now) (l.j - 1) l.invariant.1 (omega arith) (omega arith) (omega arith)
           c.requires.triangular;
     }
 
@@ -34,21 +34,7 @@ pub loop-j-preserved : goal.loop-j-preserved
 loop-j-preserved c =
     let a = c.args in
     let l = c.loop-j in (
-      (omega arith, omega arith),
-      among_turn (matrix_at a.w a.ones.now a.twos.now) (l.j - 1) l.invariant.1 (omega arith) l.invariant.0.1 (omega arith)
+      omega arith,
+      among_turn (matrix_at a.w a.ones.now a.twos.now) (l.j - 1) l.invariant.1 (omega arith) (omega arith) (omega arith)
           c.clear_rows.ensures,
     )
-
-pub shape_of-ones : goal.shape_of-ones
-shape_of-ones c =
-    omega (arith, c.loop-j.invariant.1.rows.size, c.requires.grid.size)
-
-pub shape_of-twos : goal.shape_of-twos
-shape_of-twos c =
-    let g = c.loop-j.invariant.1.rows in
-    omega (arith, g.size, c.requires.grid.size, g.row.same, c.requires.grid.row.same)
-
-pub returns : goal.returns
-returns c =
-    let a = c.args in
-    among_done a.e (matrix_at a.w a.ones.now a.twos.now) c.loop-j.invariant.1 (omega arith)

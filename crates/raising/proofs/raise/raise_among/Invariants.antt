@@ -7,7 +7,4 @@ use Rattle.raising.specs.Steps.{risen_from}
 use Rattle.raising.proofs.raise.raise_among.Given as goal
 
 abbrev pub invariant-loop-j : goal.invariant-loop-j
-invariant-loop-j l = ((l.b ≤ l.j) × (l.j ≤ l.e)) × Grid l.ones l.twos l.rows l.w (risen_from l.b (l.e - l.j) l.j (matrix_at l.w l.initial.ones l.initial.twos))
-
-abbrev pub decreases-loop-j : goal.decreases-loop-j
-decreases-loop-j l = l.j
+invariant-loop-j l = (l.b ≤ l.j) × Grid l.ones l.twos l.rows l.w (risen_from l.b (l.e - l.j) l.j (matrix_at l.w l.initial.ones l.initial.twos))

@@ -7,17 +7,6 @@ use Rattle.grid.proofs.Cells.{cell_past}
 use Rattle.raising.proofs.Passes.{is_twelve, first_ends, block_outside, block_ends}
 use Rattle.raising.proofs.raise.raise_block.Goals as goal
 
-pub raise_among-requires : goal.raise_among-requires
-raise_among-requires c =
-    let p = c.requires in record {
-      grid = p.grid;
-      small = p.small;
-      ordered = p.ordered;
-      end = omega (arith, p.end, p.room);
-      columns = p.columns;
-      triangular = p.triangular;
-    }
-
 pub returns-then-b-eq0 : goal.returns-then-b-eq0
 returns-then-b-eq0 c =
     let a = c.args in
@@ -25,19 +14,7 @@ returns-then-b-eq0 c =
     let g = c.raise_among.ensures in
     record {
       rows = g.rows;
-      at_ends = first_ends a.r a.b a.e ((matrix_at c.args.w c.args.ones.now c.args.twos.now)) g.cells p.triangular p.ordered p.end c.if-b-eq0.true;
-    }
-
-pub copy_block-requires : goal.copy_block-requires
-copy_block-requires c =
-    let p = c.requires in
-    let z = is_twelve p.twelve c.if-b-eq0.false in
-    let g = c.raise_among.ensures.rows in record {
-      grid = g;
-      small = omega (arith, g.size, p.grid.size, p.small);
-      room = p.room;
-      some = omega (arith, p.columns, z);
-      stretch = omega (arith, p.end, z);
+      at_ends = first_ends a.r a.b a.e (matrix_at a.w a.ones.now a.twos.now) g.cells p.triangular p.ordered p.end c.if-b-eq0.true;
     }
 
 pub clear_by_tables-requires : goal.clear_by_tables-requires
@@ -53,7 +30,7 @@ clear_by_tables-requires c =
       end = omega (arith, p.ordered, p.end);
       width = omega arith;
       columns = omega (arith, p.columns, z);
-      outside = block_outside a.r a.b a.e ((matrix_at c.args.w c.args.ones.now c.args.twos.now)) c.raise_among.ensures.cells p.triangular p.ordered p.end z
+      outside = block_outside a.r a.b a.e (matrix_at a.w a.ones.now a.twos.now) c.raise_among.ensures.cells p.triangular p.ordered p.end z
           d.copied
           a.w (cell_past a.w _ _);
     }
@@ -64,6 +41,6 @@ returns c =
     let p = c.requires in
     let f = c.clear_by_tables.ensures in record {
       rows = f.rows;
-      at_ends = block_ends a.r a.b a.e ((matrix_at c.args.w c.args.ones.now c.args.twos.now)) c.raise_among.ensures.cells p.triangular p.ordered p.end
+      at_ends = block_ends a.r a.b a.e (matrix_at a.w a.ones.now a.twos.now) c.raise_among.ensures.cells p.triangular p.ordered p.end
           (is_twelve p.twelve c.if-b-eq0.false) c.copy_block.ensures.copied f.cleared;
     }

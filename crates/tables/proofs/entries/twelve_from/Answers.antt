@@ -10,6 +10,6 @@ returns-then-b-gt52 c =
     let plane = c.args.plane.now in
     twelve_across plane c.args.p (omega arith) (c.type_inv.plane (c.args.p / 64)).fits
 
-pub returns : goal.returns
-returns c =
+pub returns-else-b-gt52 : goal.returns-else-b-gt52
+returns-else-b-gt52 c =
     twelve_within c.args.plane.now c.args.p (omega arith)

@@ -1,6 +1,5 @@
 -- Each turn makes one entry more the sum of entry p and one before it (`extended_more`).
 -- Assumes nothing.
-use Prim.Native.Nat.{◌-◌, ◌≤◌, ◌<◌}
 use Rattle.trits.specs.Rows.{matrix_at}
 use Rattle.grid.specs.Steps.{Rows}
 use Rattle.tables.specs.Tables.{Extended}
@@ -8,8 +7,4 @@ use Rattle.tables.proofs.tables.fill_table.Given as goal
 
 abbrev pub invariant-loop-a : goal.invariant-loop-a
 invariant-loop-a l =
-    ((0 < l.a) × (l.a ≤ l.n))
-    × (Rows l.ones l.twos l.rows l.w × Extended l.f l.v l.z l.p l.a (matrix_at l.w l.initial.ones l.initial.twos) (matrix_at l.w l.ones l.twos))
-
-abbrev pub decreases-loop-a : goal.decreases-loop-a
-decreases-loop-a l = l.n - l.a
+    Rows l.ones l.twos l.rows l.w × Extended l.f l.v l.z l.p l.a (matrix_at l.w l.initial.ones l.initial.twos) (matrix_at l.w l.ones l.twos)

@@ -1,15 +1,16 @@
 -- The tables' entries for the row's trits, taken from it, clear it at the twelve columns (`three_less`).
 -- Assumes nothing.
 use Prim.Native.Nat.{ℕ, ◌+◌, ◌*◌, ◌/◌, ◌%◌, ◌^◌, ◌≤◌, ◌<◌}
+use mathlib.Core.List.{List}
 use mathlib.Core.Path.{◌≡◌, ap, ap₂, ◌∙◌}
 use native.Mathlib.Omega.{arith}
-use lib.ListN.{length}
+use Rattle.trits.specs.Planes.{Row}
 use Rattle.trits.specs.Rows.{matrix_at}
-use Rattle.trits.proofs.Matrix.{row_le}
 use Rattle.matrix.specs.Linear.{Vector, Matrix}
 use Rattle.matrix.specs.Blocks.{base3}
 use Rattle.grid.specs.Steps.{put_row}
 use Rattle.grid.proofs.Cells.{grid_to}
+use Rattle.tables.specs.Steps.{Twelve, digit_pairs}
 use Rattle.tables.proofs.Numbers.{first_entry, second_entry, third_entry, four_lt}
 use Rattle.tables.proofs.Takes.{three_less}
 use Rattle.tables.proofs.tables.take_entries.Goals as goal
@@ -21,128 +22,40 @@ Entry m i k e = (e ≡ base3 (λ j. m i (k + j)) 4) × (e < 81)
 entry_is : (m : Matrix) (i k e : ℕ) → e ≡ base3 (λ j. m i (k + j)) 4 → Entry m i k e
 entry_is m i k e h = (h, omega (arith, four_lt (λ j. m i (k + j))))
 
-pub overflow_mul-p : goal.overflow_mul-p
-overflow_mul-p c =
-    -- the row's words stand within the planes
-    let ends : c.args.i * c.args.w + c.args.w ≤ length c.args.ones.now =
-    let p = c.requires.clears in
-    omega (arith, row_le c.args.w {i = c.args.i} {m = c.args.rows} (omega (arith, p.end, p.room)), p.grid.size) in
-    omega (arith, ends, c.requires.clears.small)
-
-pub overflow_mul-p-2 : goal.overflow_mul-p-2
-overflow_mul-p-2 c =
-    -- the row's words stand within the planes
-    let ends : c.args.i * c.args.w + c.args.w ≤ length c.args.ones.now =
-    let p = c.requires.clears in
-    omega (arith, row_le c.args.w {i = c.args.i} {m = c.args.rows} (omega (arith, p.end, p.room)), p.grid.size) in
-    omega (arith, ends, c.requires.clears.small)
-
-pub overflow_add-p : goal.overflow_add-p
-overflow_add-p c =
-    -- the row's words stand within the planes
-    let ends : c.args.i * c.args.w + c.args.w ≤ length c.args.ones.now =
-    let p = c.requires.clears in
-    omega (arith, row_le c.args.w {i = c.args.i} {m = c.args.rows} (omega (arith, p.end, p.room)), p.grid.size) in
-    omega (arith, ends, c.requires.clears.small, c.requires.clears.columns)
-
-pub twelve_from-x-requires : goal.twelve_from-x-requires
-twelve_from-x-requires c =
-    -- the row's words stand within the planes
-    let ends : c.args.i * c.args.w + c.args.w ≤ length c.args.ones.now =
-    let p = c.requires.clears in
-    omega (arith, row_le c.args.w {i = c.args.i} {m = c.args.rows} (omega (arith, p.end, p.room)), p.grid.size) in
-    omega (arith, ends, c.requires.clears.columns)
-
-pub twelve_from-y-requires : goal.twelve_from-y-requires
-twelve_from-y-requires c =
-    -- the row's words stand within the planes
-    let ends : c.args.i * c.args.w + c.args.w ≤ length c.args.ones.now =
-    let p = c.requires.clears in
-    omega (arith, row_le c.args.w {i = c.args.i} {m = c.args.rows} (omega (arith, p.end, p.room)), p.grid.size) in
-    omega (arith, ends, c.requires.clears.columns, c.requires.clears.grid.row.same)
-
-pub overflow_add-r : goal.overflow_add-r
-overflow_add-r c =
-    let first : Entry (matrix_at c.args.w c.args.ones.now c.args.twos.now) c.args.i c.args.c c.entry-e.result =
-    entry_is (matrix_at c.args.w c.args.ones.now c.args.twos.now) c.args.i c.args.c _ (c.entry-e.ensures
-    ∙ ap₂ (λ (x y : ℕ). x % 16 + 9 * (y % 16)) c.numbers-a.ensures c.numbers-b.ensures
-    ∙ first_entry c.args.w c.requires.clears.grid.row c.args.i c.args.c c.requires.clears.columns c.twelve_from-x.ensures c.twelve_from-y.ensures) in
-    omega (arith, c.ranges.rows, c.requires.clears.room, first.1)
-
-pub overflow_add-g : goal.overflow_add-g
-overflow_add-g c =
-    let second : Entry (matrix_at c.args.w c.args.ones.now c.args.twos.now) c.args.i (c.args.c + 4) c.entry-g.result =
-    entry_is (matrix_at c.args.w c.args.ones.now c.args.twos.now) c.args.i (c.args.c + 4) _ (c.entry-g.ensures
-    ∙ ap₂ (λ (x y : ℕ). x / 2 ^ 4 % 16 + 9 * (y / 2 ^ 4 % 16)) c.numbers-a.ensures c.numbers-b.ensures
-    ∙ second_entry c.args.w c.requires.clears.grid.row c.args.i c.args.c c.requires.clears.columns c.twelve_from-x.ensures c.twelve_from-y.ensures) in
-    omega (arith, second.1)
-
-pub overflow_add-r-2 : goal.overflow_add-r-2
-overflow_add-r-2 c =
-    let second : Entry (matrix_at c.args.w c.args.ones.now c.args.twos.now) c.args.i (c.args.c + 4) c.entry-g.result =
-    entry_is (matrix_at c.args.w c.args.ones.now c.args.twos.now) c.args.i (c.args.c + 4) _ (c.entry-g.ensures
-    ∙ ap₂ (λ (x y : ℕ). x / 2 ^ 4 % 16 + 9 * (y / 2 ^ 4 % 16)) c.numbers-a.ensures c.numbers-b.ensures
-    ∙ second_entry c.args.w c.requires.clears.grid.row c.args.i c.args.c c.requires.clears.columns c.twelve_from-x.ensures c.twelve_from-y.ensures) in
-    omega (arith, c.ranges.rows, c.requires.clears.room, second.1)
-
-pub overflow_add-h : goal.overflow_add-h
-overflow_add-h c =
-    let third : Entry (matrix_at c.args.w c.args.ones.now c.args.twos.now) c.args.i (c.args.c + 8) c.entry-h.result =
-    entry_is (matrix_at c.args.w c.args.ones.now c.args.twos.now) c.args.i (c.args.c + 8) _ (c.entry-h.ensures
-    ∙ ap₂ (λ (x y : ℕ). x / 2 ^ 8 % 16 + 9 * (y / 2 ^ 8 % 16)) c.numbers-a.ensures c.numbers-b.ensures
-    ∙ third_entry c.args.w c.requires.clears.grid.row c.args.i c.args.c c.requires.clears.columns c.twelve_from-x.ensures c.twelve_from-y.ensures) in
-    omega (arith, third.1)
-
-pub overflow_add-r-3 : goal.overflow_add-r-3
-overflow_add-r-3 c =
-    let third : Entry (matrix_at c.args.w c.args.ones.now c.args.twos.now) c.args.i (c.args.c + 8) c.entry-h.result =
-    entry_is (matrix_at c.args.w c.args.ones.now c.args.twos.now) c.args.i (c.args.c + 8) _ (c.entry-h.ensures
-    ∙ ap₂ (λ (x y : ℕ). x / 2 ^ 8 % 16 + 9 * (y / 2 ^ 8 % 16)) c.numbers-a.ensures c.numbers-b.ensures
-    ∙ third_entry c.args.w c.requires.clears.grid.row c.args.i c.args.c c.requires.clears.columns c.twelve_from-x.ensures c.twelve_from-y.ensures) in
-    omega (arith, c.ranges.rows, c.requires.clears.room, third.1)
+-- the twelve bits of both planes make the three entries
+entries : {o t : List ℕ} (w : ℕ) → Row o t → (i c : ℕ) → c + 12 ≤ 64 * w → {x y a b e g h : ℕ} → Twelve o (64 * (i * w) + c) x
+    → Twelve t (64 * (i * w) + c) y → a ≡ digit_pairs x + 2 * digit_pairs y → b ≡ digit_pairs (x / 2 ^ 2) + 2 * digit_pairs (y / 2 ^ 2)
+    → e ≡ a % 16 + 9 * (b % 16) → g ≡ a / 2 ^ 4 % 16 + 9 * (b / 2 ^ 4 % 16) → h ≡ a / 2 ^ 8 % 16 + 9 * (b / 2 ^ 8 % 16)
+    → Entry (matrix_at w o t) i c e × Entry (matrix_at w o t) i (c + 4) g × Entry (matrix_at w o t) i (c + 8) h
+entries {o} {t} w r i c l {e = e} {g} {h} x y a b p q s = (
+  entry_is (matrix_at w o t) i c e (p ∙ ap₂ (λ (m n : ℕ). m % 16 + 9 * (n % 16)) a b ∙ first_entry w r i c l x y),
+  entry_is (matrix_at w o t) i (c + 4) g (q ∙ ap₂ (λ (m n : ℕ). m / 2 ^ 4 % 16 + 9 * (n / 2 ^ 4 % 16)) a b ∙ second_entry w r i c l x y),
+  entry_is (matrix_at w o t) i (c + 8) h (s ∙ ap₂ (λ (m n : ℕ). m / 2 ^ 8 % 16 + 9 * (n / 2 ^ 8 % 16)) a b ∙ third_entry w r i c l x y),
+)
 
 pub sub_three-requires : goal.sub_three-requires
 sub_three-requires c =
-    let first : Entry (matrix_at c.args.w c.args.ones.now c.args.twos.now) c.args.i c.args.c c.entry-e.result =
-    entry_is (matrix_at c.args.w c.args.ones.now c.args.twos.now) c.args.i c.args.c _ (c.entry-e.ensures
-    ∙ ap₂ (λ (x y : ℕ). x % 16 + 9 * (y % 16)) c.numbers-a.ensures c.numbers-b.ensures
-    ∙ first_entry c.args.w c.requires.clears.grid.row c.args.i c.args.c c.requires.clears.columns c.twelve_from-x.ensures c.twelve_from-y.ensures) in
-    let second : Entry (matrix_at c.args.w c.args.ones.now c.args.twos.now) c.args.i (c.args.c + 4) c.entry-g.result =
-    entry_is (matrix_at c.args.w c.args.ones.now c.args.twos.now) c.args.i (c.args.c + 4) _ (c.entry-g.ensures
-    ∙ ap₂ (λ (x y : ℕ). x / 2 ^ 4 % 16 + 9 * (y / 2 ^ 4 % 16)) c.numbers-a.ensures c.numbers-b.ensures
-    ∙ second_entry c.args.w c.requires.clears.grid.row c.args.i c.args.c c.requires.clears.columns c.twelve_from-x.ensures c.twelve_from-y.ensures) in
-    let third : Entry (matrix_at c.args.w c.args.ones.now c.args.twos.now) c.args.i (c.args.c + 8) c.entry-h.result =
-    entry_is (matrix_at c.args.w c.args.ones.now c.args.twos.now) c.args.i (c.args.c + 8) _ (c.entry-h.ensures
-    ∙ ap₂ (λ (x y : ℕ). x / 2 ^ 8 % 16 + 9 * (y / 2 ^ 8 % 16)) c.numbers-a.ensures c.numbers-b.ensures
-    ∙ third_entry c.args.w c.requires.clears.grid.row c.args.i c.args.c c.requires.clears.columns c.twelve_from-x.ensures c.twelve_from-y.ensures) in
+    let p = c.requires.clears in
+    let n = entries c.args.w p.grid.row c.args.i c.args.c p.columns c.twelve_from-x.ensures c.twelve_from-y.ensures c.numbers-a.ensures c.numbers-b.ensures
+    c.entry-e.ensures c.entry-g.ensures c.entry-h.ensures in
     record {
-      grid = c.requires.clears.grid;
-      width = c.requires.clears.width;
-      i_in = omega (arith, c.requires.clears.end, c.requires.clears.room);
-      a_in = omega (arith, first.1, c.requires.clears.room);
-      b_in = omega (arith, second.1, c.requires.clears.room);
-      c_in = omega (arith, third.1, c.requires.clears.room);
-      a_apart = λ z. omega (arith, c.requires.clears.end);
-      b_apart = λ z. omega (arith, c.requires.clears.end);
-      c_apart = λ z. omega (arith, c.requires.clears.end);
+      grid = p.grid;
+      width = p.width;
+      i_in = omega (arith, p.end, p.room);
+      a_in = omega (arith, n.0.1, p.room);
+      b_in = omega (arith, n.1.1, p.room);
+      c_in = omega (arith, n.2.1, p.room);
+      a_apart = λ z. omega (arith, p.end);
+      b_apart = λ z. omega (arith, p.end);
+      c_apart = λ z. omega (arith, p.end);
     }
 
 pub returns : goal.returns
 returns c =
-    let first : Entry (matrix_at c.args.w c.args.ones.now c.args.twos.now) c.args.i c.args.c c.entry-e.result =
-    entry_is (matrix_at c.args.w c.args.ones.now c.args.twos.now) c.args.i c.args.c _ (c.entry-e.ensures
-    ∙ ap₂ (λ (x y : ℕ). x % 16 + 9 * (y % 16)) c.numbers-a.ensures c.numbers-b.ensures
-    ∙ first_entry c.args.w c.requires.clears.grid.row c.args.i c.args.c c.requires.clears.columns c.twelve_from-x.ensures c.twelve_from-y.ensures) in
-    let second : Entry (matrix_at c.args.w c.args.ones.now c.args.twos.now) c.args.i (c.args.c + 4) c.entry-g.result =
-    entry_is (matrix_at c.args.w c.args.ones.now c.args.twos.now) c.args.i (c.args.c + 4) _ (c.entry-g.ensures
-    ∙ ap₂ (λ (x y : ℕ). x / 2 ^ 4 % 16 + 9 * (y / 2 ^ 4 % 16)) c.numbers-a.ensures c.numbers-b.ensures
-    ∙ second_entry c.args.w c.requires.clears.grid.row c.args.i c.args.c c.requires.clears.columns c.twelve_from-x.ensures c.twelve_from-y.ensures) in
-    let third : Entry (matrix_at c.args.w c.args.ones.now c.args.twos.now) c.args.i (c.args.c + 8) c.entry-h.result =
-    entry_is (matrix_at c.args.w c.args.ones.now c.args.twos.now) c.args.i (c.args.c + 8) _ (c.entry-h.ensures
-    ∙ ap₂ (λ (x y : ℕ). x / 2 ^ 8 % 16 + 9 * (y / 2 ^ 8 % 16)) c.numbers-a.ensures c.numbers-b.ensures
-    ∙ third_entry c.args.w c.requires.clears.grid.row c.args.i c.args.c c.requires.clears.columns c.twelve_from-x.ensures c.twelve_from-y.ensures) in
     let a = c.args in
+    let p = c.requires.clears in
+    let n = entries a.w p.grid.row a.i a.c p.columns c.twelve_from-x.ensures c.twelve_from-y.ensures c.numbers-a.ensures c.numbers-b.ensures
+    c.entry-e.ensures c.entry-g.ensures c.entry-h.ensures in
     grid_to c.sub_three.ensures
-    (ap (λ (v : Vector). put_row a.i v ((matrix_at c.args.w c.args.ones.now c.args.twos.now)))
-    (three_less c.requires.tabled first.1 second.1 third.1 a.c a.i first.0 second.0 third.0
-    c.requires.clears.outside))
+    (ap (λ (v : Vector). put_row a.i v (matrix_at a.w a.ones.now a.twos.now))
+    (three_less c.requires.tabled n.0.1 n.1.1 n.2.1 a.c a.i n.0.0 n.1.0 n.2.0 p.outside))

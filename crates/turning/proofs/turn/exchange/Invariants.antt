@@ -1,12 +1,9 @@
 -- Each turn exchanges one run of pairs more (`exchange_join`); the runs are all 32 pairs.
 -- Assumes nothing.
-use Prim.Native.Nat.{◌-◌, ◌*◌, ◌/◌, ◌≤◌}
+use Prim.Native.Nat.{◌*◌}
 use Rattle.turning.specs.Steps.{ExchangedPairs}
 use Rattle.turning.proofs.turn.exchange.Given as goal
 
 abbrev pub invariant-loop-t : goal.invariant-loop-t
 invariant-loop-t l =
-    (l.t ≤ 32 / l.j) × ExchangedPairs l.j 0 (l.j * l.t) l.initial.block l.block
-
-abbrev pub decreases-loop-t : goal.decreases-loop-t
-decreases-loop-t l = 32 / l.j - l.t
+    ExchangedPairs l.j 0 (l.j * l.t) l.initial.block l.block

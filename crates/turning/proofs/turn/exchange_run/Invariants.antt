@@ -1,12 +1,9 @@
 -- Each turn exchanges one pair of rows (`exchange_turn`), which no other turn touches.
 -- Assumes nothing.
-use Prim.Native.Nat.{◌+◌, ◌-◌, ◌*◌, ◌≤◌}
+use Prim.Native.Nat.{◌+◌, ◌*◌}
 use Rattle.turning.specs.Steps.{ExchangedPairs}
 use Rattle.turning.proofs.turn.exchange_run.Given as goal
 
 abbrev pub invariant-loop-x : goal.invariant-loop-x
 invariant-loop-x l =
-    (l.x ≤ l.j) × ExchangedPairs l.j (l.j * l.t) (l.j * l.t + l.x) l.initial.block l.block
-
-abbrev pub decreases-loop-x : goal.decreases-loop-x
-decreases-loop-x l = l.j - l.x
+    ExchangedPairs l.j (l.j * l.t) (l.j * l.t + l.x) l.initial.block l.block

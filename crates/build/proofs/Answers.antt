@@ -1,10 +1,11 @@
 -- The call's answer by its tests, and what is known once they have passed. Assumes nothing.
-use mathlib.Core.Path.{◌≡◌, refl, ◌∙◌}
-use mathlib.Core.Bool.{Bool, true, false, cond, ◌||◌}
+use mathlib.Core.Path.{◌≡◌, refl, ap, ◌∙◌}
+use mathlib.Core.Bool.{Bool, true, false, cond, ◌||◌, or_assoc}
 use mathlib.Core.List.{List}
-use Prim.Native.Nat.{ℕ, ◌*◌}
+use Prim.Native.Nat.{ℕ, ◌+◌, ◌*◌}
 use lib.Dec.{eqb, lit<}
 use lib.ListN.{length}
+use Rattle.std.specs.Int.{div_ceil}
 use Rattle.trits.specs.Planes.{zero_words}
 use Rattle.trits.specs.Refusal.{demand, first, space_exit}
 use Rattle.trits.proofs.Refusals.{passed_first, passed_demand, left_cleared, clears_demand, clears_none}
@@ -14,11 +15,13 @@ use Rattle.matrix.specs.Orders.{Order, is_order}
 use Rattle.matrix.proofs.Orders.{order_test}
 use Rattle.matrix.specs.Linear.{rank, range}
 use Rattle.scheme.specs.declared.sizes.Sizes.{Sizes}
-use Rattle.scheme.specs.Sizes.{places, dim, sizes_fit, half, ru, rv}
+use Rattle.scheme.specs.declared.sizes.Shape.{Shape}
+use Rattle.scheme.specs.Sizes.{places, dim, sizes_fit, half, ru, rv, shape_of}
 use Rattle.scheme.specs.Secret.{Secret}
 use Rattle.scheme.specs.Build.{build_refusal}
 use Rattle.calls.specs.Lent.{secret_of, pair_differs, secret_refusal}
 use Rattle.calls.specs.BuildCall.{BuildCall, key_row_words, build_work_words, key_differs, build_lengths_differ, build_answer, build_answer_under}
+use Rattle.build_release.proofs.Released.{row_words}
 use Rattle.calls.proofs.Secrets.{pair_same, differs, Lengths, secret_lengths, secret_leaves}
 
 -- ---- the answer
@@ -78,6 +81,27 @@ work_ended z s w =
     (clears_demand (eqb (rank (rv z) (half z) s.hv (range (half z))) (rv z)) 10 0 refl clears_none))
 
 -- ---- lengths that do not differ
+
+-- the tests as the code makes them, from the shape of the sizes: each answer is the one before or the next test
+pub key_differs_in_turn : (z : Sizes) {s : Shape} → s ≡ shape_of z → (n p k1 k2 w1 w2 : ℕ) (a b : Bool) {c : Bool}
+    → a ≡ pair_differs (s.half + s.half) n p
+    → b ≡ (a || pair_differs ((z.ku + z.kv) * div_ceil (s.ru + s.rv) 64) k1 k2)
+    → c ≡ (b || pair_differs ((s.ru + s.rv + 243) * (s.words + s.words)) w1 w2)
+    → c ≡ key_differs z n p k1 k2 w1 w2
+unfolding key_differs
+key_differs_in_turn z {s} e n p k1 k2 w1 w2 a b {c} ha hb hc =
+    hc
+    ∙ ap (λ x. x || pair_differs ((s.ru + s.rv + 243) * (s.words + s.words)) w1 w2)
+    (hb ∙ ap (λ x. x || pair_differs ((z.ku + z.kv) * div_ceil (s.ru + s.rv) 64) k1 k2) ha)
+    ∙ ap tests e
+    ∙ ap (λ m. (pair_differs (places z) n p || pair_differs (dim z * m) k1 k2) || pair_differs (build_work_words z) w1 w2)
+    (row_words z {s = shape_of z} refl refl)
+    ∙ or_assoc (pair_differs (places z) n p) (pair_differs (dim z * key_row_words z) k1 k2) (pair_differs (build_work_words z) w1 w2)
+  where
+    tests : Shape → Bool
+    tests s =
+        (pair_differs (s.half + s.half) n p || pair_differs ((z.ku + z.kv) * div_ceil (s.ru + s.rv) 64) k1 k2)
+        || pair_differs ((s.ru + s.rv + 243) * (s.words + s.words)) w1 w2
 
 pub record KeyLengths (z : Sizes) (i j k l m n : ℕ) : Type 0 where
   pub start : i ≡ places z

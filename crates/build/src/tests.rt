@@ -1,89 +1,67 @@
 // The tests of a build's lengths and contents.
-ghost use Rattle.std.specs.Prelude.{◌≡◌, true, ◌||◌};
+ghost use Rattle.std.specs.Prelude.{◌≡◌, ◌||◌, IfOk, length};
 ghost use Rattle.trits.specs.Refusal.{code_of, demand, first};
 ghost use Rattle.matrix.specs.Orders.{is_order};
-ghost use Rattle.scheme.specs.Sizes.{sizes_fit, places};
-ghost use Rattle.calls.specs.Lent.{planes, secret_differs, secret_refusal};
+ghost use Rattle.scheme.specs.Sizes.{places};
+ghost use Rattle.calls.specs.Lent.{planes_of, differs, secret_refusal};
 ghost use Rattle.calls.specs.BuildCall.{key_differs};
+ghost use Rattle.calls.specs.Steps.{Readable};
 ghost use Rattle.build.specs.Steps.{ForTestContentsBuild};
 
+use calls::lent::SecretPlanes;
 use calls::{order, tests};
-use scheme::sizes;
-use scheme::sizes::Sizes;
-use trits::refusal::{Outcome, Refusal};
+use scheme::sizes::{FittingSizes, Shape};
+use trits::Planes;
+use trits::refusal::Refusal;
 
 // Whether a length of the starting order, p, the key or the working space differs from what the sizes say.
-pub fn key_differs(z: Sizes, s: usize, p: usize, k1: usize, k2: usize, w1: usize, w2: usize) -> bool
-    requires { sizes_fit z ≡ true }
-    ensures { result ≡ key_differs z s p k1 k2 w1 w2 }
+pub fn key_differs(z: FittingSizes, start: &[u16], p: &[u16], key: Planes, work: Planes) -> bool
+    ensures { result ≡ key_differs z.sizes (length start.now) (length p.now) (length key.entry.ones.now) (length key.entry.twos.now)
+        (length work.entry.ones.now) (length work.entry.twos.now) }
 {
-    let sh = sizes::shape_of(z);
-    let k = z.ku as usize + z.kv as usize;
-    let rows = sh.ru + sh.rv;
-    if tests::pair_differs(sh.half + sh.half, s, p) {
-        return true;
-    }
-    if tests::pair_differs(k * ((rows + 63) / 64), k1, k2) {
-        return true;
-    }
-    tests::pair_differs((rows + 243) * (sh.words + sh.words), w1, w2)
+    let Shape {
+        half,
+        words,
+        ru,
+        rv,
+    } = z.shape();
+    let k = z.sizes.ku as usize + z.sizes.kv as usize;
+    let rows = ru + rv;
+    tests::pair_differs(half + half, start.len(), p.len())
+        || tests::pair_differs(k * rows.div_ceil(64), key.ones.len(), key.twos.len())
+        || tests::pair_differs(
+            (rows + 243) * (words + words),
+            work.ones.len(),
+            work.twos.len(),
+        )
 }
 
 // Whether a length differs from what the sizes say.
 pub fn lengths_differ(
-    z: Sizes,
-    hu1: usize,
-    hu2: usize,
-    hv1: usize,
-    hv2: usize,
-    b1: usize,
-    b2: usize,
-    c1: usize,
-    c2: usize,
-    s: usize,
-    p: usize,
-    k1: usize,
-    k2: usize,
-    w1: usize,
-    w2: usize,
+    z: FittingSizes,
+    secret: SecretPlanes,
+    start: &[u16],
+    p: &[u16],
+    key: Planes,
+    work: Planes,
 ) -> bool
-    requires { sizes_fit z ≡ true }
-    ensures { result ≡ (secret_differs z hu1 hu2 hv1 hv2 b1 b2 c1 c2 || key_differs z s p k1 k2 w1 w2) }
+    ensures { result ≡ (differs z.sizes (planes_of secret.entry)
+        || key_differs z.sizes (length start.now) (length p.now) (length key.entry.ones.now) (length key.entry.twos.now)
+        (length work.entry.ones.now) (length work.entry.twos.now)) }
 {
-    if tests::secret_differs(z, hu1, hu2, hv1, hv2, b1, b2, c1, c2) {
-        return true;
-    }
-    key_differs(z, s, p, k1, k2, w1, w2)
+    tests::secret_differs(z, secret) || key_differs(z, start, p, key, work)
 }
 
-// The contents, buffer after buffer, of lengths that are right.
-pub fn test_contents(
-    z: Sizes,
-    hu_ones: &[u64],
-    hu_twos: &[u64],
-    hv_ones: &[u64],
-    hv_twos: &[u64],
-    b_ones: &[u64],
-    b_twos: &[u64],
-    c_ones: &[u64],
-    c_twos: &[u64],
-    start: &[u16],
-) -> Outcome
-    requires { ForTestContentsBuild z hu_ones.now hu_twos.now hv_ones.now hv_twos.now b_ones.now b_twos.now
-        c_ones.now c_twos.now start.now }
-    ensures { code_of result ≡ first (secret_refusal z (planes hu_ones.now hu_twos.now hv_ones.now
-        hv_twos.now
-        b_ones.now b_twos.now c_ones.now c_twos.now))
-        (demand (is_order (places z) start.now) 7 0) }
+// The contents, buffer after buffer, of lengths that are right: a secret that passes can be read.
+pub fn test_contents(z: FittingSizes, secret: SecretPlanes, start: &[u16]) -> Result<(), Refusal>
+    requires { ForTestContentsBuild z.sizes (planes_of secret) start.now }
+    ensures refusal { code_of result ≡ first (secret_refusal z.sizes (planes_of secret.entry))
+        (demand (is_order (places z.sizes) start.now) 7 0) }
+    ensures readable { IfOk result (λ _. Readable z.sizes (planes_of secret.entry)) }
 {
-    let secret = tests::test_secret(
-        z, hu_ones, hu_twos, hv_ones, hv_twos, b_ones, b_twos, c_ones, c_twos,
-    );
-    if trits::refusal::code(secret) != 0 {
-        return secret;
+    tests::test_secret(z, secret)?;
+    if !order::is_order(start) {
+        return Err(Refusal::NoPermutation);
     }
-    if order::is_order(start) {
-        return Outcome::Done;
-    }
-    Outcome::Refused(Refusal::NoPermutation)
+    Ok(())
 }

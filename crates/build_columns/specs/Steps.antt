@@ -6,12 +6,16 @@ use Rattle.matrix.specs.Orders.{Order}
 use Rattle.grid.specs.Steps.{Rows}
 use Rattle.gathering.specs.Steps.{GatheredWord, GatheredRows, EndOf}
 use Rattle.build_matrix.specs.Steps.{col_of}
+use Rattle.build_columns.specs.declared.places.Places.{Places}
 
 -- ---- what is made
 
 -- the columns of an order's places
 unfoldable pub columns_of : ℕ → ℕ → List ℕ → List ℕ
 columns_of half hw order = tabulate (λ j. col_of half hw (get_or order j 0)) (length order)
+
+abbrev pub columns_in : Places → List ℕ
+columns_in p = columns_of p.half p.hw p.order.now
 
 -- the first 64 * c words after r rows are the columns of the 64 rows from row i on; no other word is changed
 pub record OwnColumns (w r i c : ℕ) (l₀ l : List ℕ) : Type 0 where

@@ -6,6 +6,9 @@ ghost use Rattle.scheme.specs.Build.{arranged};
 ghost use Rattle.build_matrix.specs.Steps.{placed_at};
 ghost use Rattle.build_key.specs.Steps.{FirstPass, Keyed, ForArrange};
 
+use build_columns::gather_own;
+use build_columns::places::Places;
+
 // The first pass: the order is arranged, and each kept column cleared in the rows below its own.
 pub fn first_pass(
     ones: &mut [u64],
@@ -24,7 +27,7 @@ pub fn first_pass(
         (matrix_at w ones.new twos.new) order.new }
     ensures rows { Rows ones.new twos.new rows w }
 {
-    build_columns::gather_own::gather_own(ones, twos, rows, w, r, half, hw, order);
+    gather_own::gather_own(ones, twos, rows, w, r, Places { order, half, hw });
     arranging::arrange::clear_below(ones, twos, rows, w, r, order);
 }
 

@@ -2,9 +2,12 @@
 use Rattle.std.specs.Prelude.{◌≡◌, ◌&&◌, cond, List, ℕ, ◌+◌, ◌-◌, ◌*◌, ◌/◌, ◌%◌, ◌≤◌, ◌<◌, eqb, leb, ltb, length}
 use Rattle.trits.specs.Trit.{t1, add_t, neg_t, mul_t}
 use Rattle.trits.specs.Rows.{matrix_at}
-use Rattle.trits.specs.Planes.{Row}
+use Rattle.trits.specs.Planes.{trit_at, Row}
+use Rattle.trits.specs.declared.Planes.{Planes}
 use Rattle.matrix.specs.Linear.{Vector, Matrix}
 use Rattle.grid.specs.Steps.{Rows}
+use Rattle.build_matrix.specs.declared.halves.Half.{Half}
+use Rattle.build_matrix.specs.declared.halves.Half.TheVariants.{Scaled, Negative, Same}
 
 -- ---- columns
 
@@ -26,6 +29,22 @@ scaled_by b c h q = mul_t (add_t t1 (mul_t (b q) (c q))) (h q)
 abbrev pub negative_by : Vector → Vector → Vector
 negative_by v h q = neg_t (mul_t (v q) (h q))
 
+-- a half of a row, by what it is made with
+abbrev pub half_of : Half → Vector → Vector
+half_of (Scaled b c) h = scaled_by (trit_at b.ones.now b.twos.now) (trit_at c.ones.now c.twos.now) h
+half_of (Negative v) h = negative_by (trit_at v.ones.now v.twos.now) h
+half_of Same h = h
+
+-- that is rows of w words
+pub record RowOf (x : Planes) (w : ℕ) : Type 0 where
+  pub row : Row x.ones.now x.twos.now
+  pub size : length x.ones.now ≡ w
+
+abbrev pub MadeWith : ℕ → Half → Type 0
+MadeWith w (Scaled b c) = RowOf b w × RowOf c w
+MadeWith w (Negative v) = RowOf v w
+MadeWith w Same = Unit
+
 -- the rows a, a + 1, .. a + m - 1 have the halves of L's and R's rows 0, 1, .. m - 1
 unfoldable pub halves_in : ℕ → ℕ → Matrix → Matrix → Matrix → Matrix
 halves_in a m L R A j q = cond (leb (a + a) j && ltb j (a + m + (a + m))) (cond (eqb (j % 2) 0) (L (j / 2 - a) q) (R (j / 2 - a) q)) (A j q)
@@ -41,28 +60,15 @@ right_u H b i = negative_by b (H i)
 abbrev pub left_v : Matrix → Vector → Matrix
 left_v H c i = negative_by c (H i)
 
--- a grid, H_U, b and c
-pub record ForFillU (ones twos : List ℕ) (rows w ru : ℕ) (ho ht bo bt co ct : List ℕ) : Type 0 where
+-- a grid with room after its first rows, the m rows of H_U or H_V, and what both halves are made with
+pub record ForFill (ones twos : List ℕ) (rows w first m : ℕ) (ho ht : List ℕ) (left right : Half) : Type 0 where
   pub grid : Rows ones twos rows w
-  pub h_grid : Rows ho ht ru w
-  pub b_row : Row bo bt
-  pub c_row : Row co ct
-  pub room : ru + ru ≤ rows
+  pub h_grid : Rows ho ht m w
+  pub left_with : MadeWith w left
+  pub right_with : MadeWith w right
+  pub room : first + m + (first + m) ≤ rows
   pub few : rows ≤ 4294967296
-  pub b_size_here : length bo ≡ w
-  pub c_size_here : length co ≡ w
-  pub h_few : ru ≤ 65536
-  pub narrow : w ≤ 65536
-
--- a grid, H_V and c
-pub record ForFillV (ones twos : List ℕ) (rows w ru rv : ℕ) (ho ht co ct : List ℕ) : Type 0 where
-  pub grid : Rows ones twos rows w
-  pub h_grid : Rows ho ht rv w
-  pub c_row : Row co ct
-  pub room : ru + rv + (ru + rv) ≤ rows
-  pub few : rows ≤ 4294967296
-  pub c_size_here : length co ≡ w
-  pub h_few : rv ≤ 65536
+  pub h_few : m ≤ 65536
   pub narrow : w ≤ 65536
 
 -- a row of H_U, b and c, and room for their product
@@ -83,22 +89,17 @@ pub record ForNegative (ones twos ho ht vo vt : List ℕ) : Type 0 where
   pub twos_size : length ones ≡ length twos
   pub v_size_here : length vo ≡ length ones
 
--- a grid, one of its rows, a row of H_U, b and c
-pub record ForPutScaled (ones twos : List ℕ) (rows w j : ℕ) (ho ht bo bt co ct : List ℕ) : Type 0 where
-  pub grid : Rows ones twos rows w
+-- a row of H_U or H_V, what the half is made with, and room for it
+pub record ForHalf (ones twos ho ht : List ℕ) (half : Half) : Type 0 where
   pub h_row : Row ho ht
-  pub b_row : Row bo bt
-  pub c_row : Row co ct
-  pub j_in : j < rows
-  pub h_size : length ho ≡ w
-  pub b_size_here : length bo ≡ w
-  pub c_size_here : length co ≡ w
+  pub h_size : length ho ≡ length ones
+  pub twos_size : length ones ≡ length twos
+  pub made_with : MadeWith (length ones) half
 
--- a grid, one of its rows, a row of H_V, and a row of values
-pub record ForPutNegative (ones twos : List ℕ) (rows w j : ℕ) (ho ht vo vt : List ℕ) : Type 0 where
+-- a grid, one of its rows, a row of H_U or H_V, and what the half is made with
+pub record ForPutHalf (ones twos : List ℕ) (rows w j : ℕ) (ho ht : List ℕ) (half : Half) : Type 0 where
   pub grid : Rows ones twos rows w
   pub h_row : Row ho ht
-  pub v_row : Row vo vt
   pub j_in : j < rows
   pub h_size : length ho ≡ w
-  pub v_size_here : length vo ≡ w
+  pub made_with : MadeWith w half

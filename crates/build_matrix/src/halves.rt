@@ -1,87 +1,71 @@
 // Half-rows of the secret matrix, made in rows of the working planes.
+// A row that is written stays two slices: it is a stretch of each plane, and of a slice the length and the ranges of words are known with no clause.
 ghost use Rattle.std.specs.Prelude.{◌*◌, length};
 ghost use Rattle.trits.specs.Planes.{trit_at, Reads};
 ghost use Rattle.trits.specs.Rows.{matrix_at};
 ghost use Rattle.grid.specs.Steps.{Grid, put_row};
-ghost use Rattle.build_matrix.specs.Steps.{scaled_by, negative_by, ForScaled, ForNegative, ForPutScaled, ForPutNegative};
+ghost use Rattle.build_matrix.specs.Steps.{scaled_by, negative_by, half_of, ForScaled, ForNegative, ForHalf, ForPutHalf};
+
+use trits::Planes;
+
+// What a half-row is of a row h of H_U or H_V.
+#[derive(Clone, Copy)]
+pub enum Half<'a> {
+    Scaled(Planes<'a>, Planes<'a>), // h times 1 + b·c, of b and c
+    Negative(Planes<'a>), // the negative of h times v, of v
+    Same, // h
+}
 
 // The row becomes h times 1 + b·c: h times b times c, and h added.
-pub fn scaled(
-    ones: &mut [u64],
-    twos: &mut [u64],
-    ho: &[u64],
-    ht: &[u64],
-    bo: &[u64],
-    bt: &[u64],
-    co: &[u64],
-    ct: &[u64],
-)
-    requires { ForScaled ones.old twos.old ho.now ht.now bo.now bt.now co.now ct.now }
+fn scaled(ones: &mut [u64], twos: &mut [u64], h: Planes, b: Planes, c: Planes)
+    requires { ForScaled ones.old twos.old h.ones.now h.twos.now b.ones.now b.twos.now c.ones.now c.twos.now }
     ensures { Reads ones.new twos.new (length ones.old)
-        (scaled_by (trit_at bo.now bt.now) (trit_at co.now ct.now) (trit_at ho.now ht.now)) }
+        (scaled_by (trit_at b.entry.ones.now b.entry.twos.now) (trit_at c.entry.ones.now c.entry.twos.now)
+        (trit_at h.entry.ones.now h.entry.twos.now)) }
 {
-    planes::words::copy_words(ones, ho);
-    planes::words::copy_words(twos, ht);
-    rows::mul_row(ones, twos, bo, bt);
-    rows::mul_row(ones, twos, co, ct);
-    rows::add_row(ones, twos, ho, ht);
+    ones.copy_from_slice(h.ones);
+    twos.copy_from_slice(h.twos);
+    rows::mul_row(ones, twos, b);
+    rows::mul_row(ones, twos, c);
+    rows::add_row(ones, twos, h);
 }
 
 // The row becomes the negative of h times v.
-pub fn negative(ones: &mut [u64], twos: &mut [u64], ho: &[u64], ht: &[u64], vo: &[u64], vt: &[u64])
-    requires { ForNegative ones.old twos.old ho.now ht.now vo.now vt.now }
+fn negative(ones: &mut [u64], twos: &mut [u64], h: Planes, v: Planes)
+    requires { ForNegative ones.old twos.old h.ones.now h.twos.now v.ones.now v.twos.now }
     ensures { Reads ones.new twos.new (length ones.old)
-        (negative_by (trit_at vo.now vt.now) (trit_at ho.now ht.now)) }
+        (negative_by (trit_at v.entry.ones.now v.entry.twos.now) (trit_at h.entry.ones.now h.entry.twos.now)) }
 {
-    planes::words::copy_words(ones, ho);
-    planes::words::copy_words(twos, ht);
-    rows::mul_row(ones, twos, vo, vt);
+    ones.copy_from_slice(h.ones);
+    twos.copy_from_slice(h.twos);
+    rows::mul_row(ones, twos, v);
     rows::negate_row(ones, twos);
 }
 
-// Row j of a matrix becomes h times 1 + b·c.
-pub fn put_scaled(
-    ones: &mut [u64],
-    twos: &mut [u64],
-    rows: usize,
-    w: usize,
-    j: usize,
-    ho: &[u64],
-    ht: &[u64],
-    bo: &[u64],
-    bt: &[u64],
-    co: &[u64],
-    ct: &[u64],
-)
-    requires { ForPutScaled ones.old twos.old rows w j ho.now ht.now bo.now bt.now co.now ct.now }
-    ensures { Grid ones.new twos.new rows w
-        (put_row j (scaled_by (trit_at bo.now bt.now) (trit_at co.now ct.now)
-        (trit_at ho.now ht.now))
-        (matrix_at w ones.old twos.old)) }
-{
-    let a = j * w;
-    let e = a + w;
-    scaled(&mut ones[a..e], &mut twos[a..e], ho, ht, bo, bt, co, ct);
-}
+impl Half<'_> {
+    // The row becomes this half of h.
+    fn make(self, ones: &mut [u64], twos: &mut [u64], h: Planes)
+        requires { ForHalf ones.old twos.old h.ones.now h.twos.now self }
+        ensures { Reads ones.new twos.new (length ones.old) (half_of self.entry (trit_at h.entry.ones.now h.entry.twos.now)) }
+    {
+        match self {
+            Half::Scaled(b, c) => scaled(ones, twos, h, b, c),
+            Half::Negative(v) => negative(ones, twos, h, v),
+            Half::Same => {
+                ones.copy_from_slice(h.ones);
+                twos.copy_from_slice(h.twos);
+            }
+        }
+    }
 
-// Row j becomes the negative of h times v.
-pub fn put_negative(
-    ones: &mut [u64],
-    twos: &mut [u64],
-    rows: usize,
-    w: usize,
-    j: usize,
-    ho: &[u64],
-    ht: &[u64],
-    vo: &[u64],
-    vt: &[u64],
-)
-    requires { ForPutNegative ones.old twos.old rows w j ho.now ht.now vo.now vt.now }
-    ensures { Grid ones.new twos.new rows w
-        (put_row j (negative_by (trit_at vo.now vt.now) (trit_at ho.now ht.now))
-        (matrix_at w ones.old twos.old)) }
-{
-    let a = j * w;
-    let e = a + w;
-    negative(&mut ones[a..e], &mut twos[a..e], ho, ht, vo, vt);
+    // Row j of a matrix becomes this half of h.
+    pub fn put(self, ones: &mut [u64], twos: &mut [u64], rows: usize, w: usize, j: usize, h: Planes)
+        requires { ForPutHalf ones.old twos.old rows w j h.ones.now h.twos.now self }
+        ensures { Grid ones.new twos.new rows w
+            (put_row j (half_of self.entry (trit_at h.entry.ones.now h.entry.twos.now)) (matrix_at w ones.old twos.old)) }
+    {
+        let a = j * w;
+        let e = a + w;
+        self.make(&mut ones[a..e], &mut twos[a..e], h);
+    }
 }

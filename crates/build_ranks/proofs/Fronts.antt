@@ -3,7 +3,7 @@ use mathlib.Core.Path.{◌≡◌, refl, sym, ap, ap₂, ◌∙◌, subst}
 use mathlib.Core.List.{List, ◌++◌}
 use Prim.Native.Nat.{ℕ, ◌+◌, ◌*◌, ◌/◌, ◌%◌, ◌≤◌, ◌<◌}
 use native.Mathlib.Decide.{dec_lt, ℕ_discrete}
-use native.Mathlib.Nat.{mul-le-mul_left, mul-le-mul_right, suc-mul}
+use native.Mathlib.Nat.{mul-le-mul_right, suc-mul}
 use native.Mathlib.Numerals.{add-one}
 use native.Mathlib.Omega.{arith}
 use borrow.Rule.Slice.PartMut.{mid_of}
@@ -30,9 +30,6 @@ put_stretch a row xs h =
     subst (λ (l : List ℕ). Patched (λ j. get_or row j 0) a (length row) xs (take a xs ++ (row ++ l))) (drop-drop (length row) a xs)
     (put_patched a (length row) xs h row refl)
 
-pub fronts_none : (plane : List ℕ) (w v : ℕ) (l : List ℕ) → Fronts plane w v 0 l l
-fronts_none plane w v l = record { kept = refl; words = λ i j h g. absurd (omega arith); rest = λ q h. refl }
-
 -- one row more
 pub fronts_turn : {plane l₀ l l' : List ℕ} {w v k : ℕ} (n : ℕ) → n ≡ v → Fronts plane w v k l₀ l → k * w + v ≤ length plane → k * v + v ≤ length l₀
     → l' ≡ put_words (k * v) l (mid_of (k * w) n plane) → Fronts plane w v (k + 1) l₀ l'
@@ -57,9 +54,6 @@ fronts_turn {plane} {l₀} {l} {l'} {w} {v} {k} n e f hp hl d = record {
     by : (i j : ℕ) → i < k + 1 → j < v → Dec (i ≡ k) → get_or (put_words (k * v) l row) (i * v + j) 0 ≡ get_or plane (i * w + j) 0
     by i j h g (yes z) = rw z (p.new j (omega (arith, size)) ∙ get_d_mid (k * w) n plane (omega arith) j (omega arith))
     by i j h g (no z) = let b : i < k = omega (arith, z) in p.below (i * v + j) (omega (arith, row_le v b)) ∙ f.words i j b g
-
-pub fronts_done : {plane l₀ l : List ℕ} {w v i k : ℕ} → Fronts plane w v i l₀ l → i ≡ k → Fronts plane w v k l₀ l
-fronts_done {plane} {l₀} {l} {w} {v} f e = subst (λ (k : ℕ). Fronts plane w v k l₀ l) e f
 
 -- ---- both planes
 
@@ -93,7 +87,3 @@ module _ {o t o₀ t₀ os ts : List ℕ} {w v r : ℕ} (fo : Fronts o w v r o�
         let lo : length os ≡ rows * v = fo.kept ∙ ap (λ (x : List ℕ). length x) eo ∙ length_zeros (rows * v) in
         let lt : length ts ≡ rows * v = ft.kept ∙ ap (λ (x : List ℕ). length x) et ∙ length_zeros (rows * v) in
         record { row = record { same = lt ∙ sym lo; apart = record { word = λ q. apart q (dec_lt q (r * v)) } }; size = lo }
-
--- a factor of a small product is small
-pub factor_most : (x w m : ℕ) → 0 < w → x * w ≤ m → x ≤ m
-factor_most x w m h l = omega (arith, l, mul-le-mul_left {m = 1} {n = w} x h)

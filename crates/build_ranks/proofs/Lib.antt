@@ -1,4 +1,3 @@
--- The laws: copies, lengths and ranks, and the first words of rows.
-pub mod Copies
+-- The laws: lengths and ranks, and the first words of rows.
 pub mod Lengths
 pub mod Fronts

@@ -1,11 +1,11 @@
 -- The two matrices of a secret ("The secret pairs"). Assumes nothing.
-use Rattle.std.specs.Prelude.{◌≡◌, true, List, ℕ, ◌+◌, ◌*◌, ◌≤◌, ◌<◌, length, get_or}
+use Rattle.std.specs.Prelude.{◌≡◌, List, ℕ, ◌+◌, ◌*◌, ◌≤◌, ◌<◌, length, get_or}
 use Rattle.trits.specs.Rows.{matrix_at}
 use Rattle.matrix.specs.Linear.{zeros}
 use Rattle.grid.specs.Steps.{Rows}
 use Rattle.scheme.specs.declared.sizes.Sizes.{Sizes}
 use Rattle.scheme.specs.Secret.{Secret}
-use Rattle.scheme.specs.Sizes.{sizes_fit, ru, rv}
+use Rattle.scheme.specs.Sizes.{ru, rv}
 use Rattle.calls.specs.Lent.{half_words}
 use Rattle.calls.specs.BuildCall.{build_work_words}
 
@@ -57,9 +57,8 @@ pub record ForRankOf (ones twos : List ℕ) (rows w n : ℕ) (ones_work twos_wor
   pub work_ones : (rows + 243) * w ≤ length ones_work
   pub work_twos : (rows + 243) * w ≤ length twos_work
 
--- sizes that fit, H_U and H_V, and working space
+-- H_U and H_V of these sizes, and working space
 pub record ForTestRanks (z : Sizes) (hu_ones hu_twos hv_ones hv_twos ones_work twos_work : List ℕ) : Type 0 where
-  pub sizes : sizes_fit z ≡ true
   pub hu_grid : Rows hu_ones hu_twos (ru z) (half_words z)
   pub hv_grid : Rows hv_ones hv_twos (rv z) (half_words z)
   pub work_ones : length ones_work ≡ build_work_words z

@@ -20,8 +20,10 @@ use Rattle.matrix.proofs.Rank.{full_reaches}
 use Rattle.grid.specs.Steps.{Rows, Grid}
 use Rattle.grid.proofs.Cells.{grid_to}
 use Rattle.grid.proofs.RowParts.{copied_rows}
+use Rattle.std.specs.Int.{div_ceil}
 use Rattle.scheme.specs.declared.sizes.Sizes.{Sizes}
-use Rattle.scheme.specs.Sizes.{half, places, dim, ru, rv, codim}
+use Rattle.scheme.specs.declared.sizes.Shape.{Shape}
+use Rattle.scheme.specs.Sizes.{half, places, dim, ru, rv, codim, shape_of}
 use Rattle.scheme.specs.Secret.{Secret, secret_matrix}
 use Rattle.scheme.specs.Build.{arranged, row_of_r, key_order, build_refusal}
 use Rattle.scheme_laws.proofs.Pairs.{secret_reaches}
@@ -33,6 +35,10 @@ use Rattle.calls.specs.Lent.{Planes, half_words, secret_of}
 use Rattle.calls.specs.Steps.{Readable}
 use Rattle.calls.specs.BuildCall.{key_row_words, build_work_words, key_ones_of, key_twos_of}
 use Rattle.build_release.specs.Steps.{Filled, rows_of_r}
+
+-- the words of a row of the key, as the code computes them
+pub row_words : (z : Sizes) {s : Shape} {k : ℕ} → s ≡ shape_of z → k ≡ div_ceil (s.ru + s.rv) 64 → k ≡ key_row_words z
+row_words z {s} e d = d ∙ ap (λ (s : Shape). div_ceil (s.ru + s.rv) 64) e ∙ grind arith
 
 -- working planes of 0, as half-rows
 module _ (z : Sizes) {o t : List ℕ} (n k : ℕ) (e : o ≡ zero_words n) (f : t ≡ zero_words k) (a : n ≡ build_work_words z) (b : k ≡ build_work_words z) where

@@ -1,14 +1,14 @@
 -- The work matrix of a build ("Building a key"). Assumes nothing.
-use Rattle.std.specs.Prelude.{◌≡◌, true, List, ℕ, ◌+◌, ◌*◌, ◌≤◌, length}
+use Rattle.std.specs.Prelude.{◌≡◌, List, ℕ, ◌+◌, ◌*◌, ◌≤◌, length}
 use Rattle.trits.specs.Trit.{up_to}
 use Rattle.matrix.specs.Linear.{Matrix, rank, range}
 use Rattle.matrix.specs.Orders.{Order}
 use Rattle.grid.specs.Steps.{Rows}
 use Rattle.scheme.specs.declared.sizes.Sizes.{Sizes}
-use Rattle.scheme.specs.Sizes.{half, codim, sizes_fit, places, dim}
+use Rattle.scheme.specs.Sizes.{half, codim, places, dim}
 use Rattle.scheme.specs.Secret.{Secret, secret_matrix}
 use Rattle.scheme.specs.Build.{row_of_r}
-use Rattle.calls.specs.Lent.{half_words, planes, secret_of}
+use Rattle.calls.specs.Lent.{Planes, half_words, secret_of}
 use Rattle.calls.specs.Steps.{Readable}
 use Rattle.calls.specs.BuildCall.{build_work_words, key_row_words}
 use Rattle.build_matrix.specs.Steps.{placed_at}
@@ -38,22 +38,17 @@ pub record ForMakeKey (ones twos : List ℕ) (r w half hw : ℕ) (order : List �
   pub ones_size : length ko ≡ k * kw
   pub twos_size : length kt ≡ k * kw
 
--- sizes that fit, a secret that was tested, and working space
-pub record ForFillMatrix (z : Sizes) (hu_ones hu_twos hv_ones hv_twos b_ones b_twos c_ones c_twos ones_work twos_work : List ℕ) : Type 0 where
-  pub sizes : sizes_fit z ≡ true
-  pub secret : Readable z (planes hu_ones hu_twos hv_ones hv_twos b_ones b_twos c_ones c_twos)
-  pub work_ones : length ones_work ≡ build_work_words z
-  pub work_twos : length twos_work ≡ build_work_words z
+-- a secret that was tested, and working space
+pub record ForFillMatrix (z : Sizes) (secret : Planes) (work_ones work_twos : List ℕ) : Type 0 where
+  pub readable : Readable z secret
+  pub ones_size : length work_ones ≡ build_work_words z
+  pub twos_size : length work_twos ≡ build_work_words z
 
--- sizes that fit, a secret that was tested and has full rank, an order, and all that the key is written to
-pub record ForRelease (z : Sizes) (hu_ones hu_twos hv_ones hv_twos b_ones b_twos c_ones c_twos start p key_ones key_twos work_ones work_twos : List ℕ) :
-    Type 0 where
-  pub sizes : sizes_fit z ≡ true
-  pub secret : Readable z (planes hu_ones hu_twos hv_ones hv_twos b_ones b_twos c_ones c_twos)
+-- a secret that was tested and has full rank, an order, and all that the key is written to
+pub record ForRelease (z : Sizes) (secret : Planes) (start p key_ones key_twos work_ones work_twos : List ℕ) : Type 0 where
+  pub readable : Readable z secret
   pub is_order : Order (places z) start
-  pub rank_full : rank (codim z) (places z) (secret_matrix z (secret_of z (planes hu_ones hu_twos hv_ones hv_twos b_ones b_twos c_ones c_twos)))
-      (range (places z)) ≡
-      codim z
+  pub rank_full : rank (codim z) (places z) (secret_matrix z (secret_of z secret)) (range (places z)) ≡ codim z
   pub p_size : length p ≡ places z
   pub key_ones_size : length key_ones ≡ dim z * key_row_words z
   pub key_twos_size : length key_twos ≡ dim z * key_row_words z

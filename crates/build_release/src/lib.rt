@@ -1,6 +1,5 @@
 // The key that a secret of full ranks makes.
 #![tactic(auto)]
 
-pub mod order; // the copy of an order
 pub mod make; // the key of a filled work matrix
 pub mod release; // the work matrix, and the key

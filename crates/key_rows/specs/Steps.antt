@@ -54,20 +54,12 @@ pub record ForGroupEnd (i x k : ℕ) : Type 0 where
   pub row : i < k
   pub column : x < 64
 
--- blocks, a word of them, and room for a row
-pub record ForWriteRow (ones twos : List ℕ) (at : ℕ) (ko kt : List ℕ) : Type 0 where
-  pub ones_room : (g : ℕ) → g < length ko → at + 64 * g < length ones
-  pub twos_room : length twos ≡ length ones
-  pub twos_size : length kt ≡ length ko
-
 -- blocks, words of them, and room for rows
-pub record ForWriteGroup (ones twos : List ℕ) (at i e kw : ℕ) (ko kt : List ℕ) : Type 0 where
+pub record ForWriteGroup (plane : List ℕ) (at i e kw : ℕ) (key : List ℕ) : Type 0 where
   pub begins : i ≤ e
-  pub ones_room : (j g : ℕ) → j < e → g < kw → at + (j - i) + 64 * g < length ones
-  pub twos_room : length twos ≡ length ones
+  pub room : (j g : ℕ) → j < e → g < kw → at + (j - i) + 64 * g < length plane
   pub near : at + (e - i) ≤ 4294967296
-  pub ones_size : e * kw ≤ length ko
-  pub twos_size : length kt ≡ length ko
+  pub size : e * kw ≤ length key
 
 -- a grid with working rows after its first r, and room for the key
 pub record ForWriteKey (ones twos : List ℕ) (rows w r k kw : ℕ) (ko kt : List ℕ) : Type 0 where

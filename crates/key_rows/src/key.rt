@@ -1,59 +1,39 @@
 // The key: row i is column r + i of the first r rows, read downwards. The columns of one word are turned together.
-ghost use Rattle.std.specs.Prelude.{◌≡◌, ◌+◌, ◌-◌, ◌*◌, length, get_or};
+ghost use Rattle.std.specs.Prelude.{◌≡◌, ℕ, ◌<◌, ◌+◌, ◌-◌, ◌*◌, length, get_or};
 ghost use Rattle.trits.specs.Rows.{matrix_at};
 ghost use Rattle.key_rows.specs.Steps.{read_down, key_ones, key_twos, each_block, TurnedGroup, GroupEnd, Written};
-ghost use Rattle.key_rows.specs.Steps.{ForTurnGroup, ForGroupEnd, ForWriteRow, ForWriteGroup, ForWriteKey};
+ghost use Rattle.key_rows.specs.Steps.{ForTurnGroup, ForGroupEnd, ForWriteGroup, ForWriteKey};
 
 // The columns of the words c of the first 64 * kw rows go to the words after r rows, a block for each 64 rows.
 pub fn turn_group(plane: &mut [u64], w: usize, r: usize, c: usize, kw: usize)
     requires { ForTurnGroup plane.old w r c kw }
     ensures { TurnedGroup w r c kw plane.old plane.new }
 {
-    let mut g = 0;
-    while g < kw {
+    for g in 0..kw {
         let i = 64 * g;
-        let at = r * w + i;
-        gathering::own::own_block(plane, w, r, i, c, at);
-        g += 1;
+        gathering::own::own_block(plane, w, r, i, c, r * w + i);
     }
 }
 
-// The row writer: it is lent a part that begins at the row's first word, and writes there the words `at` of each block.
-pub fn write_row(ones: &[u64], twos: &[u64], at: usize, ko: &mut [u64], kt: &mut [u64])
-    requires { ForWriteRow ones.now twos.now at ko.old kt.old }
-    ensures ko_after { ko.new ≡ each_block at ones.now (length ko.old) }
-    ensures kt_after { kt.new ≡ each_block at twos.now (length ko.old) }
+// The row writer: it is lent a part of one plane that begins at the row's first word, and writes there the words `at` of each block.
+pub fn write_row(plane: &[u64], at: usize, row: &mut [u64])
+    requires { (g : ℕ) → g < length row.old → at + 64 * g < length plane.now }
+    ensures { row.new ≡ each_block at plane.now (length row.old) }
 {
-    let mut g = 0;
-    while g < ko.len() {
-        let p = at + 64 * g;
-        ko[g] = ones[p];
-        kt[g] = twos[p];
-        g += 1;
+    for g in 0..row.len() {
+        row[g] = plane[at + 64 * g];
     }
 }
 
-// The rows i to e - 1 of the key, from the words `at` on of each block.
-pub fn write_group(
-    ones: &[u64],
-    twos: &[u64],
-    at: usize,
-    i: usize,
-    e: usize,
-    kw: usize,
-    ko: &mut [u64],
-    kt: &mut [u64],
-)
-    requires { ForWriteGroup ones.now twos.now at i e kw ko.old kt.old }
-    ensures written { Written kw i e (λ j g. get_or ones.now (at + (j - i) + 64 * g) 0) ko.old ko.new }
-    ensures written_2 { Written kw i e (λ j g. get_or twos.now (at + (j - i) + 64 * g) 0) kt.old kt.new }
+// The rows i to e - 1 of one plane of the key, from the words `at` on of each block.
+pub fn write_group(plane: &[u64], at: usize, i: usize, e: usize, kw: usize, key: &mut [u64])
+    requires { ForWriteGroup plane.now at i e kw key.old }
+    ensures { Written kw i e (λ j g. get_or plane.now (at + (j - i) + 64 * g) 0) key.old key.new }
 {
-    let mut j = i;
-    while j < e {
+    for j in i..e {
         let a = j * kw;
         let z = a + kw;
-        write_row(ones, twos, at + (j - i), &mut ko[a..z], &mut kt[a..z]);
-        j += 1;
+        write_row(plane, at + (j - i), &mut key[a..z]);
     }
 }
 
@@ -62,10 +42,7 @@ pub fn group_end(i: usize, x: usize, k: usize) -> usize
     requires { ForGroupEnd i x k }
     ensures { GroupEnd i x k result }
 {
-    if k - i < 64 - x {
-        return k;
-    }
-    i + (64 - x)
+    i + (k - i).min(64 - x)
 }
 
 // The k rows of the key, kw words each.
@@ -86,12 +63,14 @@ pub fn write_key(
 {
     let mut i = 0; // the row that comes next
     while i < k {
+        // steps of varying length: no range counts them
         let c = (r + i) / 64;
         let x = (r + i) % 64;
         turn_group(ones, w, r, c, kw);
         turn_group(twos, w, r, c, kw);
         let e = group_end(i, x, k);
-        write_group(ones, twos, r * w + x, i, e, kw, ko, kt);
+        write_group(ones, r * w + x, i, e, kw, ko);
+        write_group(twos, r * w + x, i, e, kw, kt);
         i = e;
     }
 }

@@ -3,22 +3,13 @@ use mathlib.Core.Path.{◌≡◌, sym, ap, ◌∙◌}
 use mathlib.Core.List.{List, [], ◌∷◌, ◌++◌}
 use Prim.Native.Nat.{ℕ, ◌+◌, ◌-◌, ◌%◌, ◌<◌, ◌≤◌}
 use native.Mathlib.Numerals.{add-one}
-use native.Mathlib.Omega.{arith}
 use borrow.Author.Tests.{lt-ltb, le-ltb}
 use lib.ListN.{length, take, set}
-use lib.Seq.{take-suc-set, take_all, length-take-le}
+use lib.Seq.{take-suc-set}
 use Rattle.sign_lines.specs.{following, number_after, packed_after, turned, ring_place, ring_order}
 
 one_more : (l p : List ℕ) (j v w : ℕ) → j < length l → take j l ≡ p → v ≡ w → take (j + 1) (set l j v) ≡ p ++ (w ∷ [])
 one_more l p j v w h e q = ap (λ (k : ℕ). take k (set l j v)) (add-one j) ∙ take-suc-set l j v h ∙ (λ i. e i ++ (q i ∷ []))
-
--- a list whose places are all filled
-pub all_filled : (l p : List ℕ) (j : ℕ) → length l ≤ j → take j l ≡ p → l ≡ p
-all_filled l p j h e = sym (take_all j l h) ∙ e
-
--- a part from the front on
-pub part_length : (k : ℕ) (l : List ℕ) (n : ℕ) → length l ≡ n → k ≤ n → length (take (k - 0) l) ≡ k
-part_length k l n e h = length-take-le (k - 0) l (omega (arith, e)) ∙ omega arith
 
 pub number_next : (j x y : ℕ) → y ≡ number_after j x → following y ≡ number_after (j + 1) x
 unfolding number_after

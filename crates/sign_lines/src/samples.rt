@@ -1,8 +1,11 @@
 // Choices for draws, made up: the same ones on every run.
-ghost use Rattle.std.specs.Prelude.{◌≡◌, ◌+◌, ◌*◌, ◌/◌, ◌%◌, ◌<◌, ◌≤◌, length};
+ghost use Rattle.std.specs.Prelude.{◌≡◌, ◌+◌, ◌*◌, ◌/◌, ◌%◌, ◌<◌, ◌≤◌, MatchResult, length};
+ghost use Rattle.trits.specs.Refusal.{number_of};
 ghost use Rattle.packed.specs.Calls.{unpack_of, unpack_refusal, unpack_ones, unpack_twos};
 ghost use Rattle.sign_lines.specs.{following, number_after, packed_after, turned, ring_order};
 ghost use Rattle.sign_lines.specs.Steps.{ForTurn, ForFillOrder};
+
+use trits::refusal::Refusal;
 
 // The number that follows x in a sequence of numbers below 65,537.
 pub fn next(x: u64) -> u64
@@ -24,46 +27,42 @@ pub fn fill_bytes(bytes: &mut [u8], x: u64) -> u64
     ensures bytes_after { bytes.new ≡ packed_after (length bytes.old) x }
 {
     let mut state = x;
-    let mut j = 0;
-    while j < bytes.len() {
+    for byte in bytes.iter_mut() {
         state = next(state);
-        bytes[j] = packed(state);
-        j += 1;
+        *byte = packed(state);
     }
     state
 }
 
-// What became of a row: the number of a refusal, or 0; and the last number of the sequence.
-#[derive(Clone, Copy)]
-pub struct Filled {
-    pub refusal: u64,
-    pub last: u64,
-}
-
-// A row of m trits, unpacked from such bytes.
-fn unpack_row(m: usize, x: u64, bytes: &mut [u8], ones: &mut [u64], twos: &mut [u64]) -> Filled
+// A row of m trits, unpacked from such bytes; the answer is the last number of the sequence.
+fn unpack_row(
+    m: usize,
+    x: u64,
+    bytes: &mut [u8],
+    ones: &mut [u64],
+    twos: &mut [u64],
+) -> Result<u64, Refusal>
     ensures { let c = unpack_of m (packed_after (length bytes.old) x) ones.old twos.old in
-        (result.refusal ≡ unpack_refusal c) × (result.last ≡ number_after (length bytes.old) x)
+        MatchResult result (λ last. (unpack_refusal c ≡ 0) × (last ≡ number_after (length bytes.old) x))
+        (λ refusal. unpack_refusal c ≡ number_of refusal)
         × (ones.new ≡ unpack_ones c) × (twos.new ≡ unpack_twos c) }
 {
     let last = fill_bytes(bytes, x);
-    let outcome = packing::unpack(m, bytes, ones, twos);
-    Filled {
-        refusal: trits::refusal::code(outcome),
-        last: last,
-    }
+    packing::unpack(m, bytes, ones, twos)?;
+    Ok(last)
 }
 
 // The same with bytes of its own.
-pub fn fill_row(m: usize, x: u64, ones: &mut [u64], twos: &mut [u64]) -> Filled
+pub fn fill_row(m: usize, x: u64, ones: &mut [u64], twos: &mut [u64]) -> Result<u64, Refusal>
     requires { m ≤ 16384 }
     ensures { let c = unpack_of m (packed_after ((m + 4) / 5) x) ones.old twos.old in
-        (result.refusal ≡ unpack_refusal c) × (result.last ≡ number_after ((m + 4) / 5) x)
+        MatchResult result (λ last. (unpack_refusal c ≡ 0) × (last ≡ number_after ((m + 4) / 5) x))
+        (λ refusal. unpack_refusal c ≡ number_of refusal)
         × (ones.new ≡ unpack_ones c) × (twos.new ≡ unpack_twos c) }
 {
-    let b = (m + 4) / 5;
+    let b = m.div_ceil(5);
     let mut bytes = [0u8; 3277];
-    unpack_row(m, x, &mut bytes[0..b], ones, twos)
+    unpack_row(m, x, &mut bytes[..b], ones, twos)
 }
 
 // The place a further on, of n places in a ring.
@@ -72,10 +71,7 @@ fn turn(q: usize, a: usize, n: usize) -> usize
     ensures value { result ≡ turned n a q }
     ensures upper_bound { result < n }
 {
-    if q + a < n {
-        return q + a;
-    }
-    q + a - n
+    if q + a < n { q + a } else { q + a - n }
 }
 
 // The order whose place j is b + a j in a ring of as many places.
@@ -85,11 +81,9 @@ pub fn fill_order(order: &mut [u16], a: usize, b: usize)
 {
     let n = order.len();
     let mut q = b;
-    let mut j = 0;
-    while j < n {
-        order[j] = place(q);
+    for item in order.iter_mut() {
+        *item = place(q);
         q = turn(q, a, n);
-        j += 1;
     }
 }
 

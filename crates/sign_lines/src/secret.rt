@@ -1,40 +1,77 @@
-// A secret at n = 64, k_U = 16, k_V = 10, a starting order, and a syndrome: made up, and kept for no other use.
-pub const HU_ONES: [u64; 16] = [
+// Sizes with two gaps and a weight, a secret of them, a starting order, and a syndrome: made up, and kept for no other use.
+use calls::lent::SecretPlanes;
+use scheme::sizes::Sizes;
+use trits::Planes;
+
+pub const SIZES: Sizes = Sizes {
+    n: 64,
+    ku: 16,
+    kv: 10,
+    gv: 2,
+    gu: 2,
+    w: 52,
+};
+
+pub const SECRET: SecretPlanes<'static> = SecretPlanes {
+    hu: Planes {
+        ones: &HU_ONES,
+        twos: &HU_TWOS,
+    },
+    hv: Planes {
+        ones: &HV_ONES,
+        twos: &HV_TWOS,
+    },
+    b: Planes {
+        ones: &B_ONES,
+        twos: &B_TWOS,
+    },
+    c: Planes {
+        ones: &C_ONES,
+        twos: &C_TWOS,
+    },
+};
+
+pub const Y: Planes<'static> = Planes {
+    ones: &Y_ONES,
+    twos: &Y_TWOS,
+};
+
+const HU_ONES: [u64; 16] = [
     8782353, 68510401, 628621889, 1619027776, 3714123996, 3267363152, 430674208, 1558712870,
     192679198, 36184648, 353844165, 1078994948, 1968276552, 3532669712, 1370558612, 391299081,
 ];
 
-pub const HU_TWOS: [u64; 16] = [
+const HU_TWOS: [u64; 16] = [
     2702208108, 2150274052, 8697892, 2507378824, 9204225, 404699299, 2252343305, 571894792,
     872538176, 2106804386, 3806380048, 2300761123, 134744720, 623452228, 642040930, 546057424,
 ];
 
-pub const HV_ONES: [u64; 22] = [
+const HV_ONES: [u64; 22] = [
     36192466, 563259509, 2703265000, 2768511792, 820187301, 2334950690, 1335952576, 285902342,
     362548528, 59117712, 1142036679, 2412888080, 2152221062, 15140905, 1344190598, 2445643784,
     17306118, 78737488, 2409103628, 278139301, 3791658629, 72172372,
 ];
 
-pub const HV_TWOS: [u64; 22] = [
+const HV_TWOS: [u64; 22] = [
     4177597445, 1516786314, 1339921, 147000455, 3357075466, 1615929345, 2417816091, 1614043425,
     3254968330, 3964243759, 3089433656, 1075979075, 1267012209, 4228920210, 257950257, 135399318,
     3804389881, 2722925999, 1080409331, 2823359040, 144826682, 1535292586,
 ];
 
-pub const B_ONES: [u64; 1] = [2906171480];
+const B_ONES: [u64; 1] = [2906171480];
 
-pub const B_TWOS: [u64; 1] = [1342588834];
+const B_TWOS: [u64; 1] = [1342588834];
 
-pub const C_ONES: [u64; 1] = [2057416637];
+const C_ONES: [u64; 1] = [2057416637];
 
-pub const C_TWOS: [u64; 1] = [2237550658];
+const C_TWOS: [u64; 1] = [2237550658];
+
+const Y_ONES: [u64; 1] = [96436083947];
+
+const Y_TWOS: [u64; 1] = [39198736];
 
 pub const START: [u16; 64] = [
     53, 10, 14, 21, 18, 5, 3, 40, 35, 56, 26, 57, 42, 9, 6, 4, 24, 44, 39, 25, 37, 15, 45, 31, 1,
     38, 17, 43, 52, 47, 19, 54, 8, 0, 46, 58, 20, 59, 11, 27, 61, 33, 12, 30, 23, 16, 55, 48, 50,
     60, 41, 51, 32, 7, 2, 34, 28, 62, 63, 49, 13, 22, 29, 36,
 ];
-
-pub const Y_ONES: [u64; 1] = [96436083947];
-
-pub const Y_TWOS: [u64; 1] = [39198736];

@@ -5,9 +5,6 @@ use Rattle.build_matrix.specs.Steps.{placed_at}
 use Rattle.build_key.proofs.BothPasses.{first_triangular, key_left}
 use Rattle.build_key.proofs.arrange.arrange.Goals as goal
 
-pub first_pass-requires : goal.first_pass-requires
-first_pass-requires c = c.requires
-
 pub raise-requires : goal.raise-requires
 raise-requires c =
     let g = c.first_pass.ensures.rows in
@@ -26,7 +23,7 @@ returns c =
     let g = c.raise.ensures in
     record {
       order_after = e.order_after;
-      keyed = key_left a.r ((placed_at c.args.half c.args.hw c.args.w c.args.ones.now c.args.twos.now)) a.order.now c.requires.is_order c.requires.rank_full
+      keyed = key_left a.r (placed_at a.half a.hw a.w a.ones.now a.twos.now) a.order.now c.requires.is_order c.requires.rank_full
           e.order_after e.first_pass g.at_ends;
       rows = g.rows;
     }

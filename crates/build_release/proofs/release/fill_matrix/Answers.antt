@@ -1,77 +1,49 @@
 -- The half-rows of U and then those of V are the secret matrix (`filled_done`).
 -- Assumes nothing.
 use native.Mathlib.Omega.{arith}
-use Rattle.calls.specs.Lent.{planes}
-use Rattle.calls.proofs.Bounds.{Bounds, bounds}
+use Rattle.calls.specs.Lent.{planes_of}
+use Rattle.calls.proofs.Bounds.{bounds}
 use Rattle.build_release.proofs.Released.{zero_rows, zero_cells, filled_done}
 use Rattle.build_release.proofs.release.fill_matrix.Goals as goal
 
-pub overflow_add-m : goal.overflow_add-m
-overflow_add-m c =
-    -- the sizes are in their ranges
-    let within : Bounds c.args.z =
-    bounds c.args.z c.requires.sizes in
-    rw c.shape_of-s.ensures (omega (arith, (within).high))
-
-pub overflow_add-m-2 : goal.overflow_add-m-2
-overflow_add-m-2 c =
-    -- the sizes are in their ranges
-    let within : Bounds c.args.z =
-    bounds c.args.z c.requires.sizes in
-    rw c.shape_of-s.ensures (omega (arith, (within).high))
-
-pub overflow_add-rows : goal.overflow_add-rows
-overflow_add-rows c =
-    -- the sizes are in their ranges
-    let within : Bounds c.args.z =
-    bounds c.args.z c.requires.sizes in
-    rw c.shape_of-s.ensures (omega (arith, (within).high))
-
-pub fill_u-requires : goal.fill_u-requires
-fill_u-requires c =
-    -- the sizes are in their ranges
-    let within : Bounds c.args.z =
-    bounds c.args.z c.requires.sizes in
-    let b = within in
-    let r = c.requires.secret in
-    rw c.shape_of-s.ensures (record {
-      grid = zero_rows c.args.z _ _ c.zero_words.ensures c.zero_words-2.ensures c.requires.work_ones
-          c.requires.work_twos;
+pub fill-requires : goal.fill-requires
+fill-requires c =
+    let z = c.args.z in
+    let b = bounds z.sizes z.fit in
+    let q = c.requires in
+    let r = q.readable in
+    rw c.shape-words.ensures (record {
+      grid = zero_rows z.sizes _ _ c.zero_words.ensures c.zero_words-2.ensures q.ones_size q.twos_size;
       h_grid = r.hu;
-      b_row = r.b;
-      c_row = r.c;
+      left_with = (record { row = r.b; size = r.b_size }, record { row = r.c; size = r.c_size });
+      right_with = record { row = r.b; size = r.b_size };
       room = omega arith;
       few = omega (arith, b.high);
-      b_size_here = r.b_size;
-      c_size_here = r.c_size;
       h_few = omega (arith, b.high);
       narrow = omega (arith, b.high);
     })
 
-pub fill_v-requires : goal.fill_v-requires
-fill_v-requires c =
-    -- the sizes are in their ranges
-    let within : Bounds c.args.z =
-    bounds c.args.z c.requires.sizes in
-    let b = within in
-    let r = c.requires.secret in
-    let e = c.shape_of-s.ensures in
+pub fill-requires-2 : goal.fill-requires-2
+fill-requires-2 c =
+    let z = c.args.z in
+    let b = bounds z.sizes z.fit in
+    let r = c.requires.readable in
+    let e = c.shape-words.ensures in
     rw e (record {
-      grid = (rw e at c.fill_u.ensures).rows;
+      grid = (rw e at c.fill.ensures).rows;
       h_grid = r.hv;
-      c_row = r.c;
+      left_with = record { row = r.c; size = r.c_size };
+      right_with = tt;
       room = omega arith;
       few = omega (arith, b.high);
-      c_size_here = r.c_size;
       h_few = omega (arith, b.high);
       narrow = omega (arith, b.high);
     })
 
 pub returns : goal.returns
 returns c =
-    let a = c.args in
-    let e = c.shape_of-s.ensures in
-    filled_done a.z (planes a.hu_ones.now a.hu_twos.now a.hv_ones.now a.hv_twos.now a.b_ones.now a.b_twos.now a.c_ones.now
-    a.c_twos.now) _
-    (zero_cells a.z _ _ c.zero_words.ensures c.zero_words-2.ensures
-    c.requires.work_ones c.requires.work_twos) c.requires.secret (rw e at c.fill_u.ensures) (rw e at c.fill_v.ensures)
+    let z = c.args.z.sizes in
+    let q = c.requires in
+    let e = c.shape-words.ensures in
+    filled_done z (planes_of c.args.secret) _ (zero_cells z _ _ c.zero_words.ensures c.zero_words-2.ensures q.ones_size q.twos_size) q.readable
+    (rw e at c.fill.ensures) (rw e at c.fill-2.ensures)

@@ -8,7 +8,9 @@ ghost use Rattle.draw_half.specs.Steps.{word_v, word_u, half_word, marked, compl
 ghost use Rattle.draw_half.specs.Steps.{ForMark, ForComplete, ForSolveHalf, ForDrawV, ForDrawU};
 
 use super::first;
+use super::lent::{Half, HalfRows};
 use draw_walk::{parts, walk};
+use trits::Planes;
 
 // Where there are further places than m, row t has 1 at column m.
 pub fn mark(ones: &mut [u64], twos: &mut [u64], rows: usize, w: usize, m: usize, n: usize, t: usize)
@@ -16,10 +18,9 @@ pub fn mark(ones: &mut [u64], twos: &mut [u64], rows: usize, w: usize, m: usize,
     ensures { Grid ones.new twos.new rows w
         (put_row t (marked m n (matrix_at w ones.old twos.old t)) (matrix_at w ones.old twos.old)) }
 {
-    if m >= n {
-        return;
+    if m < n {
+        grid::places::put_at(ones, twos, rows, w, t, m, 1);
     }
-    grid::places::put_at(ones, twos, rows, w, t, m, 1);
 }
 
 // Row e, which holds the last part of x less the word, becomes the word: the first part is made by position in row t and placed back, and all is taken from x.
@@ -28,21 +29,21 @@ pub fn complete(
     twos: &mut [u64],
     rows: usize,
     w: usize,
-    r: usize,
-    order: &[u16],
-    m: usize,
-    vo: &[u64],
-    vt: &[u64],
-    x: usize,
-    t: usize,
-    e: usize,
+    half: Half,
+    v: Planes,
+    at: HalfRows,
 )
-    requires { ForComplete ones.old twos.old rows w r order.now m vo.now vt.now x t e }
-    ensures { Grid ones.new twos.new rows w
-        (completed (64 * w) r order.now m (trit_at vo.now vt.now) x t e
+    requires { ForComplete ones.old twos.old rows w half.r half.order.now (half.r + half.gap) v.ones.now v.twos.now at.x at.t at.e }
+    ensures { let d = half.entry in
+        Grid ones.new twos.new rows w
+        (completed (64 * w) d.r d.order.now (d.r + d.gap)
+        (trit_at v.entry.ones.now v.entry.twos.now) at.x at.t at.e
         (matrix_at w ones.old twos.old)) }
 {
-    walk::supply(ones, twos, rows, w, r, order, m, vo, vt, x, t);
+    let Half { r, order, gap, .. } = half;
+    let HalfRows { x, t, e } = at;
+    let m = r + gap;
+    walk::supply(ones, twos, rows, w, r, order, m, v, x, t);
     mark(ones, twos, rows, w, m, order.len(), t);
     walk::solve_pivots(ones, twos, rows, w, r, m, t);
     parts::place_back(ones, twos, rows, w, order, m, t, e);
@@ -55,30 +56,26 @@ pub fn solve_half(
     twos: &mut [u64],
     rows: usize,
     w: usize,
-    r: usize,
-    ho: &[u64],
-    ht: &[u64],
-    order: &[u16],
-    m: usize,
-    vo: &[u64],
-    vt: &[u64],
-    x: usize,
-    t: usize,
-    e: usize,
+    half: Half,
+    v: Planes,
+    at: HalfRows,
 ) -> bool
-    requires { ForSolveHalf ones.old twos.old rows w r ho.now ht.now order.now m vo.now vt.now x t e }
-    ensures value { result ≡ eqb (rank r (length order.now) (matrix_at w ho.now ht.now) (take m order.now)) r }
+    requires { ForSolveHalf ones.old twos.old rows w half.r half.h.ones.now half.h.twos.now half.order.now (half.r + half.gap)
+        v.ones.now v.twos.now at.x at.t at.e }
+    ensures value { let d = half.entry in let H = matrix_at w d.h.ones.now d.h.twos.now in
+        result ≡ eqb (rank d.r (length d.order.now) H (take (d.r + d.gap) d.order.now)) d.r }
     ensures rows { Rows ones.new twos.new rows w }
-    ensures solved_where { SolvedWhere result r t e (matrix_at w ones.old twos.old) (matrix_at w ones.new twos.new)
-        (half_word r (length order.now) (matrix_at w ho.now ht.now) order.now m
-        (trit_at vo.now vt.now)
-        (matrix_at w ones.old twos.old e) (matrix_at w ones.old twos.old x)) }
+    ensures solved_where { let d = half.entry in let H = matrix_at w d.h.ones.now d.h.twos.now in
+        SolvedWhere result d.r at.t at.e (matrix_at w ones.old twos.old) (matrix_at w ones.new twos.new)
+        (half_word d.r (length d.order.now) H d.order.now (d.r + d.gap) (trit_at v.entry.ones.now v.entry.twos.now)
+        (matrix_at w ones.old twos.old at.e) (matrix_at w ones.old twos.old at.x)) }
 {
-    parts::take_last(ones, twos, rows, w, order, m, x, e);
-    if first::lower_first(ones, twos, rows, w, r, ho, ht, order, m, e) != r {
+    let m = half.r + half.gap;
+    parts::take_last(ones, twos, rows, w, half.order, m, at.x, at.e);
+    if first::lower_first(ones, twos, rows, w, half, at.e) != half.r {
         return false;
     }
-    complete(ones, twos, rows, w, r, order, m, vo, vt, x, t, e);
+    complete(ones, twos, rows, w, half, v, at);
     true
 }
 
@@ -88,29 +85,24 @@ pub fn draw_v(
     twos: &mut [u64],
     rows: usize,
     w: usize,
-    r: usize,
-    ho: &[u64],
-    ht: &[u64],
-    order: &[u16],
-    g: usize,
-    vo: &[u64],
-    vt: &[u64],
-    x: usize,
-    t: usize,
-    e: usize,
+    half: Half,
+    v: Planes,
+    at: HalfRows,
 ) -> bool
-    requires { ForDrawV ones.old twos.old rows w r ho.now ht.now order.now g vo.now vt.now x t e }
-    ensures value { result ≡ eqb (rank r (length order.now) (matrix_at w ho.now ht.now) (take (r + g) order.now)) r }
+    requires { ForDrawV ones.old twos.old rows w half.r half.h.ones.now half.h.twos.now half.order.now half.gap
+        v.ones.now v.twos.now at.x at.t at.e }
+    ensures value { let d = half.entry in let H = matrix_at w d.h.ones.now d.h.twos.now in
+        result ≡ eqb (rank d.r (length d.order.now) H (take (d.r + d.gap) d.order.now)) d.r }
     ensures rows { Rows ones.new twos.new rows w }
-    ensures solved_where { SolvedWhere result r t e (matrix_at w ones.old twos.old) (matrix_at w ones.new twos.new)
-        (word_v r (length order.now) (matrix_at w ho.now ht.now) order.now g
-        (trit_at vo.now vt.now)
-        (matrix_at w ones.old twos.old x)) }
+    ensures solved_where { let d = half.entry in let H = matrix_at w d.h.ones.now d.h.twos.now in
+        SolvedWhere result d.r at.t at.e (matrix_at w ones.old twos.old) (matrix_at w ones.new twos.new)
+        (word_v d.r (length d.order.now) H d.order.now d.gap (trit_at v.entry.ones.now v.entry.twos.now)
+        (matrix_at w ones.old twos.old at.x)) }
 {
-    let m = r + g;
-    grid::one_row::zero_row(ones, twos, rows, w, t);
-    parts::supply_last(ones, twos, rows, w, order, m, vo, vt, g, e);
-    solve_half(ones, twos, rows, w, r, ho, ht, order, m, vo, vt, x, t, e)
+    let m = half.r + half.gap;
+    grid::one_row::zero_row(ones, twos, rows, w, at.t);
+    parts::supply_last(ones, twos, rows, w, half.order, m, v, half.gap, at.e);
+    solve_half(ones, twos, rows, w, half, v, at)
 }
 
 // U: the first part's places that are no pivot take the first values, the last part is forced by row ev or takes the others, and the pivots likewise.
@@ -119,35 +111,29 @@ pub fn draw_u(
     twos: &mut [u64],
     rows: usize,
     w: usize,
-    r: usize,
-    ho: &[u64],
-    ht: &[u64],
-    order: &[u16],
-    g: usize,
-    bo: &[u64],
-    bt: &[u64],
-    co: &[u64],
-    ct: &[u64],
-    uo: &[u64],
-    ut: &[u64],
+    half: Half,
+    b: Planes,
+    c: Planes,
+    u: Planes,
     ev: usize,
-    x: usize,
-    t: usize,
-    e: usize,
+    at: HalfRows,
 ) -> bool
-    requires { ForDrawU ones.old twos.old rows w r ho.now ht.now order.now g bo.now bt.now co.now ct.now uo.now ut.now ev x t e }
-    ensures value { result ≡ eqb (rank r (length order.now) (matrix_at w ho.now ht.now) (take (r + g) order.now)) r }
+    requires { ForDrawU ones.old twos.old rows w half.r half.h.ones.now half.h.twos.now half.order.now half.gap
+        b.ones.now b.twos.now c.ones.now c.twos.now u.ones.now u.twos.now ev at.x at.t at.e }
+    ensures value { let d = half.entry in let H = matrix_at w d.h.ones.now d.h.twos.now in
+        result ≡ eqb (rank d.r (length d.order.now) H (take (d.r + d.gap) d.order.now)) d.r }
     ensures rows { Rows ones.new twos.new rows w }
-    ensures solved_where { SolvedWhere result r t e (matrix_at w ones.old twos.old) (matrix_at w ones.new twos.new)
-        (word_u r (length order.now) (matrix_at w ho.now ht.now) (trit_at bo.now bt.now)
-        (trit_at co.now ct.now)
-        order.now g (trit_at uo.now ut.now) (matrix_at w ones.old twos.old ev)
-        (matrix_at w ones.old twos.old x)) }
+    ensures solved_where { let d = half.entry in let H = matrix_at w d.h.ones.now d.h.twos.now in
+        SolvedWhere result d.r at.t at.e (matrix_at w ones.old twos.old) (matrix_at w ones.new twos.new)
+        (word_u d.r (length d.order.now) H
+        (trit_at b.entry.ones.now b.entry.twos.now) (trit_at c.entry.ones.now c.entry.twos.now)
+        d.order.now d.gap (trit_at u.entry.ones.now u.entry.twos.now) (matrix_at w ones.old twos.old ev)
+        (matrix_at w ones.old twos.old at.x)) }
 {
-    let m = r + g;
-    grid::one_row::zero_row(ones, twos, rows, w, t);
+    let m = half.r + half.gap;
+    grid::one_row::zero_row(ones, twos, rows, w, at.t);
     parts::supply_forced(
-        ones, twos, rows, w, order, m, bo, bt, co, ct, uo, ut, g, ev, e,
+        ones, twos, rows, w, half.order, m, b, c, u, half.gap, ev, at.e,
     );
-    solve_half(ones, twos, rows, w, r, ho, ht, order, m, uo, ut, x, t, e)
+    solve_half(ones, twos, rows, w, half, u, at)
 }

@@ -7,7 +7,9 @@ use Prim.Native.Nat.{ℕ, ◌+◌, ◌-◌, ◌*◌, ◌≤◌, ◌<◌}
 use native.Mathlib.Decide.{dec_lt, ℕ_discrete}
 use native.Mathlib.Omega.{arith}
 use borrow.Author.Tests.{eq-eqb, lt-ltb, le-ltb}
-use lib.ListN.{get_or}
+use lib.ListN.{length, get_or, take, drop, length-drop}
+use lib.Seq.{get_or-drop, length-take-le}
+use Rattle.std.proofs.lemmas.List.{get_or-take}
 use Rattle.trits.specs.Trit.{Trit, t0, add_t, sub_t, mul_t, number, trit_of, zip_v, put_v, up_to}
 use Rattle.trits.specs.Planes.{trit_at}
 use Rattle.trits.specs.Rows.{matrix_at}
@@ -117,6 +119,19 @@ module _ (l N q : ℕ) (x : Vector) (y : Trit) (A : Matrix) where
           ap (λ (b : Bool). cond b (put_row l (put_v (B l) q y) B) (put_row (l + 1) (put_v (B (l + 1)) (q - N) y) B)) (le-ltb q N (omega arith))
           ∙ high (omega arith) h
 
+-- ---- places of an order, as a loop over them has them
+
+module _ (p : List ℕ) (n i : ℕ) where
+  pub front_in : n ≤ length p → i < length (take n p) → i < n
+  front_in f h = omega (arith, h, length-take-le n p f)
+
+module _ (p : List ℕ) (a n i : ℕ) where
+  pub part_in : a + n ≤ length p → i < length (take (a + n - a) (drop a p)) → i < n
+  part_in f h = omega (arith, h, length-take-le (a + n - a) (drop a p) (omega (arith, length-drop a p, f)))
+
+  pub part_at : i < n → get_or (take (a + n - a) (drop a p)) i 0 ≡ get_or p (a + i) 0
+  part_at h = get_or-take (a + n - a) (drop a p) i 0 (omega (arith, h)) ∙ get_or-drop a p i 0
+
 -- ---- the first i trits of y at the places of an order
 
 pub order_below : (n : ℕ) (p : List ℕ) → Order n p → (i : ℕ) → i < n → get_or p i 0 < n
@@ -195,10 +210,6 @@ module _ (l N : ℕ) (p : List ℕ) (o : Order (N + N) p) (y : Vector) (A : Matr
       (ap₂ (λ (t : Trit) (B : Matrix). put_place l (l + 1) N (get_or p i 0) t B) e g.cells
       ∙ place_more l N (get_or p i 0) (placed p (join i y zeros)) (y i) A (order_below (N + N) p o i h)
       ∙ ap (λ (x : Vector). placed_rows l N x A) (placed_more (N + N) p o y i h))
-
-  pub place_done : {os ts : List ℕ} {r w : ℕ} (i m : ℕ) → i ≡ m → Grid os ts r w (placed_rows l N (placed p (join i y zeros)) A)
-      → Grid os ts r w (placed_rows l N (placed p (join m y zeros)) A)
-  place_done i m e g = grid_to g (ap (λ (k : ℕ). placed_rows l N (placed p (join k y zeros)) A) e)
 
 module _ (w : ℕ) (o₀ t₀ : List ℕ) {o₁ t₁ o₂ t₂ : List ℕ} {r : ℕ} (b c : Vector) where
   pub parted_grid : (l : ℕ) → Grid o₁ t₁ r w (join_product sub_t (l + 1) l (l + 2) c (matrix_at w o₀ t₀))

@@ -1,4 +1,5 @@
 // Secret places in two rows of a grid: those below N in one, those from N on in the other.
+// What is written stays two slices: of a slice the length and the ranges of words are known with no clause, of one in a struct they are not.
 ghost use Rattle.std.specs.Prelude.{◌≡◌, ◌+◌, ◌*◌, ◌<◌, length};
 ghost use Rattle.trits.specs.Trit.{number, trit_of, up_to};
 ghost use Rattle.trits.specs.Planes.{trit_at, Reads, ones_of, twos_of};
@@ -8,6 +9,8 @@ ghost use Rattle.grid.specs.Steps.{Grid};
 ghost use Rattle.scheme.specs.Secret.{join};
 ghost use Rattle.scheme.specs.Draw.{placed};
 ghost use Rattle.draw_pairs.specs.Steps.{put_place, placed_rows, written_from, ForPutPlace, ForPlaceSyndrome, ForTritOfPlace, ForPutPlaces, ForWritePlaces};
+
+use trits::Planes;
 
 // The trit t is put at secret place q: in row u below half, in row v from half on.
 pub fn put_place(
@@ -41,28 +44,23 @@ pub fn place_syndrome(
     half: usize,
     p: &[u16],
     count: usize,
-    yo: &[u64],
-    yt: &[u64],
+    y: Planes,
 )
-    requires { ForPlaceSyndrome ones.old twos.old rows w l half p.now count yo.now yt.now }
+    requires { ForPlaceSyndrome ones.old twos.old rows w l half p.now count y.ones.now y.twos.now }
     ensures { Grid ones.new twos.new rows w
-        (placed_rows l half (placed p.now (join count (trit_at yo.now yt.now) zeros))
+        (placed_rows l half (placed p.now (join count (trit_at y.entry.ones.now y.entry.twos.now) zeros))
         (matrix_at w ones.old twos.old)) }
 {
     let r = l + 1;
-    let mut i = 0;
-    while i < count {
-        let q = p[i] as usize;
-        let t = planes::places::trit_at(yo, yt, i);
-        put_place(ones, twos, rows, w, l, r, half, q, t);
-        i += 1;
+    for (i, &q) in p[..count].iter().enumerate() {
+        let t = planes::places::trit_at(y, i);
+        put_place(ones, twos, rows, w, l, r, half, usize::from(q), t);
     }
 }
 
 // The trit of secret place q: of row u below half, of row v from half on.
 pub fn trit_of_place(
-    ones: &[u64],
-    twos: &[u64],
+    m: Planes,
     rows: usize,
     w: usize,
     u: usize,
@@ -70,20 +68,19 @@ pub fn trit_of_place(
     half: usize,
     q: usize,
 ) -> u8
-    requires { ForTritOfPlace ones.now twos.now rows w u v half q }
-    ensures { result ≡ number (join half (matrix_at w ones.now twos.now u) (matrix_at w ones.now twos.now v) q) }
+    requires { ForTritOfPlace m.ones.now m.twos.now rows w u v half q }
+    ensures { result ≡ number (join half (matrix_at w m.entry.ones.now m.entry.twos.now u) (matrix_at w m.entry.ones.now m.entry.twos.now v) q) }
 {
     if q < half {
-        planes::places::trit_at(ones, twos, 64 * (u * w) + q)
+        planes::places::trit_at(m, 64 * (u * w) + q)
     } else {
-        planes::places::trit_at(ones, twos, 64 * (v * w) + (q - half))
+        planes::places::trit_at(m, 64 * (v * w) + (q - half))
     }
 }
 
 // Place j of a row that holds 0 gets the trit of secret place p(from + j), for each of `count` places.
 pub fn put_places(
-    ones: &[u64],
-    twos: &[u64],
+    m: Planes,
     rows: usize,
     w: usize,
     u: usize,
@@ -95,24 +92,20 @@ pub fn put_places(
     oo: &mut [u64],
     ot: &mut [u64],
 )
-    requires { ForPutPlaces ones.now twos.now rows w u v half p.now from count oo.old ot.old }
+    requires { ForPutPlaces m.ones.now m.twos.now rows w u v half p.now from count oo.old ot.old }
     ensures { Reads oo.new ot.new (length oo.old)
-        (up_to count (written_from half (matrix_at w ones.now twos.now u) (matrix_at w ones.now twos.now v)
+        (up_to count (written_from half (matrix_at w m.entry.ones.now m.entry.twos.now u) (matrix_at w m.entry.ones.now m.entry.twos.now v)
         p.now from)) }
 {
-    let mut j = 0;
-    while j < count {
-        let q = p[from + j] as usize;
-        let t = trit_of_place(ones, twos, rows, w, u, v, half, q);
+    for (j, &q) in p[from..from + count].iter().enumerate() {
+        let t = trit_of_place(m, rows, w, u, v, half, usize::from(q));
         planes::places::put_trit(oo, ot, j, t);
-        j += 1;
     }
 }
 
 // The row writer: place j gets the trit of secret place p(from + j), for each of `count` places, and every other place 0.
 pub fn write_places(
-    ones: &[u64],
-    twos: &[u64],
+    m: Planes,
     rows: usize,
     w: usize,
     u: usize,
@@ -124,13 +117,13 @@ pub fn write_places(
     oo: &mut [u64],
     ot: &mut [u64],
 )
-    requires { ForWritePlaces ones.now twos.now rows w u v half p.now from count oo.old ot.old }
-    ensures oo_after { oo.new ≡ ones_of (up_to count (written_from half (matrix_at w ones.now twos.now u)
-        (matrix_at w ones.now twos.now v) p.now from)) (length oo.old) }
-    ensures ot_after { ot.new ≡ twos_of (up_to count (written_from half (matrix_at w ones.now twos.now u)
-        (matrix_at w ones.now twos.now v) p.now from)) (length oo.old) }
+    requires { ForWritePlaces m.ones.now m.twos.now rows w u v half p.now from count oo.old ot.old }
+    ensures oo_after { oo.new ≡ ones_of (up_to count (written_from half (matrix_at w m.entry.ones.now m.entry.twos.now u)
+        (matrix_at w m.entry.ones.now m.entry.twos.now v) p.now from)) (length oo.old) }
+    ensures ot_after { ot.new ≡ twos_of (up_to count (written_from half (matrix_at w m.entry.ones.now m.entry.twos.now u)
+        (matrix_at w m.entry.ones.now m.entry.twos.now v) p.now from)) (length oo.old) }
 {
     planes::words::zero_words(oo);
     planes::words::zero_words(ot);
-    put_places(ones, twos, rows, w, u, v, half, p, from, count, oo, ot);
+    put_places(m, rows, w, u, v, half, p, from, count, oo, ot);
 }

@@ -1,15 +1,14 @@
 -- What the release of a word asks. No rule of the paper: code is tied to it. Assumes nothing.
-use Rattle.std.specs.Prelude.{◌≡◌, true, List, ℕ, ◌+◌, ◌≤◌, length}
+use Rattle.std.specs.Prelude.{◌≡◌, List, ℕ, ◌+◌, ◌≤◌, length}
 use Rattle.trits.specs.Planes.{words_for}
 use Rattle.matrix.specs.Orders.{Order}
 use Rattle.grid.specs.Steps.{Rows}
-use Rattle.scheme.specs.Sizes.{sizes_fit, places, dim}
+use Rattle.scheme.specs.Sizes.{places, dim}
 use Rattle.scheme.specs.declared.sizes.Sizes.{Sizes}
 use Rattle.calls.specs.Lent.{half_words}
 
--- sizes that fit, an order, the word in the working space, and room for it and its signature
+-- an order, the word in the working space, and room for it and its signature
 pub record ForReleaseWord (z : Sizes) (l : ℕ) (p work_ones work_twos word_ones word_twos s_ones s_twos : List ℕ) : Type 0 where
-  pub sizes : sizes_fit z ≡ true
   pub is_order : Order (places z) p
   pub small : l ≤ 8435
   pub grid : Rows work_ones work_twos (l + 5) (half_words z)

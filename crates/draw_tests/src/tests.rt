@@ -1,191 +1,120 @@
 // The tests of a draw's lengths and contents.
-ghost use Rattle.std.specs.Prelude.{◌≡◌, true, ◌||◌, length};
+ghost use Rattle.std.specs.Prelude.{◌≡◌, ◌||◌, IfOk};
 ghost use Rattle.trits.specs.Refusal.{code_of, first};
-ghost use Rattle.scheme.specs.Sizes.{sizes_fit};
-ghost use Rattle.calls.specs.Lent.{planes, secret_differs, secret_refusal};
-ghost use Rattle.calls.specs.DrawCall.{choices_differ, choices_refusal};
-ghost use Rattle.draw_tests.specs.Steps.{chosen, ChosenLengths, ForTestContentsDraw};
+ghost use Rattle.calls.specs.Lent.{planes_of, differs, secret_refusal};
+ghost use Rattle.calls.specs.DrawCall.{lent_differ, choices_refusal};
+ghost use Rattle.calls.specs.Steps.{Lengths};
+ghost use Rattle.draw_tests.specs.Steps.{given_lent, chosen_lent, LentLengths, Chosen, Ready};
 
-use calls::{order, tests, work};
-use scheme::sizes::Sizes;
-use trits::refusal::{Outcome, Refusal};
+use calls::lent::{Choices, SecretPlanes};
+use calls::{order, tests};
+use planes::faults;
+use scheme::sizes::FittingSizes;
+use trits::Planes;
+use trits::refusal::Refusal;
 
 // Whether a length of p, y, the choices, the word, s or the working space differs from what the sizes say.
 pub fn choices_differ(
-    z: Sizes,
-    p: usize,
-    y1: usize,
-    y2: usize,
-    ov: usize,
-    v1: usize,
-    v2: usize,
-    ou: usize,
-    u1: usize,
-    u2: usize,
-    e1: usize,
-    e2: usize,
-    s1: usize,
-    s2: usize,
-    w1: usize,
-    w2: usize,
+    z: FittingSizes,
+    p: &[u16],
+    y: Planes,
+    choices: Choices,
+    word: Planes,
+    s: Planes,
+    work: Planes,
 ) -> bool
-    requires { sizes_fit z ≡ true }
-    ensures { result ≡ choices_differ z p y1 y2 ov v1 v2 ou u1 u2 e1 e2 s1 s2 w1 w2 }
+    ensures { result ≡ lent_differ z.sizes p.now y.entry choices.entry word.entry s.entry work.entry }
 {
-    let half = z.n as usize / 2;
-    let ku = z.ku as usize;
-    let kv = z.kv as usize;
-    let rows = work::more_rows(half - ku, half - kv) + 248;
-    if p != half + half {
-        return true;
-    }
-    if tests::pair_differs((half - ku + (half - kv) + 63) / 64, y1, y2) {
-        return true;
-    }
-    if tests::pair_differs(half, ov, ou) {
-        return true;
-    }
-    if tests::pair_differs((kv + 63) / 64, v1, v2) {
-        return true;
-    }
-    if tests::pair_differs((ku + 63) / 64, u1, u2) {
-        return true;
-    }
-    if tests::pair_differs((half + half + 63) / 64, e1, e2) {
-        return true;
-    }
-    if tests::pair_differs((ku + kv + 63) / 64, s1, s2) {
-        return true;
-    }
-    tests::pair_differs(rows * ((half + 63) / 64), w1, w2)
+    let shape = z.shape();
+    let half = shape.half;
+    let ku = z.sizes.ku as usize;
+    let kv = z.sizes.kv as usize;
+    let rows = shape.ru.max(shape.rv) + 248;
+    let Choices {
+        v_order,
+        v,
+        u_order,
+        u,
+    } = choices;
+    p.len() != half + half
+        || tests::pair_differs(
+            (shape.ru + shape.rv).div_ceil(64),
+            y.ones.len(),
+            y.twos.len(),
+        )
+        || tests::pair_differs(half, v_order.len(), u_order.len())
+        || tests::pair_differs(kv.div_ceil(64), v.ones.len(), v.twos.len())
+        || tests::pair_differs(ku.div_ceil(64), u.ones.len(), u.twos.len())
+        || tests::pair_differs((half + half).div_ceil(64), word.ones.len(), word.twos.len())
+        || tests::pair_differs((ku + kv).div_ceil(64), s.ones.len(), s.twos.len())
+        || tests::pair_differs(rows * shape.words, work.ones.len(), work.twos.len())
 }
 
 // Whether a length differs from what the sizes say.
 pub fn lengths_differ(
-    z: Sizes,
-    hu1: usize,
-    hu2: usize,
-    hv1: usize,
-    hv2: usize,
-    b1: usize,
-    b2: usize,
-    c1: usize,
-    c2: usize,
-    p: usize,
-    y1: usize,
-    y2: usize,
-    ov: usize,
-    v1: usize,
-    v2: usize,
-    ou: usize,
-    u1: usize,
-    u2: usize,
-    e1: usize,
-    e2: usize,
-    s1: usize,
-    s2: usize,
-    w1: usize,
-    w2: usize,
+    z: FittingSizes,
+    secret: SecretPlanes,
+    p: &[u16],
+    y: Planes,
+    choices: Choices,
+    word: Planes,
+    s: Planes,
+    work: Planes,
 ) -> bool
-    requires { sizes_fit z ≡ true }
-    ensures { result ≡ (secret_differs z hu1 hu2 hv1 hv2 b1 b2 c1 c2 || choices_differ z p y1 y2 ov v1 v2 ou u1 u2 e1 e2 s1 s2 w1 w2) }
+    ensures { result ≡ (differs z.sizes (planes_of secret.entry)
+        || lent_differ z.sizes p.now y.entry choices.entry word.entry s.entry work.entry) }
 {
-    if tests::secret_differs(z, hu1, hu2, hv1, hv2, b1, b2, c1, c2) {
-        return true;
-    }
-    choices_differ(z, p, y1, y2, ov, v1, v2, ou, u1, u2, e1, e2, s1, s2, w1, w2)
+    tests::secret_differs(z, secret) || choices_differ(z, p, y, choices, word, s, work)
 }
 
-// The contents of p, y and the choices, buffer after buffer, of lengths that are right.
-pub fn test_choices(
-    z: Sizes,
-    p: &[u16],
-    y_ones: &[u64],
-    y_twos: &[u64],
-    v_order: &[u16],
-    v_ones: &[u64],
-    v_twos: &[u64],
-    u_order: &[u16],
-    u_ones: &[u64],
-    u_twos: &[u64],
-) -> Outcome
-    requires z_value { sizes_fit z ≡ true }
-    requires chosen_lengths { ChosenLengths z (length p.now) (length y_ones.now) (length y_twos.now) (length v_order.now)
-        (length v_ones.now) (length v_twos.now) (length u_order.now) (length u_ones.now) (length u_twos.now) }
-    ensures { code_of result ≡ choices_refusal z (chosen p.now y_ones.now y_twos.now v_order.now
-        v_ones.now v_twos.now
-        u_order.now u_ones.now u_twos.now) }
+// The contents of p, y and the choices, buffer after buffer, of lengths that are right: what passes can be read.
+pub fn test_choices(z: FittingSizes, p: &[u16], y: Planes, choices: Choices) -> Result<(), Refusal>
+    requires { LentLengths z.sizes p.now y choices }
+    ensures refusal { code_of result ≡ choices_refusal z.sizes (chosen_lent p.now y.entry choices.entry) }
+    ensures readable { IfOk result (λ _. Chosen z.sizes (chosen_lent p.now y.entry choices.entry)) }
 {
-    let half = z.n as usize / 2;
-    let ku = z.ku as usize;
-    let kv = z.kv as usize;
+    let shape = z.shape();
+    let ku = z.sizes.ku as usize;
+    let kv = z.sizes.kv as usize;
+    let gu = z.sizes.gu as usize;
+    let Choices {
+        v_order,
+        v,
+        u_order,
+        u,
+    } = choices;
     if !order::is_order(p) {
-        return Outcome::Refused(Refusal::NoPermutation);
+        return Err(Refusal::NoPermutation);
     }
-    let y = planes::faults::test_planes(y_ones, y_twos, 1, half - ku + (half - kv));
-    if trits::refusal::code(y) != 0 {
-        return y;
-    }
+    faults::test_planes(y, 1, shape.ru + shape.rv)?;
     if !order::is_order(v_order) {
-        return Outcome::Refused(Refusal::NoPermutation);
+        return Err(Refusal::NoPermutation);
     }
-    let v = planes::faults::test_planes(v_ones, v_twos, 1, kv);
-    if trits::refusal::code(v) != 0 {
-        return v;
-    }
+    faults::test_planes(v, 1, kv)?;
     if !order::is_order(u_order) {
-        return Outcome::Refused(Refusal::NoPermutation);
+        return Err(Refusal::NoPermutation);
     }
-    let u = planes::faults::test_planes(u_ones, u_twos, 1, ku);
-    if trits::refusal::code(u) != 0 {
-        return u;
+    faults::test_planes(u, 1, ku)?;
+    if tests::has_zero(u, gu, ku - gu) {
+        return Err(Refusal::ZeroTrit);
     }
-    let gu = z.gu as usize;
-    let last = ku - gu;
-    if tests::has_zero(u_ones, u_twos, gu, last) {
-        return Outcome::Refused(Refusal::ZeroTrit);
-    }
-    Outcome::Done
+    Ok(())
 }
 
-// The contents, buffer after buffer, of lengths that are right.
+// The contents, buffer after buffer, of lengths that are right: what passes can be read.
 pub fn test_contents(
-    z: Sizes,
-    hu_ones: &[u64],
-    hu_twos: &[u64],
-    hv_ones: &[u64],
-    hv_twos: &[u64],
-    b_ones: &[u64],
-    b_twos: &[u64],
-    c_ones: &[u64],
-    c_twos: &[u64],
+    z: FittingSizes,
+    secret: SecretPlanes,
     p: &[u16],
-    y_ones: &[u64],
-    y_twos: &[u64],
-    v_order: &[u16],
-    v_ones: &[u64],
-    v_twos: &[u64],
-    u_order: &[u16],
-    u_ones: &[u64],
-    u_twos: &[u64],
-) -> Outcome
-    requires { ForTestContentsDraw z hu_ones.now hu_twos.now hv_ones.now hv_twos.now b_ones.now b_twos.now
-        c_ones.now c_twos.now p.now y_ones.now y_twos.now v_order.now v_ones.now v_twos.now
-        u_order.now u_ones.now u_twos.now }
-    ensures { code_of result ≡ first (secret_refusal z (planes hu_ones.now hu_twos.now hv_ones.now
-        hv_twos.now
-        b_ones.now b_twos.now c_ones.now c_twos.now))
-        (choices_refusal z (chosen p.now y_ones.now y_twos.now v_order.now v_ones.now
-        v_twos.now
-        u_order.now u_ones.now u_twos.now)) }
+    y: Planes,
+    choices: Choices,
+) -> Result<(), Refusal>
+    requires secret_lengths { Lengths z.sizes (planes_of secret) }
+    requires chosen_lengths { LentLengths z.sizes p.now y choices }
+    ensures refusal { code_of result ≡ first (secret_refusal z.sizes (planes_of secret.entry))
+        (choices_refusal z.sizes (chosen_lent p.now y.entry choices.entry)) }
+    ensures ready { IfOk result (λ _. Ready z.sizes (given_lent secret.entry p.now y.entry choices.entry)) }
 {
-    let secret = tests::test_secret(
-        z, hu_ones, hu_twos, hv_ones, hv_twos, b_ones, b_twos, c_ones, c_twos,
-    );
-    if trits::refusal::code(secret) != 0 {
-        return secret;
-    }
-    test_choices(
-        z, p, y_ones, y_twos, v_order, v_ones, v_twos, u_order, u_ones, u_twos,
-    )
+    tests::test_secret(z, secret)?;
+    test_choices(z, p, y, choices)
 }

@@ -4,17 +4,19 @@ use mathlib.Core.Bool.{Bool, true, false, cond, true≢false}
 use mathlib.Core.List.{List, [], ◌∷◌, ◌++◌}
 use Prim.Native.Nat.{ℕ, suc, ◌+◌, ◌-◌, ◌≤◌, ◌<◌}
 use native.Mathlib.Decide.{ℕ_discrete}
+use native.Mathlib.Numerals.{add-one}
 use native.Mathlib.Omega.{arith}
 use borrow.Author.Tests.{eq-eqb, ne_eqb, eqb-false}
 use lib.Dec.{eqb}
 use lib.ListN.{length, get_or, take, drop, length-drop, take-append-drop}
-use lib.Seq.{take-suc, drop-cons, get_or-drop, length-take-le, take_all}
+use lib.Seq.{take-suc, drop-cons, get_or-drop, length-take-le}
+use Rattle.std.proofs.lemmas.List.{get_or-take, take_rest}
 use Rattle.trits.specs.Trit.{Trit, sub_t, put_v}
 use Rattle.trits.specs.Rows.{matrix_at}
 use Rattle.matrix.specs.Linear.{Vector, Matrix, elem, fill}
 use Rattle.matrix.specs.Orders.{Distinct, Order}
 use Rattle.matrix.proofs.Places.{or_false_left, or_false_right, elem_here, fill_off}
-use Rattle.matrix.proofs.Orders.{order_good}
+use Rattle.matrix.proofs.Orders.{order_good, place_below}
 use Rattle.matrix.proofs.Counts.{distinct_parts}
 use Rattle.matrix.proofs.Field.{refuted}
 use Rattle.grid.specs.Steps.{Rows, Grid, put_row}
@@ -58,9 +60,27 @@ distinct_last : (l : List ℕ) (a : ℕ) → Order (length l) l → Distinct (dr
 distinct_last l a o =
     (distinct_parts (take a l) (drop a l) (subst (λ (x : List ℕ). Distinct x) (sym (take-append-drop a l)) (order_good (length l) l o).0)).1
 
--- the place at position i, counted from position a on
-last_place : (l : List ℕ) (a i : ℕ) → a ≤ i → get_or (drop a l) (i - a) 0 ≡ get_or l i 0
-last_place l a i h = let at : a + (i - a) ≡ i = omega arith in get_or-drop a l (i - a) 0 ∙ ap (λ (j : ℕ). get_or l j 0) at
+-- the first m places, as a loop over them has them
+module _ (l : List ℕ) (m i : ℕ) (f : m ≤ length l) where
+  pub first_in : i < length (take m l) → i < m
+  first_in h = omega (arith, h, length-take-le m l f)
+
+  pub first_below : Order (length l) l → i < length (take m l) → get_or (take m l) i 0 < length l
+  first_below o h = let b = first_in h in omega (arith, get_or-take m l i 0 b, place_below l (length l) i o (omega (arith, b)))
+
+  pub first_all : i ≤ length (take m l) → length (take m l) ≤ i → i ≡ m
+  first_all h g = omega (arith, h, g, length-take-le m l f)
+
+-- the part from position a on, as a loop over it has it
+module _ (l : List ℕ) (a i : ℕ) where
+  pub last_at : get_or (take (length l - a) (drop a l)) i 0 ≡ get_or (drop a l) i 0
+  last_at = ap (λ (x : List ℕ). get_or x i 0) (take_rest l a)
+
+  pub last_in : i < length (take (length l - a) (drop a l)) → a + i < length l
+  last_in h = omega (arith, h, ap (λ (x : List ℕ). length x) (take_rest l a), length-drop a l)
+
+  pub last_below : Order (length l) l → i < length (take (length l - a) (drop a l)) → get_or (take (length l - a) (drop a l)) i 0 < length l
+  last_below o h = omega (arith, last_at, get_or-drop a l i 0, place_below l (length l) (a + i) o (last_in h))
 
 -- ---- rows of a matrix of which row e is another
 
@@ -105,19 +125,17 @@ module _ {rows w : ℕ} (D : List ℕ) (A : Matrix) (e k : ℕ) (val : Vector) w
 
 -- the last part, from position a on
 module _ {rows w : ℕ} (l : List ℕ) (A : Matrix) (a i e : ℕ) (val : Vector) where
-  pub last_turn : {os ts o t : List ℕ} (x : Matrix → Trit) → Order (length l) l → a ≤ i → i < length l
-      → Grid os ts rows w (put_row e (fill (take (i - a) (drop a l)) val (A e)) A)
-      → Grid o t rows w (put_row e (put_v (matrix_at w os ts e) (get_or l i 0) (x (matrix_at w os ts))) (matrix_at w os ts))
-      → x (put_row e (fill (take (i - a) (drop a l)) val (A e)) A) ≡ val (i - a)
-      → Grid o t rows w (put_row e (fill (take (i + 1 - a) (drop a l)) val (A e)) A)
-  last_turn x o la h g s y =
-      let step : i + 1 - a ≡ suc (i - a) = omega arith in
-      grid_to (fill_turn (drop a l) A e (i - a) val x (distinct_last l a o) (omega (arith, length-drop a l)) (sym (last_place l a i la)) g s y)
-      (ap (λ (k : ℕ). put_row e (fill (take k (drop a l)) val (A e)) A) (sym step))
-
-  pub last_all : {o t : List ℕ} → i ≡ length l → Grid o t rows w (put_row e (fill (take (i - a) (drop a l)) val (A e)) A)
-      → Grid o t rows w (put_row e (fill (drop a l) val (A e)) A)
-  last_all f k = grid_to k (ap (λ (x : List ℕ). put_row e (fill x val (A e)) A) (take_all (i - a) (drop a l) (omega (arith, length-drop a l))))
+  pub last_turn : {os ts o t : List ℕ} (x : ℕ → Matrix → Trit) → Order (length l) l → a + i < length l
+      → Grid os ts rows w (put_row e (fill (take i (drop a l)) val (A e)) A)
+      → Grid o t rows w (put_row e (put_v (matrix_at w os ts e) (get_or (take (length l - a) (drop a l)) i 0)
+      (x (get_or (take (length l - a) (drop a l)) i 0) (matrix_at w os ts))) (matrix_at w os ts))
+      → x (get_or (drop a l) i 0) (put_row e (fill (take i (drop a l)) val (A e)) A) ≡ val i
+      → Grid o t rows w (put_row e (fill (take (i + 1) (drop a l)) val (A e)) A)
+  last_turn x o h g s y =
+      let q = get_or (take (length l - a) (drop a l)) i 0 in
+      let at : q ≡ get_or (drop a l) i 0 = last_at l a i in
+      let y' = ap (λ (p : ℕ). x p (put_row e (fill (take i (drop a l)) val (A e)) A)) at ∙ y in
+      rw (add-one i) (fill_turn (drop a l) A e i val (x q) (distinct_last l a o) (omega (arith, length-drop a l)) at g s y')
 
 -- the values of the last part, from its first place on: forced
 abbrev pub forced_at : List ℕ → Matrix → ℕ → ℕ → Vector → Vector → Vector → ℕ → Vector
@@ -127,21 +145,18 @@ forced_at l A a ev b c y g j = forced_by b c (A ev) (get_or (drop a l) j 0) (y (
 abbrev pub less_at : List ℕ → Matrix → ℕ → ℕ → ℕ → Vector
 less_at l A a x e j = sub_t (A x (get_or (drop a l) j 0)) (A e (get_or (drop a l) j 0))
 
-module _ (l : List ℕ) (A : Matrix) (a i e : ℕ) (la : a ≤ i) where
+module _ (l : List ℕ) (A : Matrix) (a i e : ℕ) where
   pub forced_value : (ev : ℕ) (u b c y : Vector) (g : ℕ) → (ev ≡ e → ⊥)
-      → forced_by b c (put_row e u A ev) (get_or l i 0) (y (g + (i - a))) ≡ forced_at l A a ev b c y g (i - a)
-  forced_value ev u b c y g ne =
-      ap (λ (v : Vector). forced_by b c v (get_or l i 0) (y (g + (i - a)))) (put_else e u A ev ne)
-      ∙ ap (λ (q : ℕ). forced_by b c (A ev) q (y (g + (i - a)))) (sym (last_place l a i la))
+      → forced_by b c (put_row e u A ev) (get_or (drop a l) i 0) (y (g + i)) ≡ forced_at l A a ev b c y g i
+  forced_value ev u b c y g ne = ap (λ (v : Vector). forced_by b c v (get_or (drop a l) i 0) (y (g + i))) (put_else e u A ev ne)
 
-  pub less_value : (x : ℕ) (val : Vector) → Order (length l) l → i < length l → (x ≡ e → ⊥)
-      → sub_t (put_row e (fill (take (i - a) (drop a l)) val (A e)) A x (get_or l i 0))
-      (put_row e (fill (take (i - a) (drop a l)) val (A e)) A e (get_or l i 0))
-      ≡ less_at l A a x e (i - a)
+  pub less_value : (x : ℕ) (val : Vector) → Order (length l) l → a + i < length l → (x ≡ e → ⊥)
+      → sub_t (put_row e (fill (take i (drop a l)) val (A e)) A x (get_or (drop a l) i 0))
+      (put_row e (fill (take i (drop a l)) val (A e)) A e (get_or (drop a l) i 0))
+      ≡ less_at l A a x e i
   less_value x val o h ne =
-      let u : Vector = fill (take (i - a) (drop a l)) val (A e) in
-      let q = get_or (drop a l) (i - a) 0 in
-      ap₂ (λ (v v' : Vector). sub_t (v (get_or l i 0)) (v' (get_or l i 0))) (put_else e u A x ne) (put_here e u A e refl)
-      ∙ ap (λ (p : ℕ). sub_t (A x p) (u p)) (sym (last_place l a i la))
+      let u : Vector = fill (take i (drop a l)) val (A e) in
+      let q = get_or (drop a l) i 0 in
+      ap₂ (λ (v v' : Vector). sub_t (v q) (v' q)) (put_else e u A x ne) (put_here e u A e refl)
       ∙ ap (sub_t (A x q))
-      (fill_off (take (i - a) (drop a l)) val (A e) q (before_place (drop a l) (i - a) (distinct_last l a o) (omega (arith, length-drop a l))))
+      (fill_off (take i (drop a l)) val (A e) q (before_place (drop a l) i (distinct_last l a o) (omega (arith, length-drop a l))))

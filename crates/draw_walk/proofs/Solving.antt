@@ -1,42 +1,55 @@
 -- The pivots' places, solved from the last row on: the search for a row's pivot, and the word that row e has so far. Assumes nothing.
 use mathlib.Core.Path.{◌≡◌, refl, sym, ap, ap₂, ◌∙◌}
-use mathlib.Core.Bool.{true, false}
+use mathlib.Core.Bool.{Bool, true, false, not}
 use mathlib.Core.List.{List, ◌∷◌}
-use Prim.Native.Nat.{ℕ, suc, ◌+◌, ◌*◌, ◌≤◌, ◌<◌}
+use Prim.Native.Nat.{ℕ, zero, suc, ◌+◌, ◌-◌, ◌*◌, ◌≤◌, ◌<◌}
 use native.Mathlib.Numerals.{add-one}
 use native.Mathlib.Omega.{arith}
 use lib.ListN.{drop, drop_of_length-le}
 use lib.Seq.{drop-cons}
-use Rattle.trits.specs.Trit.{sub_t, is_set, put_v, dot_v}
+use lib.Dec.{eqb}
+use Rattle.std.specs.Prelude.{Option, Some, None}
+use Rattle.std.specs.List.{find, range_with_len}
+use Rattle.std.specs.Option.{option_map, unwrap_or}
+use Rattle.trits.specs.Trit.{sub_t, is_set, number, put_v, dot_v}
 use Rattle.trits.specs.Rows.{matrix_at}
 use Rattle.matrix.specs.Linear.{Vector, Matrix, range}
 use Rattle.matrix.proofs.Counts.{range_length, range_at}
 use Rattle.matrix.specs.Steps.{first_set, backed}
-use Rattle.matrix.proofs.Tried.{first_set_here, first_unset}
-use Rattle.grid.specs.Steps.{Rows, Grid, put_row}
+use Rattle.grid.specs.Steps.{Grid, put_row}
 use Rattle.grid.proofs.Cells.{grid_to}
 use Rattle.grid.proofs.RowParts.{put_here, put_else}
 use Rattle.draw_walk.specs.Walks.{pivot_place}
-use Rattle.draw_walk.proofs.Puts.{put_own}
+use Rattle.draw_walk.proofs.Puts.{set_number}
 use Rattle.draw_walk.proofs.Filled.{put_again}
 
--- ---- the search for a row's pivot, at column i of the first m
+-- ---- the search for a row's pivot
 
-module _ (v : Vector) (m i : ℕ) where
-  columns_left : i < m → drop i (range m) ≡ i ∷ drop (i + 1) (range m)
-  columns_left b =
-      drop-cons (range m) i 0 (omega (arith, range_length m))
-      ∙ ap₂ (λ (q k : ℕ). q ∷ drop k (range m)) (range_at m i b) (sym (add-one i))
+-- whether column i of a row is not 0, by numbers
+abbrev pub not_zero : Vector → ℕ → Bool
+not_zero v i = not (eqb (number (v i)) 0)
 
-  pub found_here : i < m → is_set (v i) ≡ true → i ≡ first_set v (drop i (range m))
-  found_here b e = sym (ap (first_set v) (columns_left b) ∙ first_set_here v i (drop (i + 1) (range m)) e)
+columns_left : (m c : ℕ) → c < m → drop c (range m) ≡ c ∷ drop (suc c) (range m)
+columns_left m c b = drop-cons (range m) c 0 (omega (arith, range_length m)) ∙ ap (λ (q : ℕ). q ∷ drop (suc c) (range m)) (range_at m c b)
 
-  pub found_later : i < m → is_set (v i) ≡ false → first_set v (drop i (range m)) ≡ first_set v (drop (i + 1) (range m))
-  found_later b e = ap (first_set v) (columns_left b) ∙ first_unset v i (drop (i + 1) (range m)) e
+-- the first of the k columns from c on, of m
+found_first : (v : Vector) (m k c : ℕ) → c + k ≡ m → unwrap_or (find (not_zero v) (range_with_len c k)) 0 ≡ first_set v (drop c (range m))
+unfolding first_set
+found_first v m zero c e = sym (ap (first_set v) (drop_of_length-le (range m) {i = c} (omega (arith, range_length m))))
+found_first v m (suc k) c e = by (is_set (v c)) refl (found_first v m k (suc c) (omega arith)) ∙ sym (ap (first_set v) (columns_left m c (omega arith)))
+  where
+    by : (b : Bool) → is_set (v c) ≡ b → unwrap_or (find (not_zero v) (range_with_len (suc c) k)) 0 ≡ first_set v (drop (suc c) (range m))
+        → unwrap_or (find (not_zero v) (range_with_len c (suc k))) 0 ≡ first_set v (c ∷ drop (suc c) (range m))
+    by true d g = rw (set_number (v c) ∙ d, d) refl
+    by false d g = rw (set_number (v c) ∙ d, d, add-one c) g
 
-  pub found_none : m ≤ i → 0 ≡ first_set v (drop i (range m))
-  unfolding first_set
-  found_none b = sym (ap (first_set v) (drop_of_length-le (range m) {i = i} (omega (arith, range_length m))))
+same : (o : Option ℕ) → option_map (λ (x : ℕ). x) o ≡ o
+same None = refl
+same (Some x) = refl
+
+pub found_place : (A : Matrix) (m c : ℕ) {n : ℕ} (o : Option ℕ) → c ≤ m → n ≡ unwrap_or o 0
+    → option_map (λ (x : ℕ). x) o ≡ find (not_zero (A c)) (range_with_len c (m - c)) → n ≡ pivot_place A (range m) c
+found_place A m c o h d e = d ∙ ap (λ (x : Option ℕ). unwrap_or x 0) (sym (same o) ∙ e) ∙ found_first (A c) m (m - c) c (omega arith)
 
 -- ---- row after row
 
@@ -44,12 +57,6 @@ module _ (v : Vector) (m i : ℕ) where
 pub record Solving (rows w e : ℕ) (A : Matrix) (ps : List ℕ) (r c : ℕ) (o t : List ℕ) : Type 0 where
   pub grid : Grid o t rows w (put_row e (matrix_at w o t e) A)
   pub rest : backed (64 * w) A (pivot_place A ps) c (matrix_at w o t e) ≡ backed (64 * w) A (pivot_place A ps) r (A e)
-
-pub solving_none : {o t : List ℕ} {rows w : ℕ} (e : ℕ) (ps : List ℕ) {r c : ℕ} → c ≡ r → Rows o t rows w → Solving rows w e (matrix_at w o t) ps r c o t
-solving_none {o} {t} {w = w} e ps z g = record {
-  grid = record { rows = g; cells = put_own e (matrix_at w o t) };
-  rest = ap (λ (n : ℕ). backed (64 * w) (matrix_at w o t) (pivot_place (matrix_at w o t) ps) n (matrix_at w o t e)) z;
-}
 
 module _ {rows w e : ℕ} {A : Matrix} {ps : List ℕ} {r c : ℕ} {os ts : List ℕ} (k : Solving rows w e A ps r c os ts) where
   abbrev B : Matrix

@@ -9,6 +9,13 @@ use Rattle.draw_walk.specs.Walks.{is_next, passed}
 
 -- ---- one place
 
+-- a grid, a row and a place of it
+pub record ForCell (ones twos : List ℕ) (rows w i q : ℕ) : Type 0 where
+  pub grid : Rows ones twos rows w
+  pub small : length ones ≤ 4294967296
+  pub i_in : i < rows
+  pub place : q < 64 * w
+
 -- a grid, a row and a place of it, and another row and place
 pub record ForCopyPlace (ones twos : List ℕ) (rows w i p j q : ℕ) : Type 0 where
   pub grid : Rows ones twos rows w

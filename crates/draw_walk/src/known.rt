@@ -6,27 +6,18 @@ ghost use Rattle.grid.specs.Steps.{Grid};
 ghost use Rattle.draw_walk.specs.Walks.{with_products};
 ghost use Rattle.draw_walk.specs.Steps.{ForLentDot, ForPutProducts};
 
+use trits::Planes;
+
 // The dot product of row i of a lent matrix and row e.
-pub fn lent_dot(
-    ones: &[u64],
-    twos: &[u64],
-    rows: usize,
-    w: usize,
-    r: usize,
-    ho: &[u64],
-    ht: &[u64],
-    i: usize,
-    e: usize,
-) -> u8
-    requires { ForLentDot ones.now twos.now rows w r ho.now ht.now i e }
-    ensures { result ≡ number (dot_v (matrix_at w ho.now ht.now i) (matrix_at w ones.now twos.now e)
+pub fn lent_dot(a: Planes, rows: usize, w: usize, r: usize, h: Planes, i: usize, e: usize) -> u8
+    requires { ForLentDot a.ones.now a.twos.now rows w r h.ones.now h.twos.now i e }
+    ensures { result ≡ number (dot_v (matrix_at w h.entry.ones.now h.entry.twos.now i) (matrix_at w a.entry.ones.now a.entry.twos.now e)
         (64 * w)) }
 {
-    let a = i * w;
-    let b = a + w;
-    let c = e * w;
-    let d = c + w;
-    rows::dot(&ho[a..b], &ht[a..b], &ones[c..d], &twos[c..d])
+    rows::dot(
+        grid::one_row::row_of(h, r, w, i),
+        grid::one_row::row_of(a, rows, w, e),
+    )
 }
 
 // Column m of the first r rows becomes the lent matrix times row e.
@@ -36,20 +27,17 @@ pub fn put_products(
     rows: usize,
     w: usize,
     r: usize,
-    ho: &[u64],
-    ht: &[u64],
+    h: Planes,
     m: usize,
     e: usize,
 )
-    requires { ForPutProducts ones.old twos.old rows w r ho.now ht.now m e }
+    requires { ForPutProducts ones.old twos.old rows w r h.ones.now h.twos.now m e }
     ensures { Grid ones.new twos.new rows w
-        (with_products r m (64 * w) (matrix_at w ho.now ht.now) (matrix_at w ones.old twos.old e)
+        (with_products r m (64 * w) (matrix_at w h.entry.ones.now h.entry.twos.now) (matrix_at w ones.old twos.old e)
         (matrix_at w ones.old twos.old)) }
 {
-    let mut i = 0;
-    while i < r {
-        let t = lent_dot(ones, twos, rows, w, r, ho, ht, i, e);
+    for i in 0..r {
+        let t = lent_dot(Planes { ones, twos }, rows, w, r, h, i, e);
         grid::places::put_at(ones, twos, rows, w, i, m, t);
-        i += 1;
     }
 }

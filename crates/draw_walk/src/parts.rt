@@ -9,6 +9,7 @@ ghost use Rattle.draw_walk.specs.Walks.{lasts_of};
 ghost use Rattle.draw_walk.specs.Steps.{ForSupplyLast, ForSupplyForced, ForTakeLast, ForPlaceBack};
 
 use super::places;
+use trits::Planes;
 
 // The places of the order from `from` on take the supplied trits from g on.
 pub fn supply_last(
@@ -18,26 +19,22 @@ pub fn supply_last(
     w: usize,
     order: &[u16],
     from: usize,
-    vo: &[u64],
-    vt: &[u64],
+    v: Planes,
     g: usize,
     e: usize,
 )
-    requires { ForSupplyLast ones.old twos.old rows w order.now from vo.now vt.now g e }
+    requires { ForSupplyLast ones.old twos.old rows w order.now from v.ones.now v.twos.now g e }
     ensures { Grid ones.new twos.new rows w
-        (put_row e (fill (drop from order.now) (λ j. trit_at vo.now vt.now (g + j))
+        (put_row e (fill (drop from order.now) (λ j. trit_at v.entry.ones.now v.entry.twos.now (g + j))
         (matrix_at w ones.old twos.old e)) (matrix_at w ones.old twos.old)) }
 {
-    let mut i = from;
-    while i < order.len() {
-        let q = order[i] as usize;
-        let j = g + (i - from);
-        grid::places::put_from(ones, twos, rows, w, e, q, vo, vt, j);
-        i += 1;
+    for (i, &q) in order[from..].iter().enumerate() {
+        grid::places::put_from(ones, twos, rows, w, e, usize::from(q), v, g + i);
     }
 }
 
 // The places of the order from `from` on are forced by row ev, with the supplied values from g on.
+// This loop and the last one differ in their step: a step that is passed in would be no plainer.
 pub fn supply_forced(
     ones: &mut [u64],
     twos: &mut [u64],
@@ -45,30 +42,23 @@ pub fn supply_forced(
     w: usize,
     order: &[u16],
     from: usize,
-    bo: &[u64],
-    bt: &[u64],
-    co: &[u64],
-    ct: &[u64],
-    uo: &[u64],
-    ut: &[u64],
+    b: Planes,
+    c: Planes,
+    u: Planes,
     g: usize,
     ev: usize,
     e: usize,
 )
-    requires { ForSupplyForced ones.old twos.old rows w order.now from bo.now bt.now co.now ct.now uo.now ut.now g ev e }
+    requires { ForSupplyForced ones.old twos.old rows w order.now from b.ones.now b.twos.now c.ones.now c.twos.now u.ones.now u.twos.now g ev e }
     ensures { Grid ones.new twos.new rows w
         (put_row e (fill (drop from order.now)
-        (λ j. forced_by (trit_at bo.now bt.now) (trit_at co.now ct.now)
+        (λ j. forced_by (trit_at b.entry.ones.now b.entry.twos.now) (trit_at c.entry.ones.now c.entry.twos.now)
         (matrix_at w ones.old twos.old ev)
-        (get_or (drop from order.now) j 0) (trit_at uo.now ut.now (g + j)))
+        (get_or (drop from order.now) j 0) (trit_at u.entry.ones.now u.entry.twos.now (g + j)))
         (matrix_at w ones.old twos.old e)) (matrix_at w ones.old twos.old)) }
 {
-    let mut i = from;
-    while i < order.len() {
-        let q = order[i] as usize;
-        let j = g + (i - from);
-        places::force_place(ones, twos, rows, w, q, bo, bt, co, ct, uo, ut, j, ev, e);
-        i += 1;
+    for (i, &q) in order[from..].iter().enumerate() {
+        places::force_place(ones, twos, rows, w, usize::from(q), b, c, u, g + i, ev, e);
     }
 }
 
@@ -88,11 +78,8 @@ pub fn take_last(
         (put_row e (lasts_of (drop from order.now) (matrix_at w ones.old twos.old x)
         (matrix_at w ones.old twos.old e)) (matrix_at w ones.old twos.old)) }
 {
-    let mut i = from;
-    while i < order.len() {
-        let q = order[i] as usize;
-        places::take_place(ones, twos, rows, w, x, e, q);
-        i += 1;
+    for &q in &order[from..] {
+        places::take_place(ones, twos, rows, w, x, e, usize::from(q));
     }
 }
 
@@ -112,10 +99,7 @@ pub fn place_back(
         (put_row e (fill (take m order.now) (matrix_at w ones.old twos.old t)
         (matrix_at w ones.old twos.old e)) (matrix_at w ones.old twos.old)) }
 {
-    let mut i = 0;
-    while i < m {
-        let q = order[i] as usize;
-        places::copy_place(ones, twos, rows, w, t, i, e, q);
-        i += 1;
+    for (i, &q) in order[..m].iter().enumerate() {
+        places::copy_place(ones, twos, rows, w, t, i, e, usize::from(q));
     }
 }

@@ -11,24 +11,14 @@ ghost use Rattle.draw_walk.specs.Walks.{is_next, pivot_place, firsts_of};
 ghost use Rattle.draw_walk.specs.Steps.{ForIsNext, ForSupplyPlace, ForSupply, ForPivotPlace, ForLessen, ForSolvePivots};
 
 use super::places;
+use trits::Planes;
 
 // Whether place q has the next pivot, c of the r rows having theirs.
-pub fn is_next(
-    ones: &[u64],
-    twos: &[u64],
-    rows: usize,
-    w: usize,
-    r: usize,
-    c: usize,
-    q: usize,
-) -> bool
-    requires { ForIsNext ones.now twos.now rows w r q }
-    ensures { result ≡ is_next r (matrix_at w ones.now twos.now) c q }
+pub fn is_next(a: Planes, rows: usize, w: usize, r: usize, c: usize, q: usize) -> bool
+    requires { ForIsNext a.ones.now a.twos.now rows w r q }
+    ensures { result ≡ is_next r (matrix_at w a.entry.ones.now a.entry.twos.now) c q }
 {
-    if c >= r {
-        return false;
-    }
-    planes::places::trit_at(ones, twos, 64 * (c * w) + q) != 0
+    c < r && places::cell(a, rows, w, c, q) != 0
 }
 
 // One position of the walk that supplies: position i of row t takes place q of row x, less trit j where it is passed over.
@@ -41,26 +31,25 @@ pub fn supply_place(
     c: usize,
     i: usize,
     q: usize,
-    vo: &[u64],
-    vt: &[u64],
+    v: Planes,
     j: usize,
     x: usize,
     t: usize,
 ) -> usize
-    requires { ForSupplyPlace ones.old twos.old rows w r c i q vo.now vt.now j x t }
+    requires { ForSupplyPlace ones.old twos.old rows w r c i q v.ones.now v.twos.now j x t }
     ensures value { result ≡ cond (is_next r (matrix_at w ones.old twos.old) c i) (suc c) c }
     ensures grid { Grid ones.new twos.new rows w
         (put_row t (cond (is_next r (matrix_at w ones.old twos.old) c i)
         (put_v (matrix_at w ones.old twos.old t) i (matrix_at w ones.old twos.old x q))
         (put_v (matrix_at w ones.old twos.old t) i
-        (sub_t (matrix_at w ones.old twos.old x q) (trit_at vo.now vt.now j))))
+        (sub_t (matrix_at w ones.old twos.old x q) (trit_at v.entry.ones.now v.entry.twos.now j))))
         (matrix_at w ones.old twos.old)) }
 {
-    if is_next(ones, twos, rows, w, r, c, i) {
+    if is_next(Planes { ones, twos }, rows, w, r, c, i) {
         places::copy_place(ones, twos, rows, w, x, q, t, i);
         return c + 1;
     }
-    places::put_less(ones, twos, rows, w, x, q, vo, vt, j, t, i);
+    places::put_less(ones, twos, rows, w, x, q, v, j, t, i);
     c
 }
 
@@ -73,41 +62,32 @@ pub fn supply(
     r: usize,
     order: &[u16],
     m: usize,
-    vo: &[u64],
-    vt: &[u64],
+    v: Planes,
     x: usize,
     t: usize,
 )
-    requires { ForSupply ones.old twos.old rows w r order.now m vo.now vt.now x t }
+    requires { ForSupply ones.old twos.old rows w r order.now m v.ones.now v.twos.now x t }
     ensures { Grid ones.new twos.new rows w
         (put_row t (firsts_of r (matrix_at w ones.old twos.old) order.now m
-        (trit_at vo.now vt.now)
+        (trit_at v.entry.ones.now v.entry.twos.now)
         (matrix_at w ones.old twos.old x) (matrix_at w ones.old twos.old t))
         (matrix_at w ones.old twos.old)) }
 {
     let mut c = 0;
-    let mut i = 0;
-    while i < m {
-        let q = order[i] as usize;
-        c = supply_place(ones, twos, rows, w, r, c, i, q, vo, vt, i - c, x, t);
-        i += 1;
+    for (i, &q) in order[..m].iter().enumerate() {
+        c = supply_place(ones, twos, rows, w, r, c, i, usize::from(q), v, i - c, x, t);
     }
 }
 
-// The column of row c's pivot: the first of the columns c to m - 1 at which the row is not 0; 0 where there is none.
-pub fn pivot_place(ones: &[u64], twos: &[u64], rows: usize, w: usize, m: usize, c: usize) -> usize
-    requires { ForPivotPlace ones.now twos.now rows w m c }
-    ensures value { result ≡ pivot_place (matrix_at w ones.now twos.now) (range m) c }
+// The column of row c's pivot: the first of the columns c to m - 1 at which the row is not 0; 0 where there is none, as in the definition.
+pub fn pivot_place(a: Planes, rows: usize, w: usize, m: usize, c: usize) -> usize
+    requires { ForPivotPlace a.ones.now a.twos.now rows w m c }
+    ensures value { result ≡ pivot_place (matrix_at w a.entry.ones.now a.entry.twos.now) (range m) c }
     ensures upper_bound { result < 64 * w }
 {
-    let mut i = c;
-    while i < m {
-        if planes::places::trit_at(ones, twos, 64 * (c * w) + i) != 0 {
-            return i;
-        }
-        i += 1;
-    }
-    0
+    (c..m)
+        .find(|&i| places::cell(a, rows, w, c, i) != 0)
+        .unwrap_or(0)
 }
 
 // Place q of row e loses the product of rows c and e.
@@ -127,9 +107,10 @@ pub fn lessen(
         (dot_v (matrix_at w ones.old twos.old c) (matrix_at w ones.old twos.old e) (64 * w))))
         (matrix_at w ones.old twos.old)) }
 {
-    let t = grid::two_rows::row_dot(ones, twos, rows, w, c, e);
-    let v = planes::places::trit_at(ones, twos, 64 * (e * w) + q);
-    grid::places::put_at(ones, twos, rows, w, e, q, (v + 2 * t) % 3);
+    let m = Planes { ones, twos };
+    let t = grid::two_rows::row_dot(m, rows, w, c, e);
+    let v = places::cell(m, rows, w, e, q);
+    grid::places::put_at(ones, twos, rows, w, e, q, places::less_trit(v, t));
 }
 
 // From row r - 1 to row 0: row e loses, at the column of that row's pivot, the product of the two rows.
@@ -148,11 +129,8 @@ pub fn solve_pivots(
         (pivot_place (matrix_at w ones.old twos.old) (range m)) r
         (matrix_at w ones.old twos.old e)) (matrix_at w ones.old twos.old)) }
 {
-    let mut i = 0;
-    while i < r {
-        i += 1;
-        let c = r - i;
-        let q = pivot_place(ones, twos, rows, w, m, c);
+    for c in (0..r).rev() {
+        let q = pivot_place(Planes { ones, twos }, rows, w, m, c);
         lessen(ones, twos, rows, w, q, c, e);
     }
 }

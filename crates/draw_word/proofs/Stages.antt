@@ -75,13 +75,14 @@ ends_to {n} e h = subst (Ends n) (sym e) h
 -- ---- e_V, then e_U
 
 module _ (z : Sizes) (l : ℕ) (s : Secret) (ch : Choices) where
-  pub test_v : length ch.order_v ≡ half z
-      → eqb (rank (rv z) (length ch.order_v) s.hv (first_v z ch)) (rv z) ≡ eqb (rank (rv z) (half z) s.hv (first_v z ch)) (rv z)
-  test_v e = ap (λ (n : ℕ). eqb (rank (rv z) n s.hv (first_v z ch)) (rv z)) e
+  -- what the test of each half's rank told
+  pub told_v : {t u : Bool} → length ch.order_v ≡ half z → t ≡ eqb (rank (rv z) (length ch.order_v) s.hv (first_v z ch)) (rv z) → t ≡ u
+      → eqb (rank (rv z) (half z) s.hv (first_v z ch)) (rv z) ≡ u
+  told_v e f g = sym (ap (λ (n : ℕ). eqb (rank (rv z) n s.hv (first_v z ch)) (rv z)) e) ∙ sym f ∙ g
 
-  pub test_u : length ch.order_u ≡ half z
-      → eqb (rank (ru z) (length ch.order_u) s.hu (first_u z ch)) (ru z) ≡ eqb (rank (ru z) (half z) s.hu (first_u z ch)) (ru z)
-  test_u e = ap (λ (n : ℕ). eqb (rank (ru z) n s.hu (first_u z ch)) (ru z)) e
+  pub told_u : {t u : Bool} → length ch.order_u ≡ half z → t ≡ eqb (rank (ru z) (length ch.order_u) s.hu (first_u z ch)) (ru z) → t ≡ u
+      → eqb (rank (ru z) (half z) s.hu (first_u z ch)) (ru z) ≡ u
+  told_u e f g = sym (ap (λ (n : ℕ). eqb (rank (ru z) n s.hu (first_u z ch)) (ru z)) e) ∙ sym f ∙ g
 
   module _ {A B : Matrix} (e : length ch.order_v ≡ half z)
       (h : Solved (rv z) (l + 2) (l + 3) A B (Rattle.draw_half.specs.Steps.word_v (rv z) (length ch.order_v) s.hv ch.order_v (gap_v z) ch.trits_v
@@ -204,12 +205,12 @@ module _ (z : Sizes) (i : DrawCall) where
       made = record { left = λ y. row_left; right = λ y. row_right }
 
       valid : Valid z (choices_of i)
-      valid = record { order_v = r.order_v; order_u = r.order_u; values = no_zero_law _ _ r.values }
+      valid = record { order_v = r.choices.order_v; order_u = r.choices.order_u; values = no_zero_law _ _ r.choices.values }
 
       weighs : (m : ℕ) → half z ≤ m → weight_v (C (l + 4)) m + weight_v (C (l + 3)) m ≡ weight_v (drawn z S i.p (syndrome_of i) (choices_of i)) (places z)
       weighs m g =
           drawn_weighs z S i.p (syndrome_of i) (choices_of i) (C (l + 4)) (C (l + 3)) row_left row_right valid (full_v_here z S (choices_of i) e)
-          (full_u_here z S (choices_of i) e) r.p m g
+          (full_u_here z S (choices_of i) e) r.choices.p m g
 
       module _ {x : ℕ} (m : ℕ) (g : half z ≤ m) (y : x ≡ weight_v (C (l + 4)) m + weight_v (C (l + 3)) m) where
         pub ending_fourteen : (x ≡ z.w → ⊥) → 14 ≡ ending z i

@@ -1,6 +1,6 @@
 -- The working space of a draw, stage after stage: rows of N places, the matrix under elimination and its tables below row l, then x_U, x_V,
 -- a row for products, e_V, e_U ("One draw"). No rule of the paper: code is tied to it. Assumes nothing.
-use Rattle.std.specs.Prelude.{◌≡◌, true, List, ℕ, ◌+◌, ◌*◌, ◌≤◌, length}
+use Rattle.std.specs.Prelude.{◌≡◌, List, ℕ, ◌+◌, ◌*◌, ◌≤◌, length}
 use Rattle.trits.specs.Trit.{up_to}
 use Rattle.trits.specs.Planes.{trit_at, Row, words_for}
 use Rattle.trits.specs.Rows.{matrix_at}
@@ -8,13 +8,14 @@ use Rattle.matrix.specs.Linear.{Vector, Matrix, zeros}
 use Rattle.matrix.specs.Orders.{Order}
 use Rattle.grid.specs.Steps.{Rows}
 use Rattle.scheme.specs.declared.sizes.Sizes.{Sizes}
-use Rattle.scheme.specs.Sizes.{half, codim, sizes_fit, places, ru, rv}
+use Rattle.scheme.specs.Sizes.{half, codim, places, ru, rv}
 use Rattle.scheme.specs.Secret.{Secret, join, u_of, v_of, left_of, right_of}
 use Rattle.scheme.specs.Draw.{Choices, placed, draw_v, draw_u}
-use Rattle.calls.specs.Lent.{secret_of, half_words, planes}
+use Rattle.calls.specs.declared.lent.Choices.{Choices as LentChoices}
+use Rattle.calls.specs.Lent.{Planes, secret_of, half_words}
 use Rattle.calls.specs.Steps.{Readable}
 use Rattle.calls.specs.DrawCall.{DrawCall, syndrome_of, choices_of}
-use Rattle.draw_tests.specs.Steps.{given, Ready}
+use Rattle.draw_tests.specs.Steps.{Ready}
 use Rattle.draw_half.specs.Steps.{Ends}
 
 -- b and c alone, with no matrices
@@ -24,6 +25,10 @@ pairs_of bo bt co ct = record { hu = λ i. zeros; hv = λ i. zeros; b = trit_at 
 -- the orders and the supplied trits
 abbrev pub choices : List ℕ → List ℕ → List ℕ → List ℕ → List ℕ → List ℕ → Choices
 choices ov vo vt ou uo ut = record { order_v = ov; trits_v = trit_at vo vt; order_u = ou; values_u = trit_at uo ut }
+
+-- those that the code is lent
+abbrev pub choices_lent : LentChoices → Choices
+choices_lent ch = choices ch.v_order.now ch.v.ones.now ch.v.twos.now ch.u_order.now ch.u.ones.now ch.u.twos.now
 
 -- (y, 0...0) in secret places
 abbrev pub start_word : Sizes → List ℕ → Vector → Vector
@@ -58,9 +63,8 @@ pub record MadeWhere (n : ℕ) (z : Sizes) (l : ℕ) (i : DrawCall) (A : Matrix)
   pub left : n ≡ 0 → A (l + 4) ≡ left_of (secret_of z i.secret) (e_u_of z i) (e_v_of z i)
   pub right : n ≡ 0 → A (l + 3) ≡ right_of (secret_of z i.secret) (e_u_of z i) (e_v_of z i)
 
--- sizes that fit, b, c, an order, a syndrome, and working space
+-- b, c, an order, a syndrome, and working space
 pub record ForPartWord (z : Sizes) (l : ℕ) (b_ones b_twos c_ones c_twos p y_ones y_twos work_ones work_twos : List ℕ) : Type 0 where
-  pub sizes : sizes_fit z ≡ true
   pub b_row : Row b_ones b_twos
   pub c_row : Row c_ones c_twos
   pub b_size_here : length b_ones ≡ half_words z
@@ -72,17 +76,15 @@ pub record ForPartWord (z : Sizes) (l : ℕ) (b_ones b_twos c_ones c_twos p y_on
   pub work_ones_size : length work_ones ≡ (l + 5) * half_words z
   pub work_twos_size : length work_twos ≡ (l + 5) * half_words z
 
--- sizes that fit, a secret that was tested, both orders and their values, and the halves of the word in the working space
-pub record ForSolveHalves (z : Sizes) (l : ℕ) (hu_ones hu_twos hv_ones hv_twos b_ones b_twos c_ones c_twos v_order v_ones v_twos u_order u_ones u_twos work_ones
-    work_twos : List ℕ) : Type 0 where
-  pub sizes : sizes_fit z ≡ true
-  pub secret : Readable z (planes hu_ones hu_twos hv_ones hv_twos b_ones b_twos c_ones c_twos)
-  pub v_is_order : Order (half z) v_order
-  pub u_is_order : Order (half z) u_order
-  pub v_row : Row v_ones v_twos
-  pub u_row : Row u_ones u_twos
-  pub v_size_here : length v_ones ≡ words_for z.kv
-  pub u_size_here : length u_ones ≡ words_for z.ku
+-- a secret that was tested, both orders and their values, and the halves of the word in the working space
+pub record ForSolveHalves (z : Sizes) (l : ℕ) (i : Planes) (ch : LentChoices) (work_ones work_twos : List ℕ) : Type 0 where
+  pub secret : Readable z i
+  pub v_is_order : Order (half z) ch.v_order.now
+  pub u_is_order : Order (half z) ch.u_order.now
+  pub v_row : Row ch.v.ones.now ch.v.twos.now
+  pub u_row : Row ch.u.ones.now ch.u.twos.now
+  pub v_size_here : length ch.v.ones.now ≡ words_for z.kv
+  pub u_size_here : length ch.u.ones.now ≡ words_for z.ku
   pub u_few : ru z + 243 ≤ l
   pub v_few : rv z + 243 ≤ l
   pub small : l ≤ 8435
@@ -92,9 +94,8 @@ pub record ForSolveHalves (z : Sizes) (l : ℕ) (hu_ones hu_twos hv_ones hv_twos
   pub ev_zero : (matrix_at (half_words z) work_ones work_twos) (l + 3) ≡ zeros
   pub eu_zero : (matrix_at (half_words z) work_ones work_twos) (l + 4) ≡ zeros
 
--- sizes that fit, b, c, and the halves of the word in the working space
+-- b, c, and the halves of the word in the working space
 pub record ForJoinWord (z : Sizes) (l : ℕ) (b_ones b_twos c_ones c_twos work_ones work_twos : List ℕ) : Type 0 where
-  pub sizes : sizes_fit z ≡ true
   pub b_row : Row b_ones b_twos
   pub c_row : Row c_ones c_twos
   pub b_size_here : length b_ones ≡ half_words z
@@ -102,12 +103,9 @@ pub record ForJoinWord (z : Sizes) (l : ℕ) (b_ones b_twos c_ones c_twos work_o
   pub small : l ≤ 8435
   pub grid : Rows work_ones work_twos (l + 5) (half_words z)
 
--- sizes that fit, all that a draw is given, tested, and working space
-pub record ForMakeWord (z : Sizes) (l : ℕ)
-    (hu_ones hu_twos hv_ones hv_twos b_ones b_twos c_ones c_twos p y_ones y_twos v_order v_ones v_twos u_order u_ones u_twos work_ones
-    work_twos : List ℕ) : Type 0 where
-  pub sizes : sizes_fit z ≡ true
-  pub ready : Ready z (given (planes hu_ones hu_twos hv_ones hv_twos b_ones b_twos c_ones c_twos) p y_ones y_twos v_order v_ones v_twos u_order u_ones u_twos)
+-- all that a draw is given, tested, and working space
+pub record ForMakeWord (z : Sizes) (l : ℕ) (i : DrawCall) (work_ones work_twos : List ℕ) : Type 0 where
+  pub ready : Ready z i
   pub u_few : ru z + 243 ≤ l
   pub v_few : rv z + 243 ≤ l
   pub small : l ≤ 8435

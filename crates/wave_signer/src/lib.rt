@@ -1,11 +1,16 @@
 // The editor's half for C: each call in numbers. Nothing but what a host needs is exported.
+// The planes are parameters one by one: the C interface may not change.
+#![tactic(auto)]
+
 ghost use Rattle.std.specs.Prelude.{◌≡◌};
 ghost use Rattle.trits.specs.Planes.{pair_of};
 ghost use Rattle.calls.specs.Lent.{planes};
 ghost use Rattle.calls.specs.BuildCall.{build_call, build_answer, order_exit, key_exit, build_work_exit};
 ghost use Rattle.calls.specs.DrawCall.{draw_call, draw_answer, word_exit, s_exit, draw_work_exit};
 
+use calls::lent::{Choices, SecretPlanes};
 use scheme::sizes::Sizes;
+use trits::Planes;
 
 // `build` for C: 0, or the number of the refusal.
 #[unsafe(no_mangle)]
@@ -32,9 +37,26 @@ pub extern "C" fn wave_build(
         (result ≡ build_answer z i) × (p.new ≡ order_exit z i) × (pair_of key_ones.new key_twos.new ≡ key_exit z i)
         × (pair_of work_ones.new work_twos.new ≡ build_work_exit z i) }
 {
+    let secret = SecretPlanes {
+        hu: Planes {
+            ones: hu_ones,
+            twos: hu_twos,
+        },
+        hv: Planes {
+            ones: hv_ones,
+            twos: hv_twos,
+        },
+        b: Planes {
+            ones: b_ones,
+            twos: b_twos,
+        },
+        c: Planes {
+            ones: c_ones,
+            twos: c_twos,
+        },
+    };
     let outcome = build::build(
-        z, hu_ones, hu_twos, hv_ones, hv_twos, b_ones, b_twos, c_ones, c_twos, start, p, key_ones,
-        key_twos, work_ones, work_twos,
+        z, secret, start, p, key_ones, key_twos, work_ones, work_twos,
     );
     trits::refusal::code(outcome) // of the build
 }
@@ -77,10 +99,42 @@ pub extern "C" fn wave_draw(
         × (pair_of s_ones.new s_twos.new ≡ s_exit z i)
         × (pair_of work_ones.new work_twos.new ≡ draw_work_exit z i) }
 {
+    let secret = SecretPlanes {
+        hu: Planes {
+            ones: hu_ones,
+            twos: hu_twos,
+        },
+        hv: Planes {
+            ones: hv_ones,
+            twos: hv_twos,
+        },
+        b: Planes {
+            ones: b_ones,
+            twos: b_twos,
+        },
+        c: Planes {
+            ones: c_ones,
+            twos: c_twos,
+        },
+    };
+    let y = Planes {
+        ones: y_ones,
+        twos: y_twos,
+    };
+    let choices = Choices {
+        v_order,
+        v: Planes {
+            ones: v_ones,
+            twos: v_twos,
+        },
+        u_order,
+        u: Planes {
+            ones: u_ones,
+            twos: u_twos,
+        },
+    };
     let outcome = draw::draw(
-        z, hu_ones, hu_twos, hv_ones, hv_twos, b_ones, b_twos, c_ones, c_twos, p, y_ones, y_twos,
-        v_order, v_ones, v_twos, u_order, u_ones, u_twos, word_ones, word_twos, s_ones, s_twos,
-        work_ones, work_twos,
+        z, secret, p, y, choices, word_ones, word_twos, s_ones, s_twos, work_ones, work_twos,
     );
     trits::refusal::code(outcome) // of the draw
 }

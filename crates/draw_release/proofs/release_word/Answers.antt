@@ -28,16 +28,16 @@ overflow_add-v c = omega (arith, c.requires.small)
 
 pub overflow_add-n : goal.overflow_add-n
 overflow_add-n c =
-    rw c.shape_of-s.ensures (omega (arith, (bounds c.args.z c.requires.sizes).high))
+    rw c.shape-s.ensures (omega (arith, (bounds c.args.z.sizes c.args.z.fit).high))
 
 pub overflow_add-k : goal.overflow_add-k
 overflow_add-k c =
-    let b = bounds c.args.z c.requires.sizes in
+    let b = bounds c.args.z.sizes c.args.z.fit in
     omega (arith, b.high, b.ku, b.kv)
 
 pub overflow_add-first : goal.overflow_add-first
 overflow_add-first c =
-    rw c.shape_of-s.ensures (omega (arith, (bounds c.args.z c.requires.sizes).high))
+    rw c.shape-s.ensures (omega (arith, (bounds c.args.z.sizes c.args.z.fit).high))
 
 pub write_places-requires : goal.write_places-requires
 write_places-requires c =
@@ -45,9 +45,9 @@ write_places-requires c =
     let R = c.requires.grid in
     let n = c.requires in
     let o = c.requires.is_order in
-    let h = (bounds a.z c.requires.sizes).high in
-    let big = prod (a.l + 5) (half_words a.z) 8440 128 (omega (arith, c.requires.small)) (omega (arith, h)) in
-    rw c.shape_of-s.ensures (record {
+    let h = (bounds a.z.sizes a.z.fit).high in
+    let big = prod (a.l + 5) (half_words a.z.sizes) 8440 128 (omega (arith, c.requires.small)) (omega (arith, h)) in
+    rw c.shape-s.ensures (record {
       grid = R;
       is_order = o;
       small = omega (arith, R.size, big);
@@ -62,13 +62,13 @@ write_places-requires c =
 pub write_places-requires-2 : goal.write_places-requires-2
 write_places-requires-2 c =
     let a = c.args in
-    let b = bounds a.z c.requires.sizes in
+    let b = bounds a.z.sizes a.z.fit in
     let R = c.requires.grid in
     let n = c.requires in
     let o = c.requires.is_order in
     let h = b.high in
-    let big = prod (a.l + 5) (half_words a.z) 8440 128 (omega (arith, c.requires.small)) (omega (arith, h)) in
-    rw c.shape_of-s.ensures (record {
+    let big = prod (a.l + 5) (half_words a.z.sizes) 8440 128 (omega (arith, c.requires.small)) (omega (arith, h)) in
+    rw c.shape-s.ensures (record {
       grid = R;
       is_order = o;
       small = omega (arith, R.size, big);
@@ -83,7 +83,7 @@ write_places-requires-2 c =
 pub returns : goal.returns
 returns c =
     let n = c.requires in
-    let e = c.shape_of-s.ensures in
+    let e = c.shape-s.ensures in
     let w = rw e at c.write_places.ensures in
     let t = rw e at c.write_places-2.ensures in (
       ones_sized _ w.oo_after n.word_ones_size,

@@ -1,7 +1,6 @@
 -- The number of the outcome is what the outcome is told by.
 -- Assumes nothing.
 use mathlib.Core.Path.{◌∙◌}
-use borrow.Author.Rules.{rules}
 use Rattle.wave_signer.proofs.wave_draw.Goals as goal
 
 pub returns : goal.returns

@@ -9,33 +9,9 @@ use Rattle.matrix.specs.Linear.{zeros}
 use Rattle.draw_half.proofs.HalfWords.{ends_row, row_before, row_t, last_alone, solved_v}
 use Rattle.draw_half.proofs.halves.draw_v.Goals as goal
 
-pub zero_row-requires : goal.zero_row-requires
-zero_row-requires c =
-    record {
-      rows = c.requires.grid;
-      i_lt_rows = c.requires.t_in;
-    }
-
-pub supply_last-requires : goal.supply_last-requires
-supply_last-requires c =
-    let p = c.requires in
-    let g = c.zero_row.ensures.rows in record {
-      grid = g;
-      source = p.v_row;
-      is_order = p.is_order;
-      small = omega (arith, g.size, p.grid.size, p.small);
-      narrow = p.narrow;
-      places_fit = p.places_fit;
-      front = p.front;
-      e_in = p.e_in;
-      room = omega (arith, p.front, p.v_room);
-      gap = omega arith;
-    }
-
 pub solve_half-requires : goal.solve_half-requires
 solve_half-requires c =
     let A = matrix_at c.args.w c.args.ones.now c.args.twos.now in
-    let trits_v = trit_at c.args.vo.now c.args.vt.now in
     let a = c.args in
     let p = c.requires in
     let q = c.zero_row.ensures in
@@ -59,22 +35,21 @@ solve_half-requires c =
       x_apart = p.apart;
       t_apart = p.t_apart;
       rows_apart = p.rows_apart;
-      x_ends = ends_row (row_before A a.t a.e zeros _ p.t_apart q.cells g.cells a.x p.apart p.rows_apart) p.x_ends;
-      t_zero = row_t A a.t a.e zeros _ p.t_apart q.cells g.cells;
-      e_last = last_alone A a.t a.e (drop (a.r + a.g) a.order.now) (λ j. trits_v (a.g + j)) p.t_apart p.e_zero q.cells
-          g.cells;
+      x_ends = ends_row (row_before A a.at.t a.at.e zeros _ p.t_apart q.cells g.cells a.at.x p.apart p.rows_apart) p.x_ends;
+      t_zero = row_t A a.at.t a.at.e zeros _ p.t_apart q.cells g.cells;
+      e_last = last_alone A a.at.t a.at.e (drop (a.half.r + a.half.gap) a.half.order.now) _ p.t_apart p.e_zero q.cells g.cells;
     }
 
 pub returns : goal.returns
 returns c =
     let A = matrix_at c.args.w c.args.ones.now c.args.twos.now in
-    let H = matrix_at c.args.w c.args.ho.now c.args.ht.now in
-    let trits_v = trit_at c.args.vo.now c.args.vt.now in
+    let H = matrix_at c.args.w c.args.half.h.ones.now c.args.half.h.twos.now in
+    let trits_v = trit_at c.args.v.ones.now c.args.v.twos.now in
     let a = c.args in
     let p = c.requires in
     let d = c.solve_half.ensures in record {
       value = d.value;
       rows = d.rows;
-      solved_where = solved_v a.r a.g H A a.order.now p.is_order p.front a.x a.t a.e p.apart p.t_apart p.rows_apart
+      solved_where = solved_v a.half.r a.half.gap H A a.half.order.now p.is_order p.front a.at.x a.at.t a.at.e p.apart p.t_apart p.rows_apart
           p.e_zero trits_v c.zero_row.ensures.cells c.supply_last.ensures.cells d.value d.solved_where;
     }

@@ -6,26 +6,6 @@ use Rattle.trits.specs.Trit.{trit_of}
 use Rattle.draw_pairs.proofs.PlacedHalves.{put_low, put_high}
 use Rattle.draw_pairs.proofs.places.put_place.Goals as goal
 
-pub put_at-requires : goal.put_at-requires
-put_at-requires c =
-    let p = c.requires in record {
-      grid = c.requires.grid;
-      small = p.small;
-      i_in = p.u_in;
-      place = omega (arith, p.half_fits, c.if-q-half.true);
-      trit = p.trit;
-    }
-
-pub put_at-requires-else-q-half : goal.put_at-requires-else-q-half
-put_at-requires-else-q-half c =
-    let p = c.requires in record {
-      grid = c.requires.grid;
-      small = p.small;
-      i_in = p.v_in;
-      place = omega (arith, p.half_fits, p.place, c.if-q-half.false);
-      trit = p.trit;
-    }
-
 pub returns-then-q-half : goal.returns-then-q-half
 returns-then-q-half c =
     let a = c.args in

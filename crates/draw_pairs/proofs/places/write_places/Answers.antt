@@ -18,7 +18,7 @@ put_places-requires c =
     let p = c.requires in record {
       grid = c.requires.grid;
       nothing_put =
-          zeros_hold (written_from a.half (matrix_at a.w a.ones.now a.twos.now a.u) (matrix_at a.w a.ones.now a.twos.now a.v)
+          zeros_hold (written_from a.half (matrix_at a.w a.m.ones.now a.m.twos.now a.u) (matrix_at a.w a.m.ones.now a.m.twos.now a.v)
           a.p.now a.from) e c.zero_words-2.ensures p.twos_size;
       is_order = c.requires.is_order;
       small = c.requires.small;
@@ -33,7 +33,7 @@ pub returns : goal.returns
 returns c =
     let a = c.args in
     let n = ap length c.zero_words.ensures ∙ length_zeros (length a.oo.now) in
-    let w = reads_words c.put_places.ensures n (λ j. (c.slice_known-5-1.given j).fits) (λ j. (c.slice_known-6-1.given j).fits) in
+    let w = reads_words c.put_places.ensures n (λ j. (c.type_inv.oo j).fits) (λ j. (c.type_inv.ot j).fits) in
     record {
       oo_after = w.ones_are;
       ot_after = w.twos_are;

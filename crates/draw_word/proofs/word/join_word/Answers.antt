@@ -21,7 +21,7 @@ overflow_add-l c = omega (arith, c.requires.small)
 
 pub join_halves-requires : goal.join_halves-requires
 join_halves-requires c =
-    rw c.shape_of-s.ensures (record {
+    rw c.shape-s.ensures (record {
       grid = c.requires.grid;
       b_row = c.requires.b_row;
       c_row = c.requires.c_row;
@@ -36,8 +36,8 @@ join_halves-requires c =
 
 pub pair_weight-requires : goal.pair_weight-requires
 pair_weight-requires c =
-    let b = bounds c.args.z c.requires.sizes in
-    let e = c.shape_of-s.ensures in
+    let b = bounds c.args.z.sizes c.args.z.fit in
+    let e = c.shape-s.ensures in
     rw e (record {
       grid = (rw e at c.join_halves.ensures).rows;
       few = omega (arith, c.requires.small);
@@ -49,9 +49,9 @@ pair_weight-requires c =
 pub returns : goal.returns
 returns c =
     let a = c.args in
-    let e = c.shape_of-s.ensures in
+    let e = c.shape-s.ensures in
     let j = rw e at c.join_halves.ensures in (
       j.rows,
-      word_joined a.l (pairs_of a.b_ones.now a.b_twos.now a.c_ones.now a.c_twos.now) (half_words a.z) _ _ _ _ j,
+      word_joined a.l (pairs_of a.b.ones.now a.b.twos.now a.c.ones.now a.c.twos.now) (half_words a.z.sizes) _ _ _ _ j,
       rw e at c.pair_weight.ensures,
     )

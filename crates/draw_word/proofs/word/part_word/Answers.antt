@@ -9,12 +9,12 @@ use Rattle.draw_word.specs.Steps.{pairs_of, start_word}
 use Rattle.draw_word.proofs.Stages.{space_rows, space_empty, word_parted}
 use Rattle.draw_word.proofs.word.part_word.Goals as goal
 
-pub overflow_add-count : goal.overflow_add-count
-overflow_add-count c =
+pub overflow_add-s : goal.overflow_add-s
+overflow_add-s c =
     -- the sizes are in their ranges
-    let within : Bounds c.args.z =
-    bounds c.args.z c.requires.sizes in
-    rw c.shape_of-s.ensures (omega (arith, (within).high))
+    let within : Bounds c.args.z.sizes =
+    bounds c.args.z.sizes c.args.z.fit in
+    rw c.shape-s.ensures (omega (arith, (within).high))
 
 pub overflow_add-rows : goal.overflow_add-rows
 overflow_add-rows c = omega (arith, c.requires.small)
@@ -22,20 +22,20 @@ overflow_add-rows c = omega (arith, c.requires.small)
 pub place_syndrome-requires : goal.place_syndrome-requires
 place_syndrome-requires c =
     -- the sizes are in their ranges
-    let within : Bounds c.args.z =
-    bounds c.args.z c.requires.sizes in
+    let within : Bounds c.args.z.sizes =
+    bounds c.args.z.sizes c.args.z.fit in
     -- the working space has few words
-    let few : (c.args.l + 5) * half_words c.args.z ≤ 8440 * 128 =
+    let few : (c.args.l + 5) * half_words c.args.z.sizes ≤ 8440 * 128 =
     let h = (within).high in
-    prod (c.args.l + 5) (half_words c.args.z) 8440 128 (omega (arith, c.requires.small)) (omega (arith, h)) in
+    prod (c.args.l + 5) (half_words c.args.z.sizes) 8440 128 (omega (arith, c.requires.small)) (omega (arith, h)) in
     let a = c.args in
     let b = within in
     let m = c.requires in
     let q = c.clear.ensures in
     let h = b.high in
-    let r = space_rows _ _ (a.l + 5) (half_words a.z) q.0 q.1 m.work_ones_size m.work_twos_size in
-    let none = space_empty _ _ (a.l + 5) (half_words a.z) q.0 q.1 m.work_ones_size m.work_twos_size in
-    rw c.shape_of-s.ensures (record {
+    let r = space_rows _ _ (a.l + 5) (half_words a.z.sizes) q.0 q.1 m.work_ones_size m.work_twos_size in
+    let none = space_empty _ _ (a.l + 5) (half_words a.z.sizes) q.0 q.1 m.work_ones_size m.work_twos_size in
+    rw c.shape-s.ensures (record {
       grid = r;
       u_zero = none a.l;
       v_zero = none (a.l + 1);
@@ -50,7 +50,7 @@ place_syndrome-requires c =
 
 pub part_halves-requires : goal.part_halves-requires
 part_halves-requires c =
-    let e = c.shape_of-s.ensures in
+    let e = c.shape-s.ensures in
     rw e (record {
       grid = (rw e at c.place_syndrome.ensures).rows;
       b_row = c.requires.b_row;
@@ -65,11 +65,11 @@ returns c =
     let a = c.args in
     let m = c.requires in
     let q = c.clear.ensures in
-    let e = c.shape_of-s.ensures in
+    let e = c.shape-s.ensures in
     let h = rw e at c.part_halves.ensures in record {
       rows = h.rows;
-      parted = word_parted a.z a.l (pairs_of a.b_ones.now a.b_twos.now a.c_ones.now a.c_twos.now)
-          (start_word a.z a.p.now (trit_at a.y_ones.now a.y_twos.now)) (half_words a.z) _ _ _ _ _ _
-          (space_empty _ _ (a.l + 5) (half_words a.z) q.0 q.1 m.work_ones_size m.work_twos_size)
+      parted = word_parted a.z.sizes a.l (pairs_of a.b.ones.now a.b.twos.now a.c.ones.now a.c.twos.now)
+          (start_word a.z.sizes a.p.now (trit_at a.y.ones.now a.y.twos.now)) (half_words a.z.sizes) _ _ _ _ _ _
+          (space_empty _ _ (a.l + 5) (half_words a.z.sizes) q.0 q.1 m.work_ones_size m.work_twos_size)
           (rw e at c.place_syndrome.ensures) h;
     }

@@ -32,7 +32,8 @@ fn draw(p: &[u16], x: u64, s_ones: &mut [u64], s_twos: &mut [u64]) -> Result<(),
     let mut u_order = [0; 32];
     let mut v_ones = [0];
     let mut v_twos = [0];
-    let last = samples::fill_row(10, x, &mut v_ones, &mut v_twos)?;
+    let (last, filled) = samples::fill_row(10, x, &mut v_ones, &mut v_twos);
+    filled?;
     let values = samples::next(last) % 65536;
     samples::fill_order(&mut v_order, 2 * (x % 16) as usize + 1, (x % 32) as usize);
     samples::fill_order(

@@ -1,6 +1,6 @@
 // Choices for draws, made up: the same ones on every run.
-ghost use Rattle.std.specs.Prelude.{◌≡◌, ◌+◌, ◌*◌, ◌/◌, ◌%◌, ◌<◌, ◌≤◌, MatchResult, length};
-ghost use Rattle.trits.specs.Refusal.{number_of};
+ghost use Rattle.std.specs.Prelude.{◌≡◌, ◌+◌, ◌*◌, ◌/◌, ◌%◌, ◌<◌, ◌≤◌, length};
+ghost use Rattle.trits.specs.Refusal.{code_of};
 ghost use Rattle.packed.specs.Calls.{unpack_of, unpack_refusal, unpack_ones, unpack_twos};
 ghost use Rattle.sign_lines.specs.{following, number_after, packed_after, turned, ring_order};
 ghost use Rattle.sign_lines.specs.Steps.{ForTurn, ForFillOrder};
@@ -34,30 +34,27 @@ pub fn fill_bytes(bytes: &mut [u8], x: u64) -> u64
     state
 }
 
-// A row of m trits, unpacked from such bytes; the answer is the last number of the sequence.
+// A row of m trits, unpacked from such bytes; the last number of the sequence, and what became of the row.
 fn unpack_row(
     m: usize,
     x: u64,
     bytes: &mut [u8],
     ones: &mut [u64],
     twos: &mut [u64],
-) -> Result<u64, Refusal>
+) -> (u64, Result<(), Refusal>)
     ensures { let c = unpack_of m (packed_after (length bytes.old) x) ones.old twos.old in
-        MatchResult result (λ last. (unpack_refusal c ≡ 0) × (last ≡ number_after (length bytes.old) x))
-        (λ refusal. unpack_refusal c ≡ number_of refusal)
+        (code_of result.1 ≡ unpack_refusal c) × (result.0 ≡ number_after (length bytes.old) x)
         × (ones.new ≡ unpack_ones c) × (twos.new ≡ unpack_twos c) }
 {
     let last = fill_bytes(bytes, x);
-    packing::unpack(m, bytes, ones, twos)?;
-    Ok(last)
+    (last, packing::unpack(m, bytes, ones, twos))
 }
 
 // The same with bytes of its own.
-pub fn fill_row(m: usize, x: u64, ones: &mut [u64], twos: &mut [u64]) -> Result<u64, Refusal>
+pub fn fill_row(m: usize, x: u64, ones: &mut [u64], twos: &mut [u64]) -> (u64, Result<(), Refusal>)
     requires { m ≤ 16384 }
     ensures { let c = unpack_of m (packed_after ((m + 4) / 5) x) ones.old twos.old in
-        MatchResult result (λ last. (unpack_refusal c ≡ 0) × (last ≡ number_after ((m + 4) / 5) x))
-        (λ refusal. unpack_refusal c ≡ number_of refusal)
+        (code_of result.1 ≡ unpack_refusal c) × (result.0 ≡ number_after ((m + 4) / 5) x)
         × (ones.new ≡ unpack_ones c) × (twos.new ≡ unpack_twos c) }
 {
     let b = m.div_ceil(5);

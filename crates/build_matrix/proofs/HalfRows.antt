@@ -7,10 +7,11 @@ use native.Mathlib.Decide.{dec_lt, ℕ_discrete}
 use native.Mathlib.Omega.{arith}
 use borrow.Author.Tests.{eq-eqb, ne_eqb, lt-ltb, le-ltb, lt-leb, le-leb}
 use lib.Dec.{eqb, leb, ltb}
-use Rattle.trits.specs.Trit.{Trit, t0, t1, add_t, mul_t, neg_t}
-use Rattle.trits.specs.Planes.{trit_at}
+use lib.ListN.{length}
+use Rattle.trits.specs.Trit.{Trit, t0, t1, add_t, mul_t, neg_t, neg_v, zip_v}
+use Rattle.trits.specs.Planes.{trit_at, Reads}
 use Rattle.trits.specs.Rows.{matrix_at}
-use Rattle.trits.proofs.Arithmetic.{law2}
+use Rattle.trits.proofs.Arithmetic.{law2, law3}
 use Rattle.matrix.specs.Linear.{Vector, Matrix}
 use Rattle.grid.specs.Steps.{Grid, put_row}
 use Rattle.grid.proofs.Cells.{grid_to}
@@ -18,7 +19,37 @@ use Rattle.build_matrix.specs.declared.halves.Half.{Half}
 use Rattle.build_matrix.specs.declared.halves.Half.TheVariants.{Scaled, Negative, Same}
 use Rattle.build_matrix.specs.Steps.{scaled_by, negative_by, half_of, halves_in}
 
--- ---- the products are 0 where the row is
+-- ---- the products
+
+pub scaled_trits : (h b c : Vector) → zip_v add_t (zip_v mul_t (zip_v mul_t h b) c) h ≡ scaled_by b c h
+scaled_trits h b c = fun_ext (λ q. law3 (λ x y z. add_t (mul_t (mul_t x y) z) x) (λ x y z. mul_t (add_t t1 (mul_t y z)) x) tt (h q) (b q) (c q))
+
+pub negative_trits : (h v : Vector) → neg_v (zip_v mul_t h v) ≡ negative_by v h
+negative_trits h v = fun_ext (λ q. law2 (λ x y. neg_t (mul_t x y)) (λ x y. neg_t (mul_t y x)) tt (h q) (v q))
+
+module _ {ho ht o t o₂ t₂ : List ℕ} {n : ℕ} (v : Vector) (e : o ≡ ho) (f : t ≡ ht) (l : length ho ≡ n)
+    (m : Reads o₂ t₂ (length o) (zip_v mul_t (trit_at o t) v)) where
+  times : trit_at o₂ t₂ ≡ zip_v mul_t (trit_at ho ht) v
+  times = m.trits ∙ ap₂ (λ (a b : List ℕ). zip_v mul_t (trit_at a b) v) e f
+
+  pub negative_done : {o₃ t₃ : List ℕ} → Reads o₃ t₃ (length o₂) (neg_v (trit_at o₂ t₂)) → Reads o₃ t₃ n (negative_by v (trit_at ho ht))
+  negative_done d = record {
+    row = d.row;
+    size = d.size ∙ m.size ∙ ap length e ∙ l;
+    trits = d.trits ∙ ap neg_v times ∙ negative_trits (trit_at ho ht) v;
+  }
+
+  pub scaled_done : {o₃ t₃ o₄ t₄ : List ℕ} (c : Vector) → Reads o₃ t₃ (length o₂) (zip_v mul_t (trit_at o₂ t₂) c)
+      → Reads o₄ t₄ (length o₃) (zip_v add_t (trit_at o₃ t₃) (trit_at ho ht))
+      → Reads o₄ t₄ n (scaled_by v c (trit_at ho ht))
+  scaled_done c d s = record {
+    row = s.row;
+    size = s.size ∙ d.size ∙ m.size ∙ ap length e ∙ l;
+    trits = s.trits ∙ ap (λ (u : Vector). zip_v add_t u (trit_at ho ht)) (d.trits ∙ ap (λ (u : Vector). zip_v mul_t u c) times)
+        ∙ scaled_trits (trit_at ho ht) v c;
+  }
+
+-- ---- they are 0 where the row is
 
 pub scaled_past : (b c h : Vector) (q : ℕ) → h q ≡ t0 → t0 ≡ scaled_by b c h q
 scaled_past b c h q e = law2 (λ x y. t0) (λ x y. mul_t (add_t t1 (mul_t x y)) t0) tt (b q) (c q) ∙ ap (mul_t (add_t t1 (mul_t (b q) (c q)))) (sym e)

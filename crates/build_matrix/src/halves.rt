@@ -17,27 +17,27 @@ pub enum Half<'a> {
 }
 
 // The row becomes h times 1 + b·c: h times b times c, and h added.
-fn scaled(ones: &mut [u64], twos: &mut [u64], h: Planes, b: Planes, c: Planes)
+pub fn scaled(ones: &mut [u64], twos: &mut [u64], h: Planes, b: Planes, c: Planes)
     requires { ForScaled ones.old twos.old h.ones.now h.twos.now b.ones.now b.twos.now c.ones.now c.twos.now }
     ensures { Reads ones.new twos.new (length ones.old)
         (scaled_by (trit_at b.entry.ones.now b.entry.twos.now) (trit_at c.entry.ones.now c.entry.twos.now)
         (trit_at h.entry.ones.now h.entry.twos.now)) }
 {
-    ones.copy_from_slice(h.ones);
-    twos.copy_from_slice(h.twos);
+    planes::words::copy_words(ones, h.ones);
+    planes::words::copy_words(twos, h.twos);
     rows::mul_row(ones, twos, b);
     rows::mul_row(ones, twos, c);
     rows::add_row(ones, twos, h);
 }
 
 // The row becomes the negative of h times v.
-fn negative(ones: &mut [u64], twos: &mut [u64], h: Planes, v: Planes)
+pub fn negative(ones: &mut [u64], twos: &mut [u64], h: Planes, v: Planes)
     requires { ForNegative ones.old twos.old h.ones.now h.twos.now v.ones.now v.twos.now }
     ensures { Reads ones.new twos.new (length ones.old)
         (negative_by (trit_at v.entry.ones.now v.entry.twos.now) (trit_at h.entry.ones.now h.entry.twos.now)) }
 {
-    ones.copy_from_slice(h.ones);
-    twos.copy_from_slice(h.twos);
+    planes::words::copy_words(ones, h.ones);
+    planes::words::copy_words(twos, h.twos);
     rows::mul_row(ones, twos, v);
     rows::negate_row(ones, twos);
 }
@@ -52,8 +52,8 @@ impl Half<'_> {
             Half::Scaled(b, c) => scaled(ones, twos, h, b, c),
             Half::Negative(v) => negative(ones, twos, h, v),
             Half::Same => {
-                ones.copy_from_slice(h.ones);
-                twos.copy_from_slice(h.twos);
+                planes::words::copy_words(ones, h.ones);
+                planes::words::copy_words(twos, h.twos);
             }
         }
     }

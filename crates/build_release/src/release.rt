@@ -5,7 +5,7 @@ ghost use Rattle.calls.specs.Lent.{planes_of, secret_of};
 ghost use Rattle.calls.specs.BuildCall.{key_ones_of, key_twos_of};
 ghost use Rattle.build_release.specs.Steps.{Filled, ForFillMatrix, ForRelease};
 
-use super::make;
+use super::{make, order};
 use build_matrix::fill;
 use build_matrix::halves::Half;
 use calls::lent::SecretPlanes;
@@ -60,7 +60,7 @@ pub fn release(
     let kw = r.div_ceil(64);
     let w = words + words; // of both halves
     fill_matrix(z, secret, work_ones, work_twos);
-    p.copy_from_slice(start);
+    order::copy_order(p, start);
     make::make_key(
         work_ones, work_twos, r, w, half, words, p, k, kw, key_ones, key_twos,
     );

@@ -15,7 +15,10 @@ pub fn write_row(part: &mut [u64], row: &[u64])
     requires { length row.now ≤ length part.old }
     ensures { part.new ≡ row.now ++ drop (length row.now) part.old }
 {
-    part[..row.len()].copy_from_slice(row);
+    // word by word: a call of the library for it would be a name that a host has to have
+    for i in 0..row.len() {
+        part[i] = row[i];
+    }
 }
 
 // A row is written into a plane from word `start` on; no other word changes.
@@ -31,7 +34,7 @@ pub fn copy_words(plane: &mut [u64], src: &[u64])
     requires { length src.now ≡ length plane.old }
     ensures { plane.new ≡ src.now }
 {
-    plane.copy_from_slice(src);
+    write_row(plane, src);
 }
 
 // Row i of a plane of `rows` rows of `words` words each, or the empty part.

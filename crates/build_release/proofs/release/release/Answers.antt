@@ -22,7 +22,7 @@ make_key-requires c =
     let r = q.is_order in
     let b = bounds z c.args.z.fit in
     let f = c.fill_matrix.ensures in
-    let e = c.copy_from_slice.ensures.after in
+    let e = c.copy_order.ensures in
     let n = ready_size z s o f e r.size r q.rank_full in
     rw (row_words z c.shape-half.ensures c.div_ceil-kw.ensures, c.shape-half.ensures) (record {
       grid = f.rows;
@@ -48,7 +48,7 @@ returns c =
     let q = c.requires in
     let r = q.is_order in
     let f = c.fill_matrix.ensures in
-    let e = c.copy_from_slice.ensures.after in
+    let e = c.copy_order.ensures in
     let g = rw (row_words z c.shape-half.ensures c.div_ceil-kw.ensures, c.shape-half.ensures) at c.make_key.ensures in (
       final_order z s o f e r.size r q.rank_full g.order_after,
       g.ko_after ∙ final_ones z s o f e r.size r q.rank_full g.order_after,

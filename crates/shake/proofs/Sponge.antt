@@ -165,6 +165,11 @@ pub length_squeezed : (s : State) (n : ℕ) → length (squeezed_bytes s n) ≡ 
 unfolding squeezed_bytes
 length_squeezed s n = length_tabulate n (squeezed_byte s)
 
+pub gives_at : {s : State} {i p : ℕ} {b : List (List ℕ)} {block : List ℕ} → Gives s i b block p → (n : ℕ) → i < n
+    → get_or block p 0 ≡ get_or (squeezed_bytes s n) i 0
+unfolding squeezed_bytes
+gives_at {s} {i} g n l = gives_byte g ∙ sym (get_d_tabulate n (squeezed_byte s) i 0 l)
+
 -- a byte that is taken is that of its place in the output
 pub taken_at : {before after : Output} {byte : ℕ} {s : State} {i : ℕ} → Taken before byte after → Gives s i before.state before.block before.place
     → (n : ℕ) → i < n → byte ≡ get_or (squeezed_bytes s n) i 0

@@ -1,6 +1,7 @@
 // Blocks of the output, taken from states.
 ghost use Rattle.std.specs.Prelude.{◌≡◌, ◌<◌, length};
-ghost use Rattle.keccak.specs.Lanes.{lane_at};
+ghost use Rattle.keccak.specs.Keccak.{permuted};
+ghost use Rattle.keccak.specs.Lanes.{lane_at, lanes_of};
 ghost use Rattle.shake.specs.Shake.{rate, squeezed_bytes};
 ghost use Rattle.shake.specs.Steps.{lane_bytes, state_bytes};
 ghost use Rattle.shake.specs.Output.{output_of, Taken};
@@ -44,7 +45,17 @@ impl Output {
         }
     }
 
+    // The output from the state that comes after a.
+    fn after(a: [[u64; 5]; 5]) -> Output
+        ensures { result ≡ output_of (lanes_of (permuted (lane_at a))) }
+    {
+        let next = keccak::permute(a);
+        Output::of(next)
+    }
+
     // The next byte; after the last of a block comes the first of the next.
+    // A call for each byte takes half as long again: what is done for each stands in the caller's loop, and the next block is made apart.
+    #[inline(always)]
     pub fn next(&mut self) -> u8
         requires { self.old.place < rate }
         ensures { Taken self.old result self.new }
@@ -52,8 +63,7 @@ impl Output {
         let byte = self.block[self.place];
         self.place += 1;
         if self.place == 136 {
-            let next = keccak::permute(self.state);
-            *self = Output::of(next);
+            *self = Output::after(self.state);
         }
         byte
     }

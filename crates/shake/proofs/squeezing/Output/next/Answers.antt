@@ -6,7 +6,7 @@ use Rattle.shake.proofs.squeezing.Output.next.Goals as goal
 
 pub returns-then-self-eq136 : goal.returns-then-self-eq136
 returns-then-self-eq136 c =
-    record { is_next = λ g. gives_byte g; goes_on = λ g. rw c.of.ensures (gives_permuted g c.if-self-eq136.true c.permute-next.ensures refl) }
+    record { is_next = λ g. gives_byte g; goes_on = λ g. rw c.after.ensures (gives_permuted g c.if-self-eq136.true refl refl) }
 
 pub returns-else-self-eq136 : goal.returns-else-self-eq136
 returns-else-self-eq136 c =

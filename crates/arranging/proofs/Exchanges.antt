@@ -54,6 +54,9 @@ abbrev pub exchanged_to : ℕ → ℕ → ℕ → Matrix → Matrix
 exchanged_to a b i A k t = cond (ltb k i) (A k (other a b t)) (A k t)
 
 module _ (a b : ℕ) (A : Matrix) where
+  pub exchanged_none : A ≡ exchanged_to a b 0 A
+  exchanged_none = fun_ext (λ k. fun_ext (λ t. sym (rw (le-ltb k 0 (omega arith)))))
+
   pub exchanged_turn : (i : ℕ) {M N : Matrix} → M ≡ exchanged_to a b i A → N ≡ exchanged_in a b i M → N ≡ exchanged_to a b (i + 1) A
   exchanged_turn i {M} {N} e f = f ∙ ap (exchanged_in a b i) e ∙ fun_ext (λ k. fun_ext (λ t. by k t (ℕ_discrete k i)))
     where

@@ -137,6 +137,9 @@ pub record Going (r : ℕ) (A : Matrix) (p : List ℕ) (left at : ℕ) (M : Matr
   pub few : at ≤ r
   pub low : (i t : ℕ) → at ≤ i → i < r → t < at → M i t ≡ t0
 
+pub going_none : (r : ℕ) (A : Matrix) (p : List ℕ) → Going r A p (length p) 0 A p
+going_none r A p = record { todo = end_same refl; size = refl; room = omega arith; few = omega arith; low = λ i t x y z. absurd (omega arith) }
+
 pub going_block : {r : ℕ} {A : Matrix} {p : List ℕ} {left n at k : ℕ} {L M B : Matrix} {q q' : List ℕ} → Going r A p left at L q
     → PivotsTaken r at k left n q q' L M → at + k ≤ r → Cleared r k at (at + k) r M B → Going r A p n (at + k) B q'
 going_block {r} {A} {p} {left} {n} {at} {k} {L} {M} {B} {q} {q'} g x h d = record {
@@ -161,6 +164,11 @@ going_block {r} {A} {p} {left} {n} {at} {k} {L} {M} {B} {q} {q'} g x h d = recor
     zero i t a b c (no m) =
         let e : from at (t - at) ≡ t = omega arith in
         ap (less_of k (from at) (basis r M) (M i)) (sym e) ∙ less_zero k (from at) (basis r M) x.unit (M i) (t - at) (omega arith)
+
+-- what the block asks for: the rule keeps r columns still
+pub going_full : {r : ℕ} {A : Matrix} {p : List ℕ} {left at : ℕ} {M : Matrix} {q : List ℕ} → Going r A p left at M q
+    → (column_rule r (length p) 0 A p).kept ≡ r → (column_rule r left at M q).kept ≡ r
+going_full g e = g.todo.kept ∙ e
 
 pub going_done : {r : ℕ} {A : Matrix} {p : List ℕ} {left at : ℕ} {M : Matrix} {q : List ℕ} → Going r A p left at M q → r ≤ at
     → Arranged r (column_rule r (length p) 0 A p) M q

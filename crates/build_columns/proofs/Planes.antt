@@ -1,5 +1,5 @@
 -- One plane whose columns are gathered from its own rows: the columns turned, a word of some rows, these rows, all rows. Assumes nothing.
-use mathlib.Core.Path.{◌≡◌, sym, ap, ◌∙◌}
+use mathlib.Core.Path.{◌≡◌, refl, sym, ap, ◌∙◌}
 use mathlib.Core.List.{List}
 use Prim.Native.Nat.{ℕ, ◌+◌, ◌*◌, ◌/◌, ◌%◌, ◌≤◌, ◌<◌}
 use native.Mathlib.Nat.{mul-le-mul_right}
@@ -15,7 +15,7 @@ use Rattle.trits.proofs.Parts.{length_mid, put_patched}
 use Rattle.gathering.specs.Steps.{picked, TurnedPick, Stored, GatheredRows, EndOf}
 use Rattle.gathering.specs.Own.{OwnBlock}
 use Rattle.gathering.proofs.Blocks.{picked_same}
-use Rattle.gathering.proofs.Planes.{word_gathered, GatheringRows, rows_turn, plane_turn}
+use Rattle.gathering.proofs.Planes.{word_gathered, GatheringRows, rows_turn, plane_none, plane_turn}
 use Rattle.gathering.proofs.OwnBlocks.{same_front}
 use Rattle.build_columns.specs.Steps.{OwnColumns, OwnWord, OwnRows}
 
@@ -65,6 +65,19 @@ pub record OwnGathering (w r i e : ℕ) (columns : List ℕ) (m c : ℕ) (l₀ l
   pub rows : GatheringRows w r i e (take (r * w) l₀) columns m c l₀ l
   pub after : (p : ℕ) → e * w ≤ p → p < r * w → get_or l p 0 ≡ get_or l₀ p 0
 
+pub gathering_none : {l₀ l columns : List ℕ} {w r i e m : ℕ} → r * w ≤ length l₀ → OwnColumns w r i w l₀ l → OwnGathering w r i e columns m 0 l l
+gathering_none {l₀} {l} {columns} {w} {r} {i} {e} {m} room a = record {
+  rows = record {
+    kept = refl;
+    columns = λ q x g f. a.bits q x g f
+        ∙ ap (λ (z : List ℕ). bit (q % 64) (get_or z ((i + x) * w + q / 64) 0)) (sym (same_front (r * w) l₀ l room a.kept a.before));
+    bits = λ k q g f o. absurd (omega arith);
+    before = λ p g. refl;
+    past = λ p g. refl;
+  };
+  after = λ p g h. refl;
+}
+
 pub gathering_turn : {l₀ l l' columns : List ℕ} {w r i e m c : ℕ} → EndOf i r e → c < w → ((j : ℕ) → j < m → get_or columns j 0 < 64 * w)
     → OwnGathering w r i e columns m c l₀ l → OwnWord w r i e columns m c l l' → OwnGathering w r i e columns m (c + 1) l₀ l'
 gathering_turn rows h places a b =
@@ -86,6 +99,9 @@ gathering_done {l₀} {l₁} {l} {columns} {w} {r} {i} {e} {m} room rows a b d =
 }
 
 -- ---- all rows
+
+pub own_plane_none : (w r : ℕ) (columns : List ℕ) (m : ℕ) (l : List ℕ) → OwnRows w r 0 0 columns m l l
+own_plane_none w r columns m l = record { rows = plane_none w r (take (r * w) l) columns m l; after = λ p g h. refl }
 
 module _ {l₀ l l' columns : List ℕ} {w r i e m : ℕ} (rows : EndOf i r e) (places : (j : ℕ) → j < m → get_or columns j 0 < 64 * w)
     (a : OwnRows w r 0 i columns m l₀ l) (b : OwnRows w r i e columns m l l') where

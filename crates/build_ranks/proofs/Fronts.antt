@@ -3,7 +3,7 @@ use mathlib.Core.Path.{◌≡◌, refl, sym, ap, ap₂, ◌∙◌, subst}
 use mathlib.Core.List.{List, ◌++◌}
 use Prim.Native.Nat.{ℕ, ◌+◌, ◌*◌, ◌/◌, ◌%◌, ◌≤◌, ◌<◌}
 use native.Mathlib.Decide.{dec_lt, ℕ_discrete}
-use native.Mathlib.Nat.{mul-le-mul_right, suc-mul}
+use native.Mathlib.Nat.{mul-le-mul_left, mul-le-mul_right, suc-mul}
 use native.Mathlib.Numerals.{add-one}
 use native.Mathlib.Omega.{arith}
 use borrow.Rule.Slice.PartMut.{mid_of}
@@ -87,3 +87,7 @@ module _ {o t o₀ t₀ os ts : List ℕ} {w v r : ℕ} (fo : Fronts o w v r o�
         let lo : length os ≡ rows * v = fo.kept ∙ ap (λ (x : List ℕ). length x) eo ∙ length_zeros (rows * v) in
         let lt : length ts ≡ rows * v = ft.kept ∙ ap (λ (x : List ℕ). length x) et ∙ length_zeros (rows * v) in
         record { row = record { same = lt ∙ sym lo; apart = record { word = λ q. apart q (dec_lt q (r * v)) } }; size = lo }
+
+-- a factor of a small product is small
+pub factor_most : (x w m : ℕ) → 0 < w → x * w ≤ m → x ≤ m
+factor_most x w m h l = omega (arith, l, mul-le-mul_left {m = 1} {n = w} x h)

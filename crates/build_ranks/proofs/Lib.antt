@@ -1,3 +1,4 @@
--- The laws: lengths and ranks, and the first words of rows.
+-- The laws: copies, lengths and ranks, and the first words of rows.
+pub mod Copies
 pub mod Lengths
 pub mod Fronts

@@ -111,6 +111,10 @@ apart_from (inl l) h g e = omega arith
 apart_from (inr l) h g e = omega arith
 
 module _ {o t : List ℕ} {r w : ℕ} (j q : ℕ) (A : Matrix) (a : ℕ) {i : ℕ} (g : Grid o t r w (taken_out a i j q A)) where
+  -- the pivot's row is as it was
+  pub pivot_kept : (i ≤ j) ⊎ (j < a) → (p : ℕ) → matrix_at w o t j p ≡ A j p
+  pivot_kept n p = ap (λ (B : Matrix). B j p) g.cells ∙ taken_pivot j q A a i p n
+
   pub rows_turn : {o' t' : List ℕ} → a ≤ i → (i ≤ j) ⊎ (j < a) → Grid o' t' r w (clear_row i j q (matrix_at w o t)) → Grid o' t' r w (taken_out a (i + 1) j q A)
   rows_turn h n d = grid_to d (ap (λ (B : Matrix). clear_row i j q B) g.cells ∙ taken_turn j q A a i h n)
 

@@ -7,7 +7,7 @@ use native.Mathlib.Nat.{zero-add}
 use native.Mathlib.Decide.{dec_lt, ℕ_discrete}
 use native.Mathlib.Omega.{arith}
 use borrow.Author.Tests.{lt-ltb, le-ltb}
-use borrow.Rule.Slice.PartMut.{put_mid}
+use borrow.Rule.Slice.PartMut.{mid_of, put_mid}
 use lib.Dec.{ltb}
 use lib.ListN.{length, get_or, set, length-set}
 use lib.Seq.{get_or-set_same, get_or-set_other}
@@ -15,9 +15,10 @@ use Rattle.trits.specs.Planes.{bit}
 use Rattle.trits.proofs.Bits.{bit_none}
 use Rattle.trits.proofs.Matrix.{row_le}
 use Rattle.trits.proofs.Patches.{Patched}
-use Rattle.trits.proofs.Parts.{put_patched}
+use Rattle.trits.proofs.Parts.{length_mid, get_d_mid, put_patched}
+use Rattle.turning.specs.Steps.{Turned}
 use Rattle.grid.proofs.Swaps.{off_row}
-use Rattle.gathering.specs.Steps.{Loaded, TurnedBlock, Columns, picked, Stored}
+use Rattle.gathering.specs.Steps.{Loaded, TurnedBlock, Columns, picked, Picked, TurnedPick, Stored}
 
 -- ---- the words of rows, loaded and turned
 
@@ -26,6 +27,9 @@ loaded {l = l} p e g = record {
   size = p.kept ∙ e;
   words = λ y h. ap (λ (z : ℕ). get_or l z 0) (sym (zero-add y)) ∙ p.new y (omega arith);
 }
+
+pub turned_block : {h l₁ l : List ℕ} {i w c : ℕ} → Loaded h i w c l₁ → Turned l₁ l → TurnedBlock h i w c l
+turned_block a t = record { size = t.kept ∙ a.size; bits = λ b x g h. t.bits b x g h ∙ ap (bit b) (a.words x h) }
 
 pub columns_turn : {h l₀ l ys : List ℕ} {i w c : ℕ} (n : ℕ) → n ≡ 64 → Columns h i w c l₀ l → TurnedBlock h i w c ys → 64 * c + 64 ≤ length l
     → Columns h i w (c + 1) l₀ (put_mid (64 * c) n l ys)
@@ -73,6 +77,22 @@ picked_bit x f order m p = by (ltb p m)
     by false = bit_none x
 
 -- ---- the columns picked, and turned back
+
+pub picked_block : {order l₀ l : List ℕ} {m w c x : ℕ} → Patched (λ y. picked (λ q. get_or l₀ q 0) order m (64 * c + y)) (64 * w) x l₀ l → 64 ≤ x
+    → Picked order m w c l₀ l
+picked_block p g = record { kept = p.kept; words = λ y h. p.new y (omega arith); columns = p.below }
+
+pub turned_pick : {order l₀ l₁ ys : List ℕ} {m w c : ℕ} (n : ℕ) → n ≡ 64 → Picked order m w c l₀ l₁ → 64 * w + 64 ≤ length l₁
+    → Turned (mid_of (64 * w) n l₁) ys → TurnedPick order m w c l₀ (put_mid (64 * w) n l₁ ys)
+turned_pick {order} {l₀} {l₁} {ys} {m} {w} {c} n d p e t =
+    let f : 64 * w + n ≤ length l₁ = omega arith in
+    let a : Patched (λ j. get_or ys j 0) (64 * w) n l₁ (put_mid (64 * w) n l₁ ys) =
+    put_patched (64 * w) n l₁ f ys (t.kept ∙ length_mid (64 * w) n l₁ f) in
+    record {
+      kept = a.kept ∙ p.kept;
+      bits = λ x b h g. ap (bit b) (a.new x (omega arith)) ∙ t.bits x b h g ∙ ap (bit x) (get_d_mid (64 * w) n l₁ f b (omega arith) ∙ p.words b g);
+      columns = λ q h. a.below q h ∙ p.columns q h;
+    }
 
 -- ---- the rows' words stored
 

@@ -35,6 +35,10 @@ module _ (l : List ℕ) (w r k c : ℕ) where
 
 -- ---- a block
 
+pub own_loaded : {l₀ l : List ℕ} {w r i c at x : ℕ} → Patched (λ y. get_or (take (r * w) l₀) ((i + y) * w + c) 0) at x l₀ l → x ≡ 64
+    → OwnLoaded w r i c at l₀ l
+own_loaded p e = record { kept = p.kept; words = λ y h. p.new y (omega arith); before = p.below; past = λ q h. p.above q (omega arith) }
+
 pub own_block : {l₀ l₁ ys : List ℕ} {w r i c at : ℕ} (n : ℕ) → n ≡ 64 → OwnLoaded w r i c at l₀ l₁ → at + 64 ≤ length l₀ → Turned (mid_of at n l₁) ys
     → OwnBlock w r i c at l₀ (put_mid at n l₁ ys)
 own_block {l₀} {l₁} {ys} {w} {r} {i} {c} {at} n d a h t =

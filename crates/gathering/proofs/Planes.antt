@@ -104,6 +104,10 @@ module _ {l₀ l l' h order : List ℕ} {w r i e m c : ℕ} (rows : EndOf i r e)
     past = λ p g. b.past p g ∙ a.past p g;
   }
 
+-- where the loop begins, and where it ends
+pub rows_begin : {l₀ l h order : List ℕ} {w r i e m : ℕ} → GatheringRows w r i e h order m 0 l₀ l → GatheringRows w r i e h order m 0 l l
+rows_begin a = record { kept = refl; columns = a.columns; bits = a.bits; before = λ p g. refl; past = λ p g. refl }
+
 pub rows_done : {l₀ l₁ l h order : List ℕ} {w r i e m c : ℕ} → GatheringRows w r i e h order m 0 l₀ l₁ → GatheringRows w r i e h order m c l₁ l → c ≡ w
     → GatheredRows w r i e h order m l₀ l
 rows_done a b d = record {

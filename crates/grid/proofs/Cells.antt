@@ -1,10 +1,10 @@
 -- The cells of a matrix in planes: what is read there, and a matrix known by its cells. Assumes nothing.
 use mathlib.Core.Path.{◌≡◌, refl, sym, ap, ◌∙◌, fun_ext}
-use mathlib.Core.Bool.{Bool, true, cond}
+use mathlib.Core.Bool.{Bool, true, false, cond}
 use mathlib.Core.Logic.{◌⊎◌, inl, inr}
 use mathlib.Core.List.{List}
 use Prim.Native.Nat.{ℕ, ◌+◌, ◌*◌, ◌/◌, ◌%◌, ◌≤◌, ◌<◌}
-use native.Mathlib.Nat.{mul-le-mul_right}
+use native.Mathlib.Nat.{mul-le-mul_left, mul-le-mul_right}
 use native.Mathlib.Decide.{dec_lt}
 use native.Mathlib.Omega.{arith}
 use borrow.Author.Tests.{lt-ltb, le-ltb}
@@ -15,7 +15,7 @@ use Rattle.trits.specs.Rows.{matrix_at}
 use Rattle.trits.proofs.Matrix.{row_le}
 use Rattle.trits.proofs.Reading.{read_past, trit_at_word}
 use Rattle.matrix.specs.Linear.{Matrix}
-use Rattle.matrix.proofs.Field.{number_two, number_unit, number_one}
+use Rattle.matrix.proofs.Field.{number_set, number_unset, number_two, number_unit, number_one}
 use Rattle.grid.specs.Steps.{Rows, Grid}
 
 module _ (w : ℕ) (ones twos : List ℕ) (i q : ℕ) where
@@ -34,6 +34,10 @@ module _ (w : ℕ) (ones twos : List ℕ) (i q : ℕ) where
   pub whole_row : (q < 64 * 0) ⊎ (64 * w ≤ q) → matrix_at w ones twos i q ≡ t0
   whole_row (inl h) = absurd (omega arith)
   whole_row (inr h) = cell_past h
+
+-- as many rows as words, at most
+pub rows_most : {o t : List ℕ} {rows w : ℕ} → Rows o t rows w → 0 < w → rows ≤ length o
+rows_most {rows = rows} {w} g h = omega (arith, g.size, mul-le-mul_left {m = 1} {n = w} rows h)
 
 -- a row's words are words of both planes
 pub row_in_ones : {o t : List ℕ} {r w i : ℕ} → Rows o t r w → i < r → i * w + w ≤ length o
@@ -75,6 +79,12 @@ none_of t1 f g = absurd (f refl)
 none_of t2 f g = absurd (g refl)
 
 module _ (w : ℕ) (o t : List ℕ) (i q x : ℕ) (h : q < 64 * w) (e : x ≡ number (trit_at o t (64 * (i * w) + q))) where
+  pub read_set : (x ≡ 0 → ⊥) → is_set (matrix_at w o t i q) ≡ true
+  read_set f = ap is_set (cell w o t i q h) ∙ number_set (trit_at o t (64 * (i * w) + q)) (λ z. f (e ∙ z))
+
+  pub read_unset : x ≡ 0 → is_set (matrix_at w o t i q) ≡ false
+  read_unset f = ap is_set (cell w o t i q h) ∙ number_unset (trit_at o t (64 * (i * w) + q)) (sym e ∙ f)
+
   pub read_two : x ≡ 2 → matrix_at w o t i q ≡ t2
   read_two f = cell w o t i q h ∙ number_two (trit_at o t (64 * (i * w) + q)) (sym e ∙ f)
 

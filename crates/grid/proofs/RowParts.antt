@@ -9,7 +9,7 @@ use native.Mathlib.Omega.{arith}
 use borrow.Author.Tests.{eq-eqb, ne_eqb}
 use borrow.Rule.Slice.PartMut.{mid_of, put_mid}
 use lib.ListN.{length}
-use Rattle.trits.specs.Trit.{Trit, t0, number, trit_of, put_v, up_to, zip_at}
+use Rattle.trits.specs.Trit.{Trit, t0, number, trit_of, put_v, up_to, zip_at, dot_v}
 use Rattle.trits.specs.Planes.{trit_at, zero_words, Row, Reads}
 use Rattle.trits.specs.Rows.{matrix_at, row_part}
 use Rattle.trits.proofs.Reading.{read_past, reads_to}
@@ -79,6 +79,16 @@ pub lent_part : {o t : List ℕ} {r w : ℕ} → Rows o t r w → (i : ℕ) → 
 lent_part {o} {t} {r} {w} g i h k e =
     let fits : i * w + k ≤ length o = omega (arith, row_le w h, g.size) in
     record { row = part_row g.row (i * w) k fits; size = length_mid (i * w) k o fits ∙ e; trits = lent_trits w i k g h e }
+
+-- the dot product of two rows that are lent, of one matrix or of two
+pub rows_product : (o t o' t' : List ℕ) (w i j k l : ℕ) {n : ℕ} (a : HeldRow (mid_of (i * w) k o) (mid_of (i * w) k t) w (matrix_at w o t i))
+    (b : HeldRow (mid_of (j * w) l o') (mid_of (j * w) l t') w (matrix_at w o' t' j))
+    → n ≡ number (dot_v (trit_at (mid_of (i * w) k o) (mid_of (i * w) k t)) (trit_at (mid_of (j * w) l o') (mid_of (j * w) l t'))
+    (64 * length (mid_of (i * w) k o)))
+    → n ≡ number (dot_v (matrix_at w o t i) (matrix_at w o' t' j) (64 * w))
+rows_product o t o' t' w i j k l a b d =
+    d ∙ ap₂ (λ (u v : Vector). number (dot_v u v (64 * length (mid_of (i * w) k o)))) a.trits b.trits
+    ∙ ap (λ (m : ℕ). number (dot_v (matrix_at w o t i) (matrix_at w o' t' j) (64 * m))) a.size
 
 -- ---- a matrix with another row
 

@@ -1,12 +1,13 @@
 -- The trit that a search reads, by numbers. Assumes nothing.
 use mathlib.Core.Path.{◌≡◌, refl, sym, ap, ap₂, ◌∙◌}
 use mathlib.Core.Bool.{Bool, true, false}
-use Prim.Native.Nat.{ℕ, ◌+◌, ◌*◌, ◌%◌}
+use Prim.Native.Nat.{ℕ, zero, suc, ◌+◌, ◌*◌, ◌%◌, ◌≤◌, ◌<◌}
 use native.Mathlib.Numerals.{add-one}
+use native.Mathlib.Omega.{arith}
 use borrow.Author.Tests.{eqb-true}
 use lib.Dec.{T, eqb}
 use Rattle.trits.specs.Trit.{Trit, add_t, sub_t, mul_t, number, dot_v}
-use Rattle.trits.proofs.Arithmetic.{at, every, law3, add_zero_r}
+use Rattle.trits.proofs.Arithmetic.{at, every, law3, add_zero_r, number_lt}
 use Rattle.matrix.specs.Linear.{Vector, Matrix}
 use Rattle.matrix.specs.Blocks.{less_of}
 
@@ -20,6 +21,16 @@ less_table x a b = eqb-true _ _ (true_of _ (at (test x a) (at (λ a. every (test
   where
     test : Trit → Trit → Trit → Bool
     test x a b = eqb ((number x + 2 * (number a * number b)) % 3) (number (sub_t x (mul_t a b)))
+
+-- two trits' numbers, multiplied
+pub product_most : {m n : ℕ} (a b : Trit) → m ≡ number a → n ≡ number b → m * n ≤ 4
+product_most {m} {n} a b e f = by n (omega (arith, number_lt a, e)) (omega (arith, number_lt b, f))
+  where
+    by : (k : ℕ) → m < 3 → k < 3 → m * k ≤ 4
+    by zero h l = omega arith
+    by (suc zero) h l = omega arith
+    by (suc (suc zero)) h l = omega arith
+    by (suc (suc (suc k))) h l = absurd (omega arith)
 
 module _ (q : ℕ → ℕ) (b : Matrix) (v : Vector) (p : ℕ) where
   pub now_none : {x : ℕ} → x ≡ number (v p) → x ≡ number (less_of 0 q b v p)

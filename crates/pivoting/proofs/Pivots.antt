@@ -8,10 +8,10 @@ use native.Mathlib.Decide.{ℕ_discrete}
 use native.Mathlib.Omega.{arith}
 use native.Mathlib.Numerals.{unary_clauses, add-one}
 use borrow.Author.Tests.{eq-eqb, ne_eqb}
-use Rattle.trits.specs.Trit.{t0, sub_t, mul_t, is_set}
+use Rattle.trits.specs.Trit.{Trit, t0, sub_t, mul_t, is_set}
 use Rattle.matrix.specs.Linear.{Vector, Matrix}
-use Rattle.matrix.specs.Steps.{pivot_row, has_pivot}
-use Rattle.matrix.specs.Blocks.{less_of, grown, basis_row, basis, from, pending, pivot_taken, NextPivot, steps, Block}
+use Rattle.matrix.specs.Steps.{swap_rows, scale_row, pivot_row, has_pivot}
+use Rattle.matrix.specs.Blocks.{less_of, grown, basis_row, basis, from, pending, brought, pivot_taken, NextPivot, steps, Block}
 use Rattle.matrix.proofs.Steps.{first_found, no_pivot, a_pivot}
 use Rattle.matrix.proofs.Blocks.{pending_later, pivot_taken_none, block_has, block_more}
 use Rattle.grid.specs.Steps.{put_row, clear_row}
@@ -53,6 +53,19 @@ module _ (at k c s : ℕ) (b A : Matrix) where
   pub taken_else : (i : ℕ) → i ≢ at + k → i ≢ s → pivot_taken at k c b s A i ≡ A i
   taken_else i f g =
       fun_ext (λ t. rw (ne_eqb i (at + k) f, ne_eqb i s g) (ap (λ (x : Bool). cond x (less_of k (from c) b (A s) t) (A i t)) (ne_eqb i s g)))
+
+  moved_cell : swap_rows (at + k) s (brought k c b s A) (at + k) (c + k) ≡ less_of k (from c) b (A s) (c + k)
+  moved_cell = rw (eq-eqb (at + k) (at + k) refl, eq-eqb s s refl)
+
+  pub moved_set : {M : Matrix} → M ≡ swap_rows (at + k) s (brought k c b s A) → is_set (less_of k (from c) b (A s) (c + k)) ≡ true
+      → is_set (M (at + k) (c + k)) ≡ true
+  moved_set e z = ap (λ (M : Matrix). is_set (M (at + k) (c + k))) e ∙ ap is_set moved_cell ∙ z
+
+  pub taken_by : {M₁ M₂ M₃ : Matrix} → M₁ ≡ brought k c b s A → M₂ ≡ swap_rows (at + k) s M₁ → M₃ ≡ scale_row (at + k) (M₂ (at + k) (c + k)) M₂
+      → M₃ ≡ pivot_taken at k c b s A
+  taken_by {M₁} {M₂} {M₃} e f g =
+      g ∙ ap (λ (M : Matrix). scale_row (at + k) (M (at + k) (c + k)) M) (f ∙ ap (λ (M : Matrix). swap_rows (at + k) s M) e)
+      ∙ ap (λ (x : Trit). scale_row (at + k) x (swap_rows (at + k) s (brought k c b s A))) moved_cell
 
 -- ---- what the search chose
 
@@ -152,3 +165,6 @@ module _ {r at c m k : ℕ} {A L : Matrix} (g : Block r at c m k A L) where
   pub block_goes : {t : Bool} {B : Matrix} → NextPivot t r at k c L B → t ≡ true → k < 12 → at + k < r → c + k < m → Block r at c m (k + 1) A B
   block_goes {t} {B} n f a b d =
       subst (λ (j : ℕ). Block r at c m j A B) (sym (add-one k)) (block_more g a b d (subst (λ (s : Bool). NextPivot s r at k c L B) f n))
+
+pub some_ended : (r at c : ℕ) {k : ℕ} (A : Matrix) → 0 < k → Ended r at c k A
+some_ended r at c A h = record { none = λ e. absurd (omega arith) }

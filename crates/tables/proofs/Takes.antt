@@ -107,6 +107,9 @@ taken_tabled {f} {v} {r} {c} {a} {i} {A} {B} l s t = record {
 
 -- ---- the whole
 
+pub cleared_none : (r c a b : ℕ) (A : Matrix) → b ≤ a → Cleared r 12 c a b A A
+cleared_none r c a b A h = record { cleared = λ i l m. absurd (omega arith); kept = λ i l m. refl }
+
 pub cleared_by : {f v r c a b : ℕ} {A B C : Matrix} → b ≤ r → Tables f v r A B → Taken r c a b B C → Cleared r 12 c a b A C
 cleared_by {r = r} {c} {a} {b} {A} {B} {C} l s t = record {
   cleared = λ i h g.

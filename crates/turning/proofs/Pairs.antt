@@ -1,5 +1,5 @@
 -- One pair of rows of a stage exchanged, and runs of pairs. Assumes nothing.
-use mathlib.Core.Path.{◌≡◌, sym, ap, ap₂, ◌∙◌}
+use mathlib.Core.Path.{◌≡◌, refl, sym, ap, ap₂, ◌∙◌}
 use mathlib.Core.Logic.{◌⊎◌, inl, inr, ◌≢◌}
 use mathlib.Core.List.{List}
 use Prim.Native.Nat.{ℕ, ◌+◌, ◌-◌, ◌*◌, ◌/◌, ◌%◌, ◌^◌, ◌≤◌, ◌<◌}
@@ -116,6 +116,9 @@ module _ {j mask s m : ℕ} {l₀ l : List ℕ} (n : Laws j mask) (x : Exchanged
       off i h (inr p) = still i (λ z. omega arith) ∙ x.rest i h (inr (omega arith))
 
 -- ---- the loops
+
+pub exchange_none : (j m : ℕ) (l : List ℕ) → ExchangedPairs j m m l l
+exchange_none j m l = record { kept = refl; bits = λ i b h g p o. absurd (omega arith); rest = λ i h p. refl }
 
 -- the lower row of pair x of run t
 pub lower_of : (j t x : ℕ) → x < j → lower j (j * t + x) ≡ 2 * (j * t) + x

@@ -2,7 +2,7 @@
 use mathlib.Core.Path.{◌≡◌, refl, sym, ap, ap₂, ◌∙◌}
 use mathlib.Core.Bool.{true}
 use mathlib.Core.List.{List}
-use Prim.Native.Nat.{ℕ}
+use Prim.Native.Nat.{ℕ, ◌<◌}
 use native.Mathlib.Omega.{arith}
 use borrow.Author.Tests.{eq-eqb, ne_eqb}
 use lib.Dec.{eqb}
@@ -45,6 +45,11 @@ pub says_no : (counts : Counts) (w : ℕ) → (sum_of counts ≡ w → ⊥)
     → ◌≡◌ {A = Checked} (record { refusal = 0; yes = 0; ones = counts.ones; twos = counts.twos }) (answered 0 counts w)
 unfolding answered
 says_no counts w e = rw (ne_eqb (sum_of counts) w e)
+
+-- a refusal returns its number alone, whatever the counts would be
+pub refused_alike : {r : ℕ} (a b : Counts) (w : ℕ) → 0 < r → answered r a w ≡ answered r b w
+unfolding answered
+refused_alike {r} a b w l = rw (ne_eqb r 0 (λ z. omega arith))
 
 -- what a `?` hands on where the call that it is on refused with this number
 pub told_refused : (answer : Result Verdict Refusal) (refusal : Refusal) {n : ℕ} (counts : Counts) (w : ℕ)
@@ -107,6 +112,9 @@ pub left_zero : (plane : List ℕ) {p : List ℕ} {r n : ℕ} → r ≡ 0 → n 
 left_zero plane z l e = e ∙ ap zero_words l ∙ space_zero plane {k = 0} (sym z) refl
 
 -- ---- what a check answers, from a refusal, and from counts
+
+pub answer_kept : {r k : ℕ} (a b : Counts) (w : ℕ) → k ≡ r → 0 < k → answered k a w ≡ answered r b w
+answer_kept a b w e l = refused_alike a b w l ∙ ap (λ (x : ℕ). answered x b w) e
 
 pub answer_new : {r k : ℕ} {a b : Counts} (w : ℕ) → k ≡ r → a ≡ b → answered k a w ≡ answered r b w
 answer_new w e f = ap₂ (λ (x : ℕ) (y : Counts). answered x y w) e f

@@ -72,9 +72,15 @@ pub fn judge(counts: Counts, w: u64) -> Verdict
 }
 
 // The first refusal that the state, the key number or the length of a plane makes.
-pub fn test_call(held: Held, number: u64, key: Planes, work: Planes) -> Result<BegunKey, Refusal>
-    ensures refusal { refusal_of result ≡ call_refusal held number (length key.entry.ones.now) (length key.entry.twos.now)
-        (length work.entry.ones.now) (length work.entry.twos.now) }
+pub fn test_call(
+    held: Held,
+    number: u64,
+    ones: usize,
+    twos: usize,
+    work_ones: usize,
+    work_twos: usize,
+) -> Result<BegunKey, Refusal>
+    ensures refusal { refusal_of result ≡ call_refusal held number ones twos work_ones work_twos }
     ensures same { IfOk result (λ begun. begun.held ≡ held) }
 {
     if held.begun == 0 {
@@ -90,11 +96,11 @@ pub fn test_call(held: Held, number: u64, key: Planes, work: Planes) -> Result<B
         return Err(Refusal::OtherKey);
     }
     let words = begun.key_words();
-    if key.ones.len() != words || key.twos.len() != words {
+    if ones != words || twos != words {
         return Err(Refusal::Length);
     }
     let row = begun.row_words();
-    if work.ones.len() != row || work.twos.len() != row {
+    if work_ones != row || work_twos != row {
         return Err(Refusal::Length);
     }
     Ok(begun)
@@ -177,7 +183,14 @@ pub fn test_check(
     ensures readable { IfOk result (λ _. Row key.entry.ones.now key.entry.twos.now × Row y.entry.ones.now y.entry.twos.now
         × Row s.entry.ones.now s.entry.twos.now) }
 {
-    let begun = test_call(held, number, key, work)?;
+    let begun = test_call(
+        held,
+        number,
+        key.ones.len(),
+        key.twos.len(),
+        work.ones.len(),
+        work.twos.len(),
+    )?;
     test_lengths(begun, y, s)?;
     test_contents(begun, key, y, s)?;
     Ok(begun)
@@ -197,7 +210,14 @@ pub fn test_packed_check(
     ensures same { IfOk result (λ begun. begun.held ≡ held) }
     ensures readable { IfOk result (λ _. Row key.entry.ones.now key.entry.twos.now) }
 {
-    let begun = test_call(held, number, key, work)?;
+    let begun = test_call(
+        held,
+        number,
+        key.ones.len(),
+        key.twos.len(),
+        work.ones.len(),
+        work.twos.len(),
+    )?;
     test_packed_lengths(begun, y, s)?;
     test_packed_contents(begun, key, y, s)?;
     Ok(begun)

@@ -1,6 +1,5 @@
 -- What the inner functions test and ask. No rule of the paper: code is tied to it. Assumes nothing.
 use Rattle.std.specs.Prelude.{◌≡◌, List, ℕ, length}
-use Rattle.trits.specs.Planes.{Row}
 use Rattle.trits.specs.Refusal.{first}
 use Rattle.shake.specs.Steps.{ForMessage}
 use Rattle.held_key.specs.declared.state.Held.{Held}
@@ -16,12 +15,11 @@ tested_refusal h number ones twos salt s work_ones work_twos =
     (first (text_lengths h (length salt) (length s))
     (text_contents h ones twos s))
 
--- a whole key that was tested and can be read, packed s that was tested, a salt and a text, and working space
+-- a whole key and packed s that were tested, a salt and a text, and working space
 pub record ForJudgeText (held : Held) (ones twos salt text s wo wt : List ℕ) : Type 0 where
   pub whole : Whole held ones twos
   pub lengths : text_lengths held (length salt) (length s) ≡ 0
   pub contents : text_contents held ones twos s ≡ 0
-  pub readable : Row ones twos
   pub message : ForMessage salt text
   pub work_ones : length wo ≡ row_words held
   pub work_twos : length wt ≡ row_words held

@@ -54,7 +54,14 @@ fn test_text(
     ensures same { IfOk result (λ begun. begun.held ≡ held) }
     ensures readable { IfOk result (λ _. Row key.entry.ones.now key.entry.twos.now) }
 {
-    let begun = check_tests::test_call(held, number, key, work)?;
+    let begun = check_tests::test_call(
+        held,
+        number,
+        key.ones.len(),
+        key.twos.len(),
+        work.ones.len(),
+        work.twos.len(),
+    )?;
     test_lengths(begun, salt, s)?;
     test_contents(begun, key, s)?;
     Ok(begun)

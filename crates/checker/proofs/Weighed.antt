@@ -5,7 +5,7 @@ use Prim.Native.Nat.{ℕ, ◌+◌, ◌*◌, ◌≤◌}
 use native.Mathlib.Omega.{arith}
 use lib.ListN.{length}
 use Rattle.trits.specs.Trit.{Trit, t0, sub_t, zip_v, counts_v, sum_of}
-use Rattle.trits.specs.Planes.{trit_at, Row, Reads}
+use Rattle.trits.specs.Planes.{trit_at, Reads}
 use Rattle.trits.specs.Refusal.{planes_refusal}
 use Rattle.trits.specs.declared.Counts.{Counts}
 use Rattle.trits.proofs.Refusals.{planes_passed}
@@ -52,30 +52,26 @@ few_counts {h} {ones} {twos} {c} y s w e =
 pub counts_alike : {h k : Held} {c : Counts} (ones twos : List ℕ) (y s : ℕ → Trit) → c ≡ held_counts h ones twos y s → h ≡ k → c ≡ held_counts k ones twos y s
 counts_alike ones twos y s e same = e ∙ ap (λ (h : Held). held_counts h ones twos y s) same
 
--- ---- a check that passed its tests, in planes that can be read, can be weighed
+-- ---- a check that passed its tests can be weighed
 
-pub ready : (c : Check) → check_refusal c ≡ 0 → Row c.ones c.twos → Row c.y_ones c.y_twos → Row c.s_ones c.s_twos
+pub ready : (c : Check) → check_refusal c ≡ 0
     → ForWeigh c.held c.ones c.twos c.y_ones c.y_twos c.s_ones c.s_twos c.work_ones c.work_twos
-ready c e key y s =
+ready c e =
     let (called, lengths, contents) = check_passed c e in record {
       whole = whole called;
       lengths = lengths;
       contents = contents;
-      readable = key;
-      y_readable = y;
-      s_readable = s;
       work_ones = called.work_ones;
       work_twos = called.work_twos;
     }
 
-pub packed_ready : (c : PackedCheck) → check_packed_refusal c ≡ 0 → Row c.ones c.twos
+pub packed_ready : (c : PackedCheck) → check_packed_refusal c ≡ 0
     → ForWeighPacked c.held c.ones c.twos c.y c.s c.work_ones c.work_twos
-packed_ready c e key =
+packed_ready c e =
     let (called, lengths, contents) = check_packed_passed c e in record {
       whole = whole called;
       lengths = lengths;
       contents = contents;
-      readable = key;
       work_ones = called.work_ones;
       work_twos = called.work_twos;
     }

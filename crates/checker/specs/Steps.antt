@@ -50,14 +50,11 @@ pub record ForTakePackedRows (held : Held) (ones twos s work_ones work_twos : Li
   pub s_size : length s ≡ bytes_for held.k
   pub s_tested : packed_refusal held.k s ≡ 0
 
--- a whole key, y and s in planes that were tested and can be read, and working space
+-- a whole key, y and s in planes that were tested, and working space
 pub record ForWeigh (held : Held) (ones twos y_ones y_twos s_ones s_twos wo wt : List ℕ) : Type 0 where
   pub whole : Whole held ones twos
   pub lengths : planes_lengths held (length y_ones) (length y_twos) (length s_ones) (length s_twos) ≡ 0
   pub contents : planes_contents held ones twos y_ones y_twos s_ones s_twos ≡ 0
-  pub readable : Row ones twos
-  pub y_readable : Row y_ones y_twos
-  pub s_readable : Row s_ones s_twos
   pub work_ones : length wo ≡ row_words held
   pub work_twos : length wt ≡ row_words held
 
@@ -65,7 +62,6 @@ pub record ForWeigh (held : Held) (ones twos y_ones y_twos s_ones s_twos wo wt :
 pub record ForWeighMade (held : Held) (ones twos s work_ones work_twos : List ℕ) : Type 0 where
   pub whole : Whole held ones twos
   pub key_tested : planes_refusal ones twos held.k (row_trits held) ≡ 0
-  pub readable : Row ones twos
   pub s_size : length s ≡ bytes_for held.k
   pub s_tested : packed_refusal held.k s ≡ 0
   pub work : Work held work_ones work_twos
@@ -76,6 +72,5 @@ pub record ForWeighPacked (held : Held) (ones twos y s wo wt : List ℕ) : Type 
   pub whole : Whole held ones twos
   pub lengths : packed_lengths held (length y) (length s) ≡ 0
   pub contents : packed_contents held ones twos y s ≡ 0
-  pub readable : Row ones twos
   pub work_ones : length wo ≡ row_words held
   pub work_twos : length wt ≡ row_words held

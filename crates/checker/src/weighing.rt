@@ -2,7 +2,8 @@
 // What is written stays two slices: of a slice the length and the ranges of words are known with no clause, of one in a struct they are not.
 ghost use Rattle.std.specs.Prelude.{◌≡◌, ℕ, ◌≤◌, ◌<◌, length};
 ghost use Rattle.trits.specs.Trit.{sub_t, mul_t, zip_v, counts_v, sum_of, trit_of};
-ghost use Rattle.trits.specs.Planes.{trit_at, Reads};
+ghost use Rattle.trits.specs.Planes.{trit_at, Row, Reads};
+ghost use Rattle.trits.specs.Refusal.{planes_refusal};
 ghost use Rattle.packed.specs.Packed.{packed_row};
 ghost use Rattle.verdict.specs.Verdict.{times_key};
 ghost use Rattle.held_key.specs.Held.{held_key};
@@ -114,6 +115,11 @@ fn add_counts(first: Counts, last: Counts) -> Counts
     }
 }
 
+// Planes that passed a test can be read. Nothing is done: the ranges of words are known here, where the planes are two slices.
+fn readable(ones: &[u64], twos: &[u64])
+    ensures { (rows m : ℕ) → planes_refusal ones.now twos.now rows m ≡ 0 → length twos.now ≡ length ones.now → Row ones.now twos.now }
+{}
+
 // The ones and twos of the full word of y and s in planes; the working space holds its first part.
 pub fn weigh(
     begun: BegunKey,
@@ -128,6 +134,9 @@ pub fn weigh(
     ensures { result ≡ held_counts begun.held key.entry.ones.now key.entry.twos.now (trit_at y.entry.ones.now y.entry.twos.now)
         (trit_at s.entry.ones.now s.entry.twos.now) }
 {
+    readable(key.ones, key.twos);
+    readable(y.ones, y.twos);
+    readable(s.ones, s.twos);
     planes::words::copy_words(work_ones, y.ones);
     planes::words::copy_words(work_twos, y.twos);
     take_rows(begun.held, key, s, work_ones, work_twos);
@@ -151,6 +160,7 @@ pub fn weigh_made(
     ensures { result ≡ held_counts begun.held key.entry.ones.now key.entry.twos.now (trit_at work_ones.old work_twos.old)
         (packed_row s.now) }
 {
+    readable(key.ones, key.twos);
     let taken = take_packed_rows(begun.held, key, s, work_ones, work_twos);
     let first = rows::count(Planes {
         ones: work_ones,

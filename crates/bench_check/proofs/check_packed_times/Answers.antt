@@ -20,12 +20,12 @@ pub weigh_packed_times-counts-requires : goal.weigh_packed_times-counts-requires
 weigh_packed_times-counts-requires c =
     let a = c.args in
     subst (λ (h : Held). ForWeighPacked h a.key.ones.now a.key.twos.now a.y.now a.s.now a.work_ones.now a.work_twos.now)
-    (sym c.in_ok-begun.ensures.same) (packed_ready _ (sym c.in_ok-begun.ensures.refusal) c.in_ok-begun.ensures.readable)
+    (sym c.in_ok-begun.ensures.same) (packed_ready _ (sym c.in_ok-begun.ensures.refusal))
 
 pub judge-requires : goal.judge-requires
 judge-requires c =
     let of_held = after_alike _ _ _ _ _ c.weigh_packed_times-counts.ensures c.in_ok-begun.ensures.same in
-    after_few c.args.times _ _ (packed_ready _ (sym c.in_ok-begun.ensures.refusal) c.in_ok-begun.ensures.readable).whole of_held
+    after_few c.args.times _ _ (packed_ready _ (sym c.in_ok-begun.ensures.refusal)).whole of_held
 
 pub returns : goal.returns
 returns c =

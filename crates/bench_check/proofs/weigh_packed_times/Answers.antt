@@ -18,7 +18,6 @@ weigh_packed-counts-requires c =
       whole = p.whole;
       lengths = p.lengths;
       contents = p.contents;
-      readable = p.readable;
       work_ones = l.0 ∙ p.work_ones;
       work_twos = l.1 ∙ p.work_twos;
     }

@@ -18,9 +18,6 @@ weigh-counts-requires c =
       whole = p.whole;
       lengths = p.lengths;
       contents = p.contents;
-      readable = p.readable;
-      y_readable = p.y_readable;
-      s_readable = p.s_readable;
       work_ones = l.0 ∙ p.work_ones;
       work_twos = l.1 ∙ p.work_twos;
     }

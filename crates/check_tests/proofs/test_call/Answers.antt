@@ -5,15 +5,14 @@ use mathlib.Core.Bool.{true, false}
 use Prim.Native.Nat.{ℕ}
 use native.Mathlib.Omega.{arith}
 use lib.Dec.{eqb}
-use lib.ListN.{length}
 use borrow.Author.Tests.{eq-eqb, ne_eqb}
 use Rattle.trits.specs.Refusal.{demand}
 use Rattle.held_key.specs.declared.state.Held.{Held}
 use Rattle.held_key.specs.Held.{sound, row_words, key_words}
 use Rattle.check_tests.specs.Check.{call_refusal, call_refusal_under}
 use Rattle.check_tests.proofs.test_call.Goals as goal
-use Rattle.check_tests.proofs.test_call.Goals.{then-key-words-via-then-key-words, then-key-words-via-else-key-words+then-key-words-2}
-use Rattle.check_tests.proofs.test_call.Goals.{then-work-row-via-then-work-row, then-work-row-via-else-work-row+then-work-row-2}
+use Rattle.check_tests.proofs.test_call.Goals.{then-ones-words-via-then-ones-words, then-ones-words-via-else-ones-words+then-twos-words}
+use Rattle.check_tests.proofs.test_call.Goals.{then-work_ones-row-via-then-work_ones-row, then-work_ones-row-via-else-work_ones-row+then-work_twos-row}
 
 module _ (h : Held) (number a b d e : ℕ) (begun : eqb h.begun 0 ≡ false) (is_sound : sound h ≡ true) (whole : eqb h.rows h.k ≡ true)
     (named : eqb number h.number ≡ true) where
@@ -55,41 +54,41 @@ returns-then-number-held-clause-refusal c =
       ne_eqb a.number a.held.number (λ e. omega (arith, e, c.if-number-held.true)),
     )
 
-pub returns-then-key-words-clause-refusal : goal.returns-then-key-words-clause-refusal
-returns-then-key-words-clause-refusal c =
+pub returns-then-ones-words-clause-refusal : goal.returns-then-ones-words-clause-refusal
+returns-then-ones-words-clause-refusal c =
     let a = c.args in
     let state_sound : sound a.held ≡ true = sym (ap sound c.in-Some.ensures) ∙ c.in-Some.begun.sound in
-    let left = lengths_left a.held a.number (length a.key.ones.now) (length a.key.twos.now) (length a.work.ones.now) (length a.work.twos.now)
+    let left = lengths_left a.held a.number a.ones a.twos a.work_ones a.work_twos
     (ne_eqb _ _ c.if-held-eq0.false) state_sound (eq-eqb _ _ c.if-held.false) (eq-eqb _ _ (omega (arith, c.if-number-held.false))) in
     let e = c.key_words-words.ensures ∙ ap key_words c.in-Some.ensures in
-    elim c.then-key-words.branch [
-      | then-key-words-via-then-key-words w ↦
-          rw (left, ne_eqb (length a.key.ones.now) (key_words a.held) (λ z. w.if-key-words.true (z ∙ sym e)))
-      | then-key-words-via-else-key-words+then-key-words-2 w ↦
+    elim c.then-ones-words.branch [
+      | then-ones-words-via-then-ones-words w ↦
+          rw (left, ne_eqb a.ones (key_words a.held) (λ z. w.if-ones-words.true (z ∙ sym e)))
+      | then-ones-words-via-else-ones-words+then-twos-words w ↦
           rw (
             left,
-            eq-eqb (length a.key.ones.now) (key_words a.held) (w.if-key-words.false ∙ e),
-            ne_eqb (length a.key.twos.now) (key_words a.held) (λ z. w.if-key-words-2.true (z ∙ sym e)),
+            eq-eqb a.ones (key_words a.held) (w.if-ones-words.false ∙ e),
+            ne_eqb a.twos (key_words a.held) (λ z. w.if-twos-words.true (z ∙ sym e)),
           )
     ]
 
-pub returns-then-work-row-clause-refusal : goal.returns-then-work-row-clause-refusal
-returns-then-work-row-clause-refusal c =
+pub returns-then-work_ones-row-clause-refusal : goal.returns-then-work_ones-row-clause-refusal
+returns-then-work_ones-row-clause-refusal c =
     let a = c.args in
     let state_sound : sound a.held ≡ true = sym (ap sound c.in-Some.ensures) ∙ c.in-Some.begun.sound in
     let e = c.key_words-words.ensures ∙ ap key_words c.in-Some.ensures in
     let r = c.row_words-row.ensures ∙ ap row_words c.in-Some.ensures in
-    let left = work_left a.held a.number (length a.key.ones.now) (length a.key.twos.now) (length a.work.ones.now) (length a.work.twos.now)
+    let left = work_left a.held a.number a.ones a.twos a.work_ones a.work_twos
     (ne_eqb _ _ c.if-held-eq0.false) state_sound (eq-eqb _ _ c.if-held.false) (eq-eqb _ _ (omega (arith, c.if-number-held.false)))
-    (c.if-key-words.false ∙ e) (c.if-key-words-2.false ∙ e) in
-    elim c.then-work-row.branch [
-      | then-work-row-via-then-work-row w ↦
-          rw (left, ne_eqb (length a.work.ones.now) (row_words a.held) (λ z. w.if-work-row.true (z ∙ sym r)))
-      | then-work-row-via-else-work-row+then-work-row-2 w ↦
+    (c.if-ones-words.false ∙ e) (c.if-twos-words.false ∙ e) in
+    elim c.then-work_ones-row.branch [
+      | then-work_ones-row-via-then-work_ones-row w ↦
+          rw (left, ne_eqb a.work_ones (row_words a.held) (λ z. w.if-work_ones-row.true (z ∙ sym r)))
+      | then-work_ones-row-via-else-work_ones-row+then-work_twos-row w ↦
           rw (
             left,
-            eq-eqb (length a.work.ones.now) (row_words a.held) (w.if-work-row.false ∙ r),
-            ne_eqb (length a.work.twos.now) (row_words a.held) (λ z. w.if-work-row-2.true (z ∙ sym r)),
+            eq-eqb a.work_ones (row_words a.held) (w.if-work_ones-row.false ∙ r),
+            ne_eqb a.work_twos (row_words a.held) (λ z. omega (arith, z, r, w.if-work_twos-row.true)),
           )
     ]
 
@@ -99,11 +98,11 @@ returns-clause-refusal c =
     let state_sound : sound a.held ≡ true = sym (ap sound c.in-Some.ensures) ∙ c.in-Some.begun.sound in
     let e = c.key_words-words.ensures ∙ ap key_words c.in-Some.ensures in
     let r = c.row_words-row.ensures ∙ ap row_words c.in-Some.ensures in
-    let left = work_left a.held a.number (length a.key.ones.now) (length a.key.twos.now) (length a.work.ones.now) (length a.work.twos.now)
+    let left = work_left a.held a.number a.ones a.twos a.work_ones a.work_twos
     (ne_eqb _ _ c.if-held-eq0.false) state_sound (eq-eqb _ _ c.if-held.false) (eq-eqb _ _ (omega (arith, c.if-number-held.false)))
-    (c.if-key-words.false ∙ e) (c.if-key-words-2.false ∙ e) in
+    (c.if-ones-words.false ∙ e) (c.if-twos-words.false ∙ e) in
     rw (
       left,
-      eq-eqb (length a.work.ones.now) (row_words a.held) (c.if-work-row.false ∙ r),
-      eq-eqb (length a.work.twos.now) (row_words a.held) (c.if-work-row-2.false ∙ r),
+      eq-eqb a.work_ones (row_words a.held) (c.if-work_ones-row.false ∙ r),
+      eq-eqb a.work_twos (row_words a.held) (omega (arith, r, c.if-work_twos-row.false)),
     )

@@ -42,7 +42,6 @@ judge_text-answer-requires c =
       whole = whole t.key_called;
       lengths = t.lengths;
       contents = t.contents;
-      readable = c.in_ok-begun.ensures.readable;
       message = record { short = omega (arith, text_fitted _ _ _ t.lengths); fits = omega arith };
       work_ones = t.key_called.work_ones;
       work_twos = t.key_called.work_twos;

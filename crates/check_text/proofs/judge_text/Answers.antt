@@ -40,7 +40,6 @@ weigh_made-counts-requires c =
     let (keys, bytes) = text_contents_law _ _ _ _ c.requires.contents in record {
       whole = c.requires.whole;
       key_tested = keys;
-      readable = c.requires.readable;
       s_size = (text_fitted _ _ _ c.requires.lengths).1;
       s_tested = bytes;
       work = record { row = r.row; size = r.size };

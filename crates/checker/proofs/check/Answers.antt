@@ -23,16 +23,14 @@ returns-in_err-begun c =
 pub weigh-counts-requires : goal.weigh-counts-requires
 weigh-counts-requires c =
     let a = c.args in
-    let r = c.in_ok-begun.ensures.readable in
     subst (λ (h : Held). ForWeigh h a.key.ones.now a.key.twos.now a.y.ones.now a.y.twos.now a.s.ones.now a.s.twos.now a.work_ones.now a.work_twos.now)
-    (sym c.in_ok-begun.ensures.same) (ready _ (sym c.in_ok-begun.ensures.refusal) r.0 r.1 r.2)
+    (sym c.in_ok-begun.ensures.same) (ready _ (sym c.in_ok-begun.ensures.refusal))
 
 pub judge-requires : goal.judge-requires
 judge-requires c =
     let a = c.args in
-    let r = c.in_ok-begun.ensures.readable in
     let of_held = counts_alike _ _ _ _ c.weigh-counts.ensures c.in_ok-begun.ensures.same in
-    few_counts _ _ (ready _ (sym c.in_ok-begun.ensures.refusal) r.0 r.1 r.2).whole of_held
+    few_counts _ _ (ready _ (sym c.in_ok-begun.ensures.refusal)).whole of_held
 
 pub returns : goal.returns
 unfolding check_answer_under

@@ -24,13 +24,13 @@ pub weigh_packed-counts-requires : goal.weigh_packed-counts-requires
 weigh_packed-counts-requires c =
     let a = c.args in
     subst (λ (h : Held). ForWeighPacked h a.key.ones.now a.key.twos.now a.y.now a.s.now a.work_ones.now a.work_twos.now)
-    (sym c.in_ok-begun.ensures.same) (packed_ready _ (sym c.in_ok-begun.ensures.refusal) c.in_ok-begun.ensures.readable)
+    (sym c.in_ok-begun.ensures.same) (packed_ready _ (sym c.in_ok-begun.ensures.refusal))
 
 pub judge-requires : goal.judge-requires
 judge-requires c =
     let a = c.args in
     let of_held = counts_alike _ _ _ _ c.weigh_packed-counts.ensures c.in_ok-begun.ensures.same in
-    few_counts _ _ (packed_ready _ (sym c.in_ok-begun.ensures.refusal) c.in_ok-begun.ensures.readable).whole of_held
+    few_counts _ _ (packed_ready _ (sym c.in_ok-begun.ensures.refusal)).whole of_held
 
 pub returns : goal.returns
 unfolding check_packed_answer_under

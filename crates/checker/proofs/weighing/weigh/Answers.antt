@@ -38,11 +38,14 @@ copy_words-requires-2 c =
 pub take_rows-requires : goal.take_rows-requires
 take_rows-requires c =
     let p = c.requires in
+    let h = c.args.begun.held in
     let f = fitted _ _ _ _ _ p.lengths in
-    let work = copied c.copy_words.ensures c.copy_words-2.ensures p.y_readable f.y_ones in
+    let passed = contents _ _ _ _ _ _ _ p.contents in
+    let y_readable = c.readable-2.ensures 1 (row_trits h) passed.1 (f.y_twos ∙ sym f.y_ones) in
+    let work = copied c.copy_words.ensures c.copy_words-2.ensures y_readable f.y_ones in
     record {
       whole = p.whole;
-      readable = p.readable;
+      readable = c.readable.ensures h.k (row_trits h) passed.0 (p.whole.twos_size ∙ sym p.whole.ones_size);
       work = record { row = work.row; size = work.size };
       s_trits = omega (arith, f.s_ones);
       s_twos = f.s_twos ∙ sym f.s_ones;
@@ -52,19 +55,21 @@ pub count-first-requires : goal.count-first-requires
 count-first-requires c =
     let p = c.requires in
     let f = fitted _ _ _ _ _ p.lengths in
-    let work = copied c.copy_words.ensures c.copy_words-2.ensures p.y_readable f.y_ones in
+    let size = ap length c.copy_words.ensures ∙ f.y_ones in
     let r = c.take_rows.ensures in
     record {
       row = r.row;
-      ones_len_bound = omega (arith, r.size, work.size, sizes c.args.begun.held p.whole.is_sound);
+      ones_len_bound = omega (arith, r.size, size, sizes c.args.begun.held p.whole.is_sound);
     }
 
 pub count-last-requires : goal.count-last-requires
 count-last-requires c =
     let p = c.requires in
+    let h = c.args.begun.held in
+    let f = fitted _ _ _ _ _ p.lengths in
     record {
-      row = p.s_readable;
-      ones_len_bound = omega (arith, (fitted _ _ _ _ _ p.lengths).s_ones, sizes c.args.begun.held p.whole.is_sound);
+      row = c.readable-3.ensures 1 h.k (contents _ _ _ _ _ _ _ p.contents).2 (f.s_twos ∙ sym f.s_ones);
+      ones_len_bound = omega (arith, f.s_ones, sizes h p.whole.is_sound);
     }
 
 pub add_counts-requires : goal.add_counts-requires
@@ -73,10 +78,10 @@ add_counts-requires c =
     let h = c.args.begun.held in
     let s = c.args.s in
     let f = fitted _ _ _ _ _ p.lengths in
-    let work = copied c.copy_words.ensures c.copy_words-2.ensures p.y_readable f.y_ones in
+    let size = ap length c.copy_words.ensures ∙ f.y_ones in
     let of_s = counted s.ones.now s.twos.now h.k (contents _ _ _ _ _ _ _ p.contents).2 f.s_ones f.s_twos in
     let few = sizes h p.whole.is_sound in (
-      omega (arith, at_most c.take_rows.ensures c.count-first.ensures, work.size, few),
+      omega (arith, at_most c.take_rows.ensures c.count-first.ensures, size, few),
       omega (arith, ap sum_of (c.count-last.ensures ∙ of_s), counts_le (trit_at s.ones.now s.twos.now) h.k, few),
     )
 
@@ -88,7 +93,8 @@ returns c =
     let s = c.args.s in
     let f = fitted _ _ _ _ _ p.lengths in
     let passed = contents _ _ _ _ _ _ _ p.contents in
-    let work = copied c.copy_words.ensures c.copy_words-2.ensures p.y_readable f.y_ones in
+    let y_readable = c.readable-2.ensures 1 (row_trits h) passed.1 (f.y_twos ∙ sym f.y_ones) in
+    let work = copied c.copy_words.ensures c.copy_words-2.ensures y_readable f.y_ones in
     let of_s = counted s.ones.now s.twos.now h.k passed.2 f.s_ones f.s_twos in
     c.add_counts.ensures
     ∙ weighed (trit_at y.ones.now y.twos.now) (trit_at s.ones.now s.twos.now) p.whole passed.0

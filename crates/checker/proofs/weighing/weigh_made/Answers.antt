@@ -1,12 +1,13 @@
 -- The working space is y less the rows that s names; its ones and twos with those of s are the full word's (`weighed`).
 -- Assumes nothing.
-use mathlib.Core.Path.{refl, ap, ◌∙◌}
+use mathlib.Core.Path.{refl, sym, ap, ◌∙◌}
 use native.Mathlib.Omega.{arith}
 use lib.ListN.{length}
 use Rattle.trits.specs.Trit.{sum_of}
 use Rattle.trits.specs.Planes.{trit_at, Reads}
 use Rattle.trits.proofs.Counting.{counts_le}
 use Rattle.packed.specs.Packed.{packed_row}
+use Rattle.held_key.specs.Held.{row_trits}
 use Rattle.held_key.proofs.Sizes.{sizes}
 use Rattle.checker.proofs.Weighed.{weighed, at_most}
 use Rattle.checker.proofs.weighing.weigh_made.Goals as goal
@@ -14,9 +15,10 @@ use Rattle.checker.proofs.weighing.weigh_made.Goals as goal
 pub take_packed_rows-taken-requires : goal.take_packed_rows-taken-requires
 take_packed_rows-taken-requires c =
     let p = c.requires in
+    let h = c.args.begun.held in
     record {
       whole = p.whole;
-      readable = p.readable;
+      readable = c.readable.ensures h.k (row_trits h) p.key_tested (p.whole.twos_size ∙ sym p.whole.ones_size);
       work = p.work;
       s_size = p.s_size;
       s_tested = p.s_tested;

@@ -31,7 +31,6 @@ weigh_made-requires c =
     let u = c.write_packed.ensures in record {
       whole = p.whole;
       key_tested = key_tested;
-      readable = p.readable;
       s_size = (packed_fitted _ _ _ p.lengths).1;
       s_tested = s_tested;
       work = record { row = u.row; size = u.size ∙ p.work_ones };

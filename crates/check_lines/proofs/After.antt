@@ -5,8 +5,9 @@ use Prim.Native.Nat.{ℕ, ◌+◌, ◌<◌}
 use native.Mathlib.Numerals.{add-one}
 use lib.ListN.{length, get_or, take}
 use lib.Seq.{take-suc}
-use Rattle.text_lines.specs.Machine.{Machine, stepped}
-use Rattle.check_lines.specs.{after}
+use Rattle.text_lines.specs.Machine.{Machine, machine, stepped}
+use Rattle.text_lines.specs.declared.State.{State}
+use Rattle.check_lines.specs.{after, Reached}
 
 pub after_append : (xs ys : List ℕ) (m : Machine) → after (xs ++ ys) m ≡ after ys (after xs m)
 unfolding after
@@ -28,3 +29,6 @@ after_more bytes i m h =
 module _ (m n : Machine) (e : (text : List ℕ) × (n ≡ after text m)) where
   pub further : (k : Machine) → (text : List ℕ) × (k ≡ after text n) → (text : List ℕ) × (k ≡ after text m)
   further k q = (e.0 ++ q.0, q.1 ∙ ap (after q.0) e.1 ∙ sym (after_append e.0 q.0 m))
+
+  pub reached_from : (line ones twos : List ℕ) (s : State) → Reached n line ones twos s → Reached m line ones twos s
+  reached_from line ones twos s q = further (machine s line ones twos) q

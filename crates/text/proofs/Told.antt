@@ -1,6 +1,6 @@
 -- What the fields of a line say: four fields found or not, numbers in and out of their ranges, and the forms. Assumes nothing.
 use mathlib.Core.Path.{◌≡◌, refl, sym, ap, ◌∙◌}
-use mathlib.Core.Bool.{Bool, true, false, ◌&&◌, cond, and-eq-true_iff}
+use mathlib.Core.Bool.{Bool, true, false, ◌&&◌, cond, and-false, and-eq-true_iff}
 use mathlib.Core.List.{List, [], ◌∷◌}
 use Prim.Native.Nat.{ℕ, ◌+◌, ◌≤◌, ◌<◌}
 use native.Mathlib.Decide.{dec_lt}
@@ -17,7 +17,7 @@ use Rattle.text.specs.Numbers.{is_number, value, in_range}
 use Rattle.text.specs.Digits.{is_digits}
 use Rattle.text.specs.Forms.{no_form, key_line, row_line, sign_line, one_field, four_fields, key_of, row_of, sign_of, is_letter, form_of, line_of, most_formula}
 use Rattle.text.specs.Steps.{PartedAt, large, at_most_large, FourOf, NotFour, DigitsOf, bounded}
-use Rattle.text.proofs.Parting.{before, split_more, split_last, some_part}
+use Rattle.text.proofs.Parting.{before, fields_more, split_last, some_part}
 use Rattle.text.proofs.Numbers.{value_small, value_large}
 
 -- ---- numbers
@@ -80,9 +80,9 @@ module _ {text first rest : List ℕ} (p : PartedAt text first rest) where
         fourth_size = omega (arith, p.size, q.size, r.size);
       }
 
-pub one_field_law : (text : List ℕ) → fields text ≡ text ∷ [] → NotFour text
+pub single_field : (text : List ℕ) → fields text ≡ text ∷ [] → NotFour text
 unfolding four_fields
-one_field_law text e = λ f. rw e
+single_field text e = λ f. rw e
 
 -- ---- P and S
 
@@ -116,24 +116,23 @@ module _ {text a b c d : List ℕ} (f : FourOf text a b c d) (most : ℕ) where
         unfolding four_fields key_of bounded
         key_told t e₁ e₂ e₃ e₄ = rw (f.are, q, r, s, t, ← e₁, ← e₂, ← e₃, ← e₄)
 
-    module _ (r : in_range most_formula b ≡ true) where
-      pub sign_not_3 : is_digits c ≡ false → no_form ≡ bounded (four_fields (sign_of most) (fields text))
-      unfolding four_fields sign_of bounded
-      sign_not_3 s = rw (f.are, q, r, s)
-
-      module _ (s : is_digits c ≡ true) where
-        pub sign_not_4 : is_digits d ≡ false → no_form ≡ bounded (four_fields (sign_of most) (fields text))
-        unfolding four_fields sign_of bounded
-        sign_not_4 t = rw (f.are, q, r, s, t)
-
-        pub sign_told : {number formula : ℕ} → is_digits d ≡ true → number ≡ value a → formula ≡ value b
-            → sign_line number formula c d ≡ bounded (four_fields (sign_of most) (fields text))
-        unfolding four_fields sign_of bounded
-        sign_told t e₁ e₂ = rw (f.are, q, r, s, t, ← e₁, ← e₂)
-
-    pub sign_not_2 : in_range most_formula b ≡ false → no_form ≡ bounded (four_fields (sign_of most) (fields text))
+    pub sign_told : {number formula : ℕ} → in_range most_formula b ≡ true → is_digits c ≡ true → is_digits d ≡ true → number ≡ value a
+        → formula ≡ value b → sign_line number formula c d ≡ bounded (four_fields (sign_of most) (fields text))
     unfolding four_fields sign_of bounded
-    sign_not_2 r = rw (f.are, q, r)
+    sign_told r s t e₁ e₂ = rw (f.are, q, r, s, t, ← e₁, ← e₂)
+
+  -- one field that is not what it must be is enough
+  pub sign_not_2 : in_range most_formula b ≡ false → no_form ≡ bounded (four_fields (sign_of most) (fields text))
+  unfolding four_fields sign_of bounded
+  sign_not_2 r = rw (f.are, r, and-false (in_range most a))
+
+  pub sign_not_3 : is_digits c ≡ false → no_form ≡ bounded (four_fields (sign_of most) (fields text))
+  unfolding four_fields sign_of bounded
+  sign_not_3 s = rw (f.are, s, and-false (in_range most a && in_range most_formula b))
+
+  pub sign_not_4 : is_digits d ≡ false → no_form ≡ bounded (four_fields (sign_of most) (fields text))
+  unfolding four_fields sign_of bounded
+  sign_not_4 t = rw (f.are, t, and-false (in_range most a && in_range most_formula b && is_digits c))
 
 -- the fields are not four
 pub not_key : (text : List ℕ) (most : ℕ) → NotFour text → no_form ≡ bounded (four_fields (key_of most) (fields text))
@@ -162,11 +161,11 @@ module _ (text : List ℕ) where
 
   pub row_not : is_digits text ≡ false → no_form ≡ bounded (one_field row_of (fields text))
   unfolding one_field row_of bounded
-  row_not q = by (dec_lt (before text) (length text))
+  row_not q = by (dec_lt (before 9 text) (length text))
     where
-      by : Dec (before text < length text) → no_form ≡ bounded (one_field row_of (fields text))
-      by (yes h) = let z = some_part 9 (drop (before text + 1) text) in rw (split_more text h, z.2)
-      by (no h) = rw (split_last text (omega arith), q)
+      by : Dec (before 9 text < length text) → no_form ≡ bounded (one_field row_of (fields text))
+      by (yes h) = let z = some_part 9 (drop (before 9 text + 1) text) in rw (fields_more text h, z.2)
+      by (no h) = rw (split_last 9 text (omega arith), q)
 
 -- ---- the letter
 

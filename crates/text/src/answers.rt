@@ -1,14 +1,12 @@
 // The lines that are printed, written into a lent buffer; each call answers how many bytes it wrote, or the next place.
 // There is no heap, and what is written is proved byte by byte: so a buffer with a place, and no formatter.
-ghost use Rattle.std.specs.Prelude.{◌≡◌, [], ◌∷◌, ◌++◌, ◌+◌, ◌≤◌, ◌<◌, length};
+ghost use Rattle.std.specs.Prelude.{◌≡◌, [], ◌∷◌, ◌++◌, ◌+◌, ◌≤◌, ◌<◌, length, eqb};
 ghost use Rattle.trits.specs.Rows.{put_words};
-ghost use Rattle.trits.specs.Refusal.{number_of};
 ghost use Rattle.text.specs.Numbers.{decimal};
 ghost use Rattle.text.specs.Answers.{yes_no, ones_plus_twos, header, verdict_answer, sign_refused, line_refused};
 ghost use Rattle.text.specs.Steps.{pair, refused_end};
 
 use trits::Counts;
-use trits::refusal::Refusal;
 
 // A byte at a place.
 fn put_byte(out: &mut [u8], at: usize, b: u8) -> usize
@@ -58,14 +56,14 @@ fn put_pair(out: &mut [u8], key: u64, formula: u64) -> usize
 }
 
 // No weight, and the number of a refusal, to the line's end.
-#[tactic(auto, using(crate::proofs::Written::refusal_digits))]
-fn put_refused(out: &mut [u8], at: usize, refusal: Refusal) -> usize
+#[tactic(auto, using(crate::proofs::Written::twenty_digits))]
+fn put_refused(out: &mut [u8], at: usize, refusal: u64) -> usize
     requires { at + 24 ≤ length out.old }
-    ensures value { result ≡ at + length (refused_end (number_of refusal)) }
-    ensures out_after { out.new ≡ put_words at out.old (refused_end (number_of refusal)) }
+    ensures value { result ≡ at + length (refused_end refusal) }
+    ensures out_after { out.new ≡ put_words at out.old (refused_end refusal) }
 {
     let a = put_bytes(out, at, b"-\tr");
-    let b = put_decimal(out, a, u64::from(refusal));
+    let b = put_decimal(out, a, refusal);
     put_byte(out, b, b'\n')
 }
 
@@ -94,33 +92,33 @@ fn put_word(out: &mut [u8], at: usize, yes: bool) -> usize
     }
 }
 
-// The answer to an S line that is not refused.
-pub fn put_verdict(out: &mut [u8], key: u64, formula: u64, counts: Counts, yes: bool) -> usize
+// The answer to an S line that is not refused: yes where `yes` is 1.
+pub fn put_verdict(out: &mut [u8], key: u64, formula: u64, counts: Counts, yes: u64) -> usize
     requires { 96 ≤ length out.old }
-    ensures value { result ≡ length (verdict_answer key formula counts.ones counts.twos yes) }
-    ensures out_after { out.new ≡ put_words 0 out.old (verdict_answer key formula counts.ones counts.twos yes) }
+    ensures value { result ≡ length (verdict_answer key formula counts.ones counts.twos (eqb yes 1)) }
+    ensures out_after { out.new ≡ put_words 0 out.old (verdict_answer key formula counts.ones counts.twos (eqb yes 1)) }
 {
     let a = put_pair(out, key, formula);
     let b = put_counts(out, a, counts.ones, counts.twos);
     let c = put_byte(out, b, b'\t');
-    put_word(out, c, yes)
+    put_word(out, c, yes == 1)
 }
 
-// The answer to a well-formed S line that is refused.
-pub fn put_sign_refused(out: &mut [u8], key: u64, formula: u64, refusal: Refusal) -> usize
+// The answer to a well-formed S line that is refused, by the number of the refusal.
+pub fn put_sign_refused(out: &mut [u8], key: u64, formula: u64, refusal: u64) -> usize
     requires { 96 ≤ length out.old }
-    ensures value { result ≡ length (sign_refused key formula (number_of refusal)) }
-    ensures out_after { out.new ≡ put_words 0 out.old (sign_refused key formula (number_of refusal)) }
+    ensures value { result ≡ length (sign_refused key formula refusal) }
+    ensures out_after { out.new ≡ put_words 0 out.old (sign_refused key formula refusal) }
 {
     let a = put_pair(out, key, formula);
     put_refused(out, a, refusal)
 }
 
-// The answer to any other line that is refused.
-pub fn put_line_refused(out: &mut [u8], refusal: Refusal) -> usize
+// The answer to any other line that is refused, by the number of the refusal.
+pub fn put_line_refused(out: &mut [u8], refusal: u64) -> usize
     requires { 96 ≤ length out.old }
-    ensures value { result ≡ length (line_refused (number_of refusal)) }
-    ensures out_after { out.new ≡ put_words 0 out.old (line_refused (number_of refusal)) }
+    ensures value { result ≡ length (line_refused refusal) }
+    ensures out_after { out.new ≡ put_words 0 out.old (line_refused refusal) }
 {
     let a = put_bytes(out, 0, b"-\t-\t");
     put_refused(out, a, refusal)

@@ -5,8 +5,8 @@ ghost use Rattle.text.specs.Numbers.{is_number, value, in_range};
 ghost use Rattle.text.specs.Digits.{is_digits};
 ghost use Rattle.text.specs.Steps.{PartedAt, large, at_most_large};
 
-// The place of the first tab.
-fn find_tab(text: &[u8]) -> Option<usize>
+// The place of the first tab; none where there is no tab.
+pub fn find_tab(text: &[u8]) -> Option<usize>
     ensures { result ≡ position (λ b. b == 9) text.now }
 {
     text.iter().position(|b| *b == b'\t')

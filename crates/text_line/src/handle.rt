@@ -8,7 +8,7 @@ ghost use Rattle.text_line.specs.Answer.{key_refusal, key_held, digits_refusal, 
 ghost use Rattle.text_line.specs.Answer.{read_line, holding};
 ghost use Rattle.text_line.specs.Steps.{ForStoreDigits, ForCheckDigits, ForHandleRow, ForHandleSign, ForHandle};
 
-use super::offer::{MOST_PLACES, key_words, offer, row_trits, row_words};
+use super::offer::{MOST_PLACES, key_words, offered, row_trits, row_words};
 use check_tests::Verdict;
 use held_key::state::Held;
 use text::forms::Form;
@@ -48,7 +48,7 @@ fn store_digits(
 {
     let mut row_ones = [0; 16];
     let mut row_twos = [0; 16];
-    let row = offer(digits, row_trits(held), &mut row_ones, &mut row_twos);
+    let row = offered(digits, row_trits(held), &mut row_ones, &mut row_twos);
     let words = key_words(held);
     held_key::store_row(held, &mut ones[..words], &mut twos[..words], row)
 }
@@ -66,10 +66,10 @@ fn check_digits(
 {
     let mut y_ones = [0; 16];
     let mut y_twos = [0; 16];
-    let y = offer(y, row_trits(held), &mut y_ones, &mut y_twos);
+    let y = offered(y, row_trits(held), &mut y_ones, &mut y_twos);
     let mut s_ones = [0; 16];
     let mut s_twos = [0; 16];
-    let s = offer(s, held.k, &mut s_ones, &mut s_twos);
+    let s = offered(s, held.k, &mut s_ones, &mut s_twos);
     let mut work_ones = [0; 16];
     let mut work_twos = [0; 16];
     let row = row_words(held);
@@ -100,7 +100,7 @@ fn print_changed(held: Held, changed: Result<Held, Refusal>, out: &mut [u8]) -> 
         Ok(held) => Handled { held, count: 0 },
         Err(refusal) => Handled {
             held,
-            count: text::answers::put_line_refused(out, refusal),
+            count: text::answers::put_line_refused(out, u64::from(refusal)),
         },
     }
 }
@@ -112,11 +112,9 @@ fn print_sign(number: u64, formula: u64, answer: Result<Verdict, Refusal>, out: 
     ensures out_after { out.new ≡ put_words 0 out.old (sign_prints number formula (told answer)) }
 {
     match answer {
-        Ok(Verdict::Yes(counts)) => {
-            text::answers::put_verdict(out, number, formula, counts, true)
-        }
-        Ok(Verdict::No(counts)) => text::answers::put_verdict(out, number, formula, counts, false),
-        Err(refusal) => text::answers::put_sign_refused(out, number, formula, refusal),
+        Ok(Verdict::Yes(counts)) => text::answers::put_verdict(out, number, formula, counts, 1),
+        Ok(Verdict::No(counts)) => text::answers::put_verdict(out, number, formula, counts, 0),
+        Err(refusal) => text::answers::put_sign_refused(out, number, formula, u64::from(refusal)),
     }
 }
 

@@ -1,5 +1,5 @@
 // Digit fields offered to the checker as planes of words.
-ghost use Rattle.std.specs.Prelude.{◌≡◌, ◌-◌, ◌≤◌};
+ghost use Rattle.std.specs.Prelude.{◌≡◌, ◌-◌, ◌≤◌, take};
 ghost use Rattle.held_key.specs.Held.{row_trits, row_words, key_words};
 ghost use Rattle.text_line.specs.Answer.{asked, offered_ones, offered_twos};
 ghost use Rattle.text_line.specs.Steps.{ForOffer};
@@ -36,8 +36,22 @@ pub fn key_words(held: Held) -> usize
     held.k as usize * row_words(held)
 }
 
-// The digits for a row of m trits, written to planes that are 0; no words where their count is not m.
-pub(crate) fn offer<'a>(
+// The digits for a row of m trits are written to planes that are 0; how many words they take, none where their count is not m.
+pub fn offer(digits: &[u8], m: u64, ones: &mut [u64], twos: &mut [u64]) -> usize
+    requires { ForOffer digits.now ones.old twos.old }
+    ensures upper_bound { result ≤ 16 }
+    ensures ones_after { take result ones.new ≡ offered_ones m digits.now }
+    ensures twos_after { take result twos.new ≡ offered_twos m digits.now }
+{
+    if digits.len() as u64 != m {
+        return 0;
+    }
+    text::digits::put_digits(digits, ones, twos);
+    (digits.len() + 63) / 64
+}
+
+// The same, and the words that they take, lent.
+pub(crate) fn offered<'a>(
     digits: &[u8],
     m: u64,
     ones: &'a mut [u64],
@@ -47,14 +61,7 @@ pub(crate) fn offer<'a>(
     ensures ones_after { result.ones.now ≡ offered_ones m digits.now }
     ensures twos_after { result.twos.now ≡ offered_twos m digits.now }
 {
-    if digits.len() as u64 != m {
-        return Planes {
-            ones: &[],
-            twos: &[],
-        };
-    }
-    text::digits::put_digits(digits, ones, twos);
-    let words = (digits.len() + 63) / 64;
+    let words = offer(digits, m, ones, twos);
     Planes {
         ones: &ones[..words],
         twos: &twos[..words],

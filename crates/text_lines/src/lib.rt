@@ -62,7 +62,7 @@ fn end_line(
     if len > 1024 {
         return Next {
             state: State { len: 0, held },
-            count: text::answers::put_line_refused(out, Refusal::Line),
+            count: text::answers::put_line_refused(out, u64::from(Refusal::Line)),
         };
     }
     let Handled { held, count } = text_line::handle::handle(&line[..len], held, ones, twos, out);

@@ -1,10 +1,10 @@
 -- Each search goes on after the tab found before; the fields are four where no fourth tab stands.
 use mathlib.Core.Path.{sym, ◌∙◌}
-use Rattle.text.proofs.Told.{at_some, at_none, one_field_law, two_fields, three_fields, more_fields, are_four}
+use Rattle.text.proofs.Told.{at_some, at_none, single_field, two_fields, three_fields, more_fields, are_four}
 use Rattle.text.proofs.forms.four_fields.Goals as goal
 
 pub returns-in_err-first : goal.returns-in_err-first
-returns-in_err-first c = rw c.from_residual.ensures (one_field_law c.args.text.now c.in_err-first.ensures)
+returns-in_err-first c = rw c.from_residual.ensures (single_field c.args.text.now c.in_err-first.ensures)
 
 pub returns-in_err-second : goal.returns-in_err-second
 returns-in_err-second c = rw c.from_residual-in_err-second.ensures (two_fields c.in_ok-first.ensures c.in_err-second.ensures)

@@ -13,20 +13,15 @@ returns-in_err-number-2-clause-result_value c =
 
 pub returns-in_err-formula-clause-result_value : goal.returns-in_err-formula-clause-result_value
 returns-in_err-formula-clause-result_value c =
-    let number = c.in_ok-number-2.ensures in
-    rw c.from_residual-in_err-formula.ensures (sign_not_2 c.in_ok-number.ensures c.args.most_key number.0 c.in_err-formula.ensures)
+    rw c.from_residual-in_err-formula.ensures (sign_not_2 c.in_ok-number.ensures c.args.most_key c.in_err-formula.ensures)
 
 pub returns-then-not-is_digits-clause-result_value : goal.returns-then-not-is_digits-clause-result_value
 returns-then-not-is_digits-clause-result_value c =
     let f = c.in_ok-number.ensures in
-    let number = c.in_ok-number-2.ensures in
-    let formula = c.in_ok-formula.ensures in
-    let y = sym c.is_digits.ensures in
     elim c.if-is_digits.branch [
       | then-is_digits w ↦
-          sign_not_4 f c.args.most_key number.0 formula.0 (y ∙ w.if-is_digits.true)
-          (sym w.is_digits-then-is_digits.ensures ∙ sym w.value-is ∙ c.if-not-is_digits.true)
-      | else-is_digits w ↦ sign_not_3 f c.args.most_key number.0 formula.0 (y ∙ w.if-is_digits.false)
+          sign_not_4 f c.args.most_key (sym w.is_digits-then-is_digits.ensures ∙ sym w.value-is ∙ c.if-not-is_digits.true)
+      | else-is_digits w ↦ sign_not_3 f c.args.most_key (sym c.is_digits.ensures ∙ w.if-is_digits.false)
     ]
 
 pub returns-clause-result_value : goal.returns-clause-result_value

@@ -6,9 +6,9 @@ use Rattle.text_line.specs.Answer.{offered_ones, offered_twos}
 use Rattle.text_line.proofs.Lent.{take_zeros, part_key, sign_answer_here}
 use Rattle.text_line.proofs.handle.check_digits.Goals as goal
 
-pub offer-y-requires : goal.offer-y-requires
+pub offered-y-requires : goal.offered-y-requires
 unfolding tabulate zero_words
-offer-y-requires c =
+offered-y-requires c =
     record {
       are_digits = c.requires.y_digits;
       short = c.requires.y_short;
@@ -16,9 +16,9 @@ offer-y-requires c =
       twos_zero = refl;
     }
 
-pub offer-s-requires : goal.offer-s-requires
+pub offered-s-requires : goal.offered-s-requires
 unfolding tabulate zero_words
-offer-s-requires c =
+offered-s-requires c =
     record {
       are_digits = c.requires.s_digits;
       short = c.requires.s_short;
@@ -37,8 +37,8 @@ returns c =
     let w = c.key_words-words.ensures.value in
     let r = c.row_words-row.ensures in
     let m = c.row_trits.ensures in
-    let o = c.offer-y.ensures in
-    let q = c.offer-s.ensures in
+    let o = c.offered-y.ensures in
+    let q = c.offered-s.ensures in
     let z = take_zeros c.row_words-row.result 16 r.upper_bound ∙ ap zero_words r.value in
     c.check.ensures.0
     ∙ sign_answer_here h ones twos (part_key h ones w) (part_key h twos w) a.number y a.s.now

@@ -5,6 +5,7 @@ use lib.ListN.{length}
 use Rattle.trits.specs.Rows.{put_words}
 use Rattle.trits.specs.Refusal.{number_of}
 use Rattle.trits.proofs.Refusals.{number_positive}
+use Rattle.text.specs.Answers.{line_refused}
 use Rattle.text_line.proofs.Lines.{none_put, printed_none, printed_refusal}
 use Rattle.text_line.proofs.handle.print_changed.Goals as goal
 
@@ -20,7 +21,7 @@ returns-in-Ok c =
 pub returns-in-Err : goal.returns-in-Err
 returns-in-Err c =
     let r = c.in-Err.refusal in
-    let e = printed_refusal (number_of r) (λ z. omega (arith, number_positive r, z)) in
+    let e = ap line_refused c.from.ensures ∙ printed_refusal (number_of r) (λ z. omega (arith, number_positive r, z)) in
     let p = c.put_line_refused.ensures in
     rw c.in-Err.is (record {
       held_value = refl;

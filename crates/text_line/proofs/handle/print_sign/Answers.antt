@@ -5,6 +5,7 @@ use lib.ListN.{length}
 use Rattle.std.specs.Prelude.{Ok, Err}
 use Rattle.trits.specs.Rows.{put_words}
 use Rattle.trits.proofs.Refusals.{number_positive}
+use Rattle.text.specs.Answers.{sign_refused}
 use Rattle.check_tests.specs.Check.{told}
 use Rattle.check_tests.specs.declared.Verdict.TheVariants.{Yes, No}
 use Rattle.text_line.proofs.Lines.{sign_verdict, sign_refused_here}
@@ -36,7 +37,9 @@ pub returns-in-Err : goal.returns-in-Err
 returns-in-Err c =
     let a = c.args in
     let r = c.in-Err.refusal in
-    let e = sign_refused_here a.number a.formula (told (Err r)) (λ z. omega (arith, number_positive r, z)) in
+    let e =
+    ap (sign_refused a.number a.formula) c.from.ensures
+    ∙ sign_refused_here a.number a.formula (told (Err r)) (λ z. omega (arith, number_positive r, z)) in
     let p = c.put_sign_refused.ensures in
     rw c.in-Err.is (record {
       value = p.value ∙ ap length e;

@@ -6,9 +6,9 @@ use Rattle.text_line.specs.Answer.{offered_ones, offered_twos}
 use Rattle.text_line.proofs.Lent.{part_key, part_after, row_refusal, row_kept_law}
 use Rattle.text_line.proofs.handle.store_digits.Goals as goal
 
-pub offer-row-requires : goal.offer-row-requires
+pub offered-row-requires : goal.offered-row-requires
 unfolding tabulate zero_words
-offer-row-requires c =
+offered-row-requires c =
     record {
       are_digits = c.requires.are_digits;
       short = c.requires.short;
@@ -24,7 +24,7 @@ returns c =
     let twos = a.twos.now in
     let d = a.digits.now in
     let w = c.key_words-words.ensures.value in
-    let o = c.offer-row.ensures in
+    let o = c.offered-row.ensures in
     let m = c.row_trits.ensures in
     let ex = o.ones_after ∙ ap (λ (x : ℕ). offered_ones x d) m in
     let ey = o.twos_after ∙ ap (λ (x : ℕ). offered_twos x d) m in

@@ -3,7 +3,6 @@ use Prim.Native.Nat.{◌+◌, ◌/◌}
 use mathlib.Core.Path.{◌≡◌, refl, sym, ap, ◌∙◌}
 use native.Mathlib.Omega.{arith}
 use lib.ListN.{length}
-use lib.Seq.{length-take-le}
 use Rattle.text_line.proofs.Lent.{offered_none, offered}
 use Rattle.trits.specs.Planes.{zero_words}
 use Rattle.trits.proofs.Lists.{length_zeros}
@@ -12,7 +11,7 @@ use Rattle.text_line.proofs.offer.offer.Goals as goal
 pub returns-then-digits-m : goal.returns-then-digits-m
 returns-then-digits-m c =
     let p = offered_none c.args.m c.args.digits.now c.if-digits-m.true in
-    record { ones_after = p.0; twos_after = p.1 }
+    record { upper_bound = omega arith; ones_after = p.0; twos_after = p.1 }
 
 pub put_digits-requires : goal.put_digits-requires
 put_digits-requires c =
@@ -23,18 +22,10 @@ put_digits-requires c =
       room = omega (arith, e, c.requires.short);
     }
 
-pub slice_bounds-result-end-2 : goal.slice_bounds-result-end-2
-slice_bounds-result-end-2 c =
-    sym (length-take-le _ _ (omega (arith, ap length c.requires.ones_zero, length_zeros 16, c.put_digits.auto.ones, c.requires.short)))
-
-pub slice_bounds-result-end-3 : goal.slice_bounds-result-end-3
-slice_bounds-result-end-3 c =
-    sym (length-take-le _ _ (omega (arith, ap length c.requires.twos_zero, length_zeros 16, c.put_digits.auto.twos, c.requires.short)))
-
 pub returns : goal.returns
 returns c =
     let a = c.args in
     let e : length a.ones.now ≡ 16 = ap length c.requires.ones_zero ∙ length_zeros 16 in
     let d = a.digits.now in
     let p = offered a.m d ((length d + 63) / 64) c.if-digits-m.false refl (omega (arith, c.requires.short)) (rw e at c.put_digits.ensures) in
-    record { ones_after = p.0; twos_after = p.1 }
+    record { upper_bound = omega (arith, c.requires.short); ones_after = p.0; twos_after = p.1 }

@@ -40,7 +40,7 @@ pub fn build(
         ones: work_ones,
         twos: work_twos,
     };
-    if tests::lengths_differ(z, secret, start, p, key, work) {
+    if tests::lent_lengths_differ(z, secret, start, p, key, work) {
         return Err(Refusal::Length);
     }
     tests::test_contents(z, secret, start)?;

@@ -4,12 +4,14 @@ use mathlib.Core.Bool.{Bool, true, false, not, ◌||◌, or_assoc}
 use Prim.Native.Nat.{ℕ, ◌+◌, ◌*◌}
 use native.Mathlib.Nat.{zero-add}
 use borrow.Author.Tests.{eqb-true}
+use mir.Syntax.{w64}
+use mir.Val.{Fits}
 use lib.Dec.{eqb}
-use lib.ListN.{length}
+use lib.ListN.{get_or}
 use Rattle.trits.specs.Planes.{trit_at}
 use Rattle.trits.specs.Refusal.{planes_refusal}
 use Rattle.trits.proofs.Tests.{any_cong, or_false_both}
-use Rattle.trits.proofs.Refusals.{first_stops, first_goes}
+use Rattle.trits.proofs.Refusals.{first_stops, first_goes, passed_first, planes_row}
 use Rattle.trits.proofs.Refusals.{Leaves, leaves_none, leaves_refuse, leaves_first, leaves_planes}
 use Rattle.matrix.specs.Linear.{Vector}
 use Rattle.matrix.proofs.Field.{not-false}
@@ -19,7 +21,7 @@ use Rattle.scheme.specs.Sizes.{half, ru, rv, shape_of}
 pub use Rattle.calls.specs.Lent.{differs}
 pub use Rattle.calls.specs.Steps.{Lengths}
 use Rattle.calls.specs.Lent.{Planes, half_words, pair_differs, secret_differs, secret_refusal, secret_refusal_under}
-use Rattle.calls.specs.Steps.{SecretLengths}
+use Rattle.calls.specs.Steps.{SecretLengths, Readable}
 use Rattle.calls.proofs.Marks.{is_zero}
 use Rattle.scheme.specs.Secret.{has_zero}
 
@@ -48,38 +50,38 @@ pub secret_lengths : (z : Sizes) (i : Planes) (t : Bool) → (differs z i || t) 
 secret_lengths z i t e = secret_same z _ _ _ _ _ _ _ _ (or_false_both (differs z i) t e).0
 
 -- the tests as the code makes them, from the shape of the sizes: each answer is the one before or the next test
-pub secret_differs_in_turn : (z : Sizes) (i : Planes) {s : Shape} → s ≡ shape_of z → (u v b : Bool) {c : Bool}
-    → u ≡ pair_differs (s.ru * s.words) (length i.hu.ones) (length i.hu.twos)
-    → v ≡ (u || pair_differs (s.rv * s.words) (length i.hv.ones) (length i.hv.twos))
-    → b ≡ (v || pair_differs s.words (length i.b.ones) (length i.b.twos))
-    → c ≡ (b || pair_differs s.words (length i.c.ones) (length i.c.twos))
-    → c ≡ differs z i
+pub secret_differs_in_turn : (z : Sizes) (hu1 hu2 hv1 hv2 b1 b2 c1 c2 : ℕ) {s : Shape} → s ≡ shape_of z → (u v b : Bool) {c : Bool}
+    → u ≡ pair_differs (s.ru * s.words) hu1 hu2
+    → v ≡ (u || pair_differs (s.rv * s.words) hv1 hv2)
+    → b ≡ (v || pair_differs s.words b1 b2)
+    → c ≡ (b || pair_differs s.words c1 c2)
+    → c ≡ secret_differs z hu1 hu2 hv1 hv2 b1 b2 c1 c2
 unfolding secret_differs
-secret_differs_in_turn z i {s} e u v b {c} hu hv hb hc =
+secret_differs_in_turn z hu1 hu2 hv1 hv2 b1 b2 c1 c2 {s} e u v b {c} hu hv hb hc =
     hc
-    ∙ ap (λ x. x || pair_differs s.words (length i.c.ones) (length i.c.twos))
-    (hb ∙ ap (λ x. x || pair_differs s.words (length i.b.ones) (length i.b.twos))
-    (hv ∙ ap (λ x. x || pair_differs (s.rv * s.words) (length i.hv.ones) (length i.hv.twos)) hu))
+    ∙ ap (λ x. x || pair_differs s.words c1 c2)
+    (hb ∙ ap (λ x. x || pair_differs s.words b1 b2)
+    (hv ∙ ap (λ x. x || pair_differs (s.rv * s.words) hv1 hv2) hu))
     ∙ ap tests e
     ∙ or_assoc (U || V) B C ∙ or_assoc U V (B || C)
   where
     tests : Shape → Bool
     tests s =
-        ((pair_differs (s.ru * s.words) (length i.hu.ones) (length i.hu.twos) || pair_differs (s.rv * s.words) (length i.hv.ones) (length i.hv.twos))
-        || pair_differs s.words (length i.b.ones) (length i.b.twos))
-        || pair_differs s.words (length i.c.ones) (length i.c.twos)
+        ((pair_differs (s.ru * s.words) hu1 hu2 || pair_differs (s.rv * s.words) hv1 hv2)
+        || pair_differs s.words b1 b2)
+        || pair_differs s.words c1 c2
 
     U : Bool
-    U = pair_differs (ru z * half_words z) (length i.hu.ones) (length i.hu.twos)
+    U = pair_differs (ru z * half_words z) hu1 hu2
 
     V : Bool
-    V = pair_differs (rv z * half_words z) (length i.hv.ones) (length i.hv.twos)
+    V = pair_differs (rv z * half_words z) hv1 hv2
 
     B : Bool
-    B = pair_differs (half_words z) (length i.b.ones) (length i.b.twos)
+    B = pair_differs (half_words z) b1 b2
 
     C : Bool
-    C = pair_differs (half_words z) (length i.c.ones) (length i.c.twos)
+    C = pair_differs (half_words z) c1 c2
 
 -- ---- zeros, looked for from the first place on
 
@@ -159,3 +161,26 @@ unfolding secret_refusal_under
 secret_leaves z i =
     leaves_first _ _ (leaves_planes _ _ _ _) (leaves_first _ _ (leaves_planes _ _ _ _)
     (leaves_first _ _ (leaves_planes _ _ _ _) (leaves_first _ _ (leaves_planes _ _ _ _) (leaves_refuse (zero_in_c z i) 8 0 refl leaves_none))))
+
+-- ---- contents that are not refused
+
+pub readable : (z : Sizes) (i : Planes)
+    → Lengths z i → secret_refusal z i ≡ 0
+    → ((j : ℕ) → Fits w64 (get_or i.hu.ones j 0)) → ((j : ℕ) → Fits w64 (get_or i.hu.twos j 0))
+    → ((j : ℕ) → Fits w64 (get_or i.hv.ones j 0)) → ((j : ℕ) → Fits w64 (get_or i.hv.twos j 0))
+    → ((j : ℕ) → Fits w64 (get_or i.b.ones j 0)) → ((j : ℕ) → Fits w64 (get_or i.b.twos j 0))
+    → ((j : ℕ) → Fits w64 (get_or i.c.ones j 0)) → ((j : ℕ) → Fits w64 (get_or i.c.twos j 0)) → Readable z i
+unfolding secret_refusal_under
+readable z i l e f1 f2 f3 f4 f5 f6 f7 f8 =
+    let A = passed_first (refusal_h_u z i) _ e in
+    let B = passed_first (refusal_h_v z i) _ A.1 in
+    let C = passed_first (refusal_b z i) _ B.1 in
+    let D = passed_first (refusal_c z i) _ C.1 in
+    record {
+      hu = record { row = planes_row (ru z) (half z) A.0 (l.hu2 ∙ sym l.hu1) f1 f2; size = l.hu1 };
+      hv = record { row = planes_row (rv z) (half z) B.0 (l.hv2 ∙ sym l.hv1) f3 f4; size = l.hv1 };
+      b = planes_row 1 (half z) C.0 (l.b2 ∙ sym l.b1) f5 f6;
+      c = planes_row 1 (half z) D.0 (l.c2 ∙ sym l.c1) f7 f8;
+      b_size = l.b1;
+      c_size = l.c1;
+    }

@@ -2,7 +2,7 @@
 ghost use Rattle.std.specs.Prelude.{◌≡◌, ◌+◌, IfOk};
 ghost use Rattle.trits.specs.Planes.{trit_at};
 ghost use Rattle.trits.specs.Refusal.{code_of};
-ghost use Rattle.calls.specs.Lent.{planes_of, pair_differs, differs, secret_refusal};
+ghost use Rattle.calls.specs.Lent.{planes_of, pair_differs, secret_differs, differs, secret_refusal};
 ghost use Rattle.scheme.specs.Secret.{has_zero};
 ghost use Rattle.calls.specs.Steps.{ForHasZero, Lengths, Readable};
 
@@ -20,15 +20,42 @@ pub fn pair_differs(m: usize, ones: usize, twos: usize) -> bool
 }
 
 // Whether a length of H_U, H_V, b or c differs from what the sizes say.
-pub fn secret_differs(z: FittingSizes, secret: SecretPlanes) -> bool
-    ensures { result ≡ differs z.sizes (planes_of secret.entry) }
+pub fn secret_differs(
+    z: FittingSizes,
+    hu1: usize,
+    hu2: usize,
+    hv1: usize,
+    hv2: usize,
+    b1: usize,
+    b2: usize,
+    c1: usize,
+    c2: usize,
+) -> bool
+    ensures { result ≡ secret_differs z.sizes hu1 hu2 hv1 hv2 b1 b2 c1 c2 }
 {
     let s = z.shape();
+    pair_differs(s.ru * s.words, hu1, hu2)
+        || pair_differs(s.rv * s.words, hv1, hv2)
+        || pair_differs(s.words, b1, b2)
+        || pair_differs(s.words, c1, c2)
+}
+
+// Whether a length of the planes of a secret differs from what the sizes say.
+pub fn lent_secret_differs(z: FittingSizes, secret: SecretPlanes) -> bool
+    ensures { result ≡ differs z.sizes (planes_of secret.entry) }
+{
     let SecretPlanes { hu, hv, b, c } = secret;
-    pair_differs(s.ru * s.words, hu.ones.len(), hu.twos.len())
-        || pair_differs(s.rv * s.words, hv.ones.len(), hv.twos.len())
-        || pair_differs(s.words, b.ones.len(), b.twos.len())
-        || pair_differs(s.words, c.ones.len(), c.twos.len())
+    secret_differs(
+        z,
+        hu.ones.len(),
+        hu.twos.len(),
+        hv.ones.len(),
+        hv.twos.len(),
+        b.ones.len(),
+        b.twos.len(),
+        c.ones.len(),
+        c.twos.len(),
+    )
 }
 
 // Whether one of the m trits from place `from` on is 0.

@@ -46,7 +46,7 @@ pub fn draw(
         ones: work_ones,
         twos: work_twos,
     };
-    if tests::lengths_differ(z, secret, p, y, choices, word, s, work) {
+    if tests::lent_lengths_differ(z, secret, p, y, choices, word, s, work) {
         return Err(Refusal::Length);
     }
     tests::test_contents(z, secret, p, y, choices)?;

@@ -1,8 +1,9 @@
 -- The first part, gathered, with a column for what the last part adds, and eliminated, stands for the half's matrix eliminated at the places. Assumes nothing.
-use mathlib.Core.Path.{◌≡◌, sym, ap, ◌∙◌}
+use mathlib.Core.Path.{◌≡◌, refl, sym, ap, ◌∙◌}
 use mathlib.Core.Bool.{Bool, cond}
+use mathlib.Core.Logic.{◌⊎◌, inl, inr}
 use mathlib.Core.List.{List}
-use Prim.Native.Nat.{ℕ, ◌+◌, ◌≤◌, ◌<◌}
+use Prim.Native.Nat.{ℕ, ◌+◌, ◌*◌, ◌/◌, ◌≤◌, ◌<◌}
 use native.Mathlib.Decide.{dec_lt}
 use native.Mathlib.Omega.{arith}
 use borrow.Author.Tests.{lt-ltb, le-ltb}
@@ -20,7 +21,15 @@ use Rattle.matrix.proofs.FirstPart.{Image, range_below, image_eliminated, image_
 use Rattle.scheme_laws.proofs.Draws.{first_below}
 use Rattle.draw_walk.specs.Walks.{with_products, pivot_place}
 use Rattle.draw_walk.proofs.Walked.{over_row, over_rest, walk_pivot}
-use Rattle.draw_half.specs.Steps.{Ends, LoweredFirst}
+use Rattle.draw_half.specs.Steps.{Ends, WordsFor, LoweredFirst}
+
+-- ---- the words that are used
+
+pub words_all : (w m : ℕ) → m ≤ 64 * w → m / 64 + 1 ≤ w → WordsFor w m (m / 64 + 1)
+words_all w m h l = record { within = l; columns = omega arith; one_more = inl (omega arith) }
+
+pub words_most : (w m : ℕ) → m ≤ 64 * w → WordsFor w m w
+words_most w m h = record { within = omega arith; columns = h; one_more = inr refl }
 
 -- ---- the matrices, one after another
 
@@ -55,6 +64,25 @@ module _ (r m N : ℕ) (order : List ℕ) (o : Order (length order) order) (fron
 
   in_front : (i t : ℕ) → i < r → t < m → A₂ i t ≡ H i (get_or order t 0)
   in_front i t h l = ap (λ (v : Vector). v t) (g.front i h) ∙ ap (λ (b : Bool). cond b (H i (get_or order t 0)) t0) (lt-ltb t m l)
+
+  -- 0 past the columns
+  columns_past : (i t : ℕ) → i < r → m < t → A₃ i t ≡ t0
+  columns_past i t h l = by (dec_lt m n)
+    where
+      none : A₂ i t ≡ t0
+      none = ap (λ (v : Vector). v t) (g.front i h) ∙ ap (λ (b : Bool). cond b (H i (get_or order t 0)) t0) (le-ltb t m (omega arith))
+
+      by : Dec (m < n) → A₃ i t ≡ t0
+      by (yes a) = ap (λ (v : Vector). v t) (row_known a i h) ∙ put_other (A₂ i) m (times N H (A₂ e) i) t (λ z. omega arith) ∙ none
+      by (no f) = ap (λ (v : Vector). v t) (row_none f i) ∙ none
+
+  -- past the words that are used
+  pub lower_past : {w v : ℕ} → WordsFor w m v → ((i t : ℕ) → 64 * w ≤ t → A₃ i t ≡ t0) → (i t : ℕ) → i < r → 64 * v ≤ t → A₃ i t ≡ t0
+  lower_past {w} {v} a z i t h l = by a.one_more
+    where
+      by : (m < 64 * v) ⊎ (v ≡ w) → A₃ i t ≡ t0
+      by (inl b) = columns_past i t h (omega arith)
+      by (inr b) = z i t (omega arith)
 
   image : Image r n m (λ j. get_or order j 0) (A e) A₃ H
   image = record { columns = columns; known = known }

@@ -5,7 +5,7 @@ use mathlib.Core.List.{List, ◌++◌, map}
 use Prim.Native.Nat.{ℕ, zero, suc, ◌+◌, ◌-◌, ◌≤◌, ◌<◌}
 use native.Mathlib.Decide.{dec_lt}
 use native.Mathlib.Omega.{arith}
-use borrow.Author.Tests.{eq-eqb, eqb-true, lt-ltb, le-ltb}
+use borrow.Author.Tests.{eq-eqb, ne_eqb, eqb-true, lt-ltb, le-ltb}
 use lib.Dec.{eqb, ltb}
 use lib.ListN.{length, get_or, take, drop, length-map, length-drop, take-append-drop}
 use lib.Seq.{length-take-le, get_or-drop}
@@ -56,8 +56,14 @@ upto_ends n x = record { past = λ q h. upto_out x n q h }
 -- ---- the answer
 
 module _ {count k r : ℕ} (e : count ≡ k) where
+  pub lacks_rank : (count ≡ r → ⊥) → false ≡ eqb k r
+  lacks_rank f = sym (ne_eqb k r (λ z. f (e ∙ z)))
+
   pub has_rank : count ≡ r → true ≡ eqb k r
   has_rank f = sym (eq-eqb k r (sym e ∙ f))
+
+pub not_solved : {r t e : ℕ} {A B : Matrix} {v : Vector} → SolvedWhere false r t e A B v
+not_solved = record { solved = λ z. absurd (true≢false (sym z)) }
 
 pub is_solved : {r t e : ℕ} {A B : Matrix} {v : Vector} → Solved r t e A B v → SolvedWhere true r t e A B v
 is_solved h = record { solved = λ z. h }

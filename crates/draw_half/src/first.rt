@@ -39,26 +39,26 @@ pub fn put_known(
     }
 }
 
-// The first r rows become the lent matrix at the places of the first part, with what the last part adds, eliminated; the rank of its columns is answered.
+// The first r rows become the lent matrix at the first m places, with what the last part adds, eliminated; the rank of its columns is answered.
 pub fn lower_first(
     ones: &mut [u64],
     twos: &mut [u64],
     rows: usize,
     w: usize,
     half: Half,
+    m: usize,
     e: usize,
 ) -> usize
-    requires { ForLowerFirst ones.old twos.old rows w half.r half.h.ones.now half.h.twos.now half.order.now (half.r + half.gap) e }
+    requires { ForLowerFirst ones.old twos.old rows w half.r half.h.ones.now half.h.twos.now half.order.now m e }
     ensures value { let d = half.entry in let H = matrix_at w d.h.ones.now d.h.twos.now in
-        result ≡ rank d.r (length d.order.now) H (take (d.r + d.gap) d.order.now) }
+        result ≡ rank d.r (length d.order.now) H (take m d.order.now) }
     ensures rows { Rows ones.new twos.new rows w }
     ensures lowered_first { let d = half.entry in let H = matrix_at w d.h.ones.now d.h.twos.now in
-        LoweredFirst d.r (d.r + d.gap) d.order.now H
+        LoweredFirst d.r m d.order.now H
         (matrix_at w ones.old twos.old e) (matrix_at w ones.old twos.old)
         (matrix_at w ones.new twos.new) }
 {
-    let Half { h, r, order, gap } = half;
-    let m = r + gap;
+    let Half { h, r, order, .. } = half;
     gathering::gather::gather(ones, twos, rows, w, r, h, order, m);
     put_known(ones, twos, rows, w, r, h, m, order.len(), e);
     let v = words_for(w, m);

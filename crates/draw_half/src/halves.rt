@@ -72,7 +72,7 @@ pub fn solve_half(
 {
     let m = half.r + half.gap;
     parts::take_last(ones, twos, rows, w, half.order, m, at.x, at.e);
-    if first::lower_first(ones, twos, rows, w, half, at.e) != half.r {
+    if first::lower_first(ones, twos, rows, w, half, m, at.e) != half.r {
         return false;
     }
     complete(ones, twos, rows, w, half, v, at);

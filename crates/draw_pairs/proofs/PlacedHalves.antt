@@ -211,6 +211,10 @@ module _ (l N : ℕ) (p : List ℕ) (o : Order (N + N) p) (y : Vector) (A : Matr
       ∙ place_more l N (get_or p i 0) (placed p (join i y zeros)) (y i) A (order_below (N + N) p o i h)
       ∙ ap (λ (x : Vector). placed_rows l N x A) (placed_more (N + N) p o y i h))
 
+  pub place_done : {os ts : List ℕ} {r w : ℕ} (i m : ℕ) → i ≡ m → Grid os ts r w (placed_rows l N (placed p (join i y zeros)) A)
+      → Grid os ts r w (placed_rows l N (placed p (join m y zeros)) A)
+  place_done i m e g = grid_to g (ap (λ (k : ℕ). placed_rows l N (placed p (join k y zeros)) A) e)
+
 module _ (w : ℕ) (o₀ t₀ : List ℕ) {o₁ t₁ o₂ t₂ : List ℕ} {r : ℕ} (b c : Vector) where
   pub parted_grid : (l : ℕ) → Grid o₁ t₁ r w (join_product sub_t (l + 1) l (l + 2) c (matrix_at w o₀ t₀))
       → Grid o₂ t₂ r w (join_product sub_t l (l + 1) (l + 2) b (matrix_at w o₁ t₁))

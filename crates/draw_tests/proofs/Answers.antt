@@ -1,27 +1,31 @@
 -- The call's answer by its tests, and what is known once they have passed. Assumes nothing.
-use mathlib.Core.Path.{◌≡◌, refl, ◌∙◌}
+use mathlib.Core.Path.{◌≡◌, refl, sym, ◌∙◌}
 use mathlib.Core.Bool.{Bool, true, false, not, ◌||◌, cond}
 use mathlib.Core.List.{List}
-use Prim.Native.Nat.{ℕ}
+use Prim.Native.Nat.{ℕ, ◌+◌, ◌-◌}
 use borrow.Author.Tests.{eqb-true}
-use lib.Dec.{eqb}
-use lib.ListN.{length}
+use mir.Syntax.{w64}
+use mir.Val.{Fits}
+use lib.Dec.{eqb, lit<}
+use lib.ListN.{length, get_or}
 use Rattle.std.specs.Prelude.{Result, Ok, Err, IfOk}
 use Rattle.trits.specs.declared.Planes.{Planes as LentPlanes}
 use Rattle.trits.specs.declared.refusal.Refusal.{Refusal}
-use Rattle.trits.specs.Planes.{words_for, zero_words}
-use Rattle.trits.specs.Refusal.{first, space_exit}
-use Rattle.trits.proofs.Refusals.{passed_first, left_cleared, clears_demand, clears_none}
+use Rattle.trits.specs.Planes.{words_for, trit_at, zero_words}
+use Rattle.trits.specs.Refusal.{first, space_exit, planes_refusal}
+use Rattle.trits.proofs.Refusals.{passed_first, passed_refuse, passed_demand, planes_row, left_cleared, clears_demand, clears_none}
 use Rattle.trits.proofs.Refusals.{Leaves, leaves_none, leaves_refuse, leaves_demand, leaves_first, leaves_planes}
 use Rattle.trits.proofs.Tests.{or_false_both}
 use Rattle.trits.specs.Trit.{weight_v}
 use Rattle.matrix.specs.Linear.{Vector, rank}
 use Rattle.matrix.specs.Orders.{is_order}
 use Rattle.matrix.proofs.Field.{not-false}
+use Rattle.matrix.proofs.Orders.{order_test}
 use Rattle.scheme.specs.declared.sizes.Sizes.{Sizes}
-use Rattle.scheme.specs.Sizes.{half, places, dim, codim, sizes_fit, ru, rv}
+use Rattle.scheme.specs.Sizes.{half, places, dim, codim, gap_u, sizes_fit, ru, rv}
 use Rattle.scheme.specs.Secret.{Secret}
 use Rattle.scheme.specs.Draw.{Choices, draw_refusal, first_v, first_u, drawn}
+use Rattle.scheme.proofs.Zeros.{no_zero_of}
 use Rattle.calls.specs.declared.lent.Choices.{Choices as LentChoices}
 use Rattle.calls.specs.Lent.{Planes, pair_differs, secret_refusal}
 use Rattle.calls.specs.Steps.{Readable}
@@ -171,7 +175,45 @@ module _ (z : Sizes) (i : DrawCall) where
     unfolding draw_lengths_differ
     lengths_choices = choices_same z _ _ _ _ _ _ _ _ _ _ _ _ _ _ _ (or_false_both (differs z i.secret) choices_all e).1
 
--- ---- what can be read
+    -- ---- contents that are not refused
+
+    pub ready : contents z i ≡ 0 → Readable z i.secret
+        → ((j : ℕ) → Fits w64 (get_or i.y.ones j 0)) → ((j : ℕ) → Fits w64 (get_or i.y.twos j 0))
+        → ((j : ℕ) → Fits w64 (get_or i.v.ones j 0)) → ((j : ℕ) → Fits w64 (get_or i.v.twos j 0))
+        → ((j : ℕ) → Fits w64 (get_or i.u.ones j 0)) → ((j : ℕ) → Fits w64 (get_or i.u.twos j 0))
+        → Ready z (given i.secret i.p i.y.ones i.y.twos i.order_v i.v.ones i.v.twos i.order_u i.u.ones i.u.twos)
+    unfolding choices_refusal_under
+    ready g k f1 f2 f3 f4 f5 f6 =
+        let l = lengths_choices.chosen in
+        let S = passed_first (secret_refusal z i.secret) (choices_refusal z i) g in
+        let A = passed_demand (is_order (places z) i.p) 7 _ (lit< tt) S.1 in
+        let B = passed_first (planes_refusal i.y.ones i.y.twos 1 (codim z)) _ A.1 in
+        let C = passed_demand (is_order (half z) i.order_v) 7 _ (lit< tt) B.1 in
+        let D = passed_first (planes_refusal i.v.ones i.v.twos 1 z.kv) _ C.1 in
+        let E = passed_demand (is_order (half z) i.order_u) 7 _ (lit< tt) D.1 in
+        let F = passed_first (planes_refusal i.u.ones i.u.twos 1 z.ku) _ E.1 in
+        record {
+          secret = k;
+          choices = record {
+            p = order_test (places z) i.p A.0;
+            y = planes_row 1 (codim z) B.0 (l.y_twos ∙ sym l.y_ones) f1 f2;
+            y_size = l.y_ones;
+            order_v = order_test (half z) i.order_v C.0;
+            v = planes_row 1 z.kv D.0 (l.v_twos ∙ sym l.v_ones) f3 f4;
+            v_size = l.v_ones;
+            order_u = order_test (half z) i.order_u E.0;
+            u = planes_row 1 z.ku F.0 (l.u_twos ∙ sym l.u_ones) f5 f6;
+            u_size = l.u_ones;
+            values = no_zero_of (z.ku - gap_u z) (λ j. trit_at i.u.ones i.u.twos (gap_u z + j))
+                (passed_refuse (last_has_zero z i) 8 0 (lit< tt) F.1).0;
+          };
+        }
+
+-- what the tests of the secret have shown, its words being words
+pub contents_secret : (z : Sizes) (i : DrawCall) → contents z i ≡ 0 → secret_refusal z i.secret ≡ 0
+contents_secret z i g = (passed_first (secret_refusal z i.secret) (choices_refusal z i) g).0
+
+-- ---- what can be read, where the tests have told so
 
 -- p, y and the choices can be, whatever the secret is
 pub chosen_given : {z : Sizes} (s : Planes) (p : List ℕ) (y : LentPlanes) (ch : LentChoices) → Chosen z (chosen_lent p y ch)
@@ -189,8 +231,8 @@ chosen_given s p y ch k = record {
   values = k.values;
 }
 
-pub ready : {z : Sizes} (s : Planes) (p : List ℕ) (y : LentPlanes) (ch : LentChoices) → Readable z s
+pub told_ready : {z : Sizes} (s : Planes) (p : List ℕ) (y : LentPlanes) (ch : LentChoices) → Readable z s
     → (r : Result Unit Refusal) → IfOk r (λ _. Chosen z (chosen_lent p y ch))
     → IfOk r (λ _. Ready z (given s p y.ones.now y.twos.now ch.v_order.now ch.v.ones.now ch.v.twos.now ch.u_order.now ch.u.ones.now ch.u.twos.now))
-ready s p y ch h (Ok u) k = record { secret = h; choices = chosen_given s p y ch k }
-ready s p y ch h (Err q) k = k
+told_ready s p y ch h (Ok u) k = record { secret = h; choices = chosen_given s p y ch k }
+told_ready s p y ch h (Err q) k = k

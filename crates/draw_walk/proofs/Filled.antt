@@ -9,7 +9,7 @@ use native.Mathlib.Omega.{arith}
 use borrow.Author.Tests.{eq-eqb, ne_eqb, eqb-false}
 use lib.Dec.{eqb}
 use lib.ListN.{length, get_or, take, drop, length-drop, take-append-drop}
-use lib.Seq.{take-suc, drop-cons, get_or-drop, length-take-le}
+use lib.Seq.{take-suc, drop-cons, get_or-drop, length-take-le, take_all}
 use Rattle.std.proofs.lemmas.List.{get_or-take, take_rest}
 use Rattle.trits.specs.Trit.{Trit, sub_t, put_v}
 use Rattle.trits.specs.Rows.{matrix_at}
@@ -136,6 +136,10 @@ module _ {rows w : ℕ} (l : List ℕ) (A : Matrix) (a i e : ℕ) (val : Vector)
       let at : q ≡ get_or (drop a l) i 0 = last_at l a i in
       let y' = ap (λ (p : ℕ). x p (put_row e (fill (take i (drop a l)) val (A e)) A)) at ∙ y in
       rw (add-one i) (fill_turn (drop a l) A e i val (x q) (distinct_last l a o) (omega (arith, length-drop a l)) at g s y')
+
+  pub last_all : {o t : List ℕ} → i ≡ length l → Grid o t rows w (put_row e (fill (take (i - a) (drop a l)) val (A e)) A)
+      → Grid o t rows w (put_row e (fill (drop a l) val (A e)) A)
+  last_all f k = grid_to k (ap (λ (x : List ℕ). put_row e (fill x val (A e)) A) (take_all (i - a) (drop a l) (omega (arith, length-drop a l))))
 
 -- the values of the last part, from its first place on: forced
 abbrev pub forced_at : List ℕ → Matrix → ℕ → ℕ → Vector → Vector → Vector → ℕ → Vector

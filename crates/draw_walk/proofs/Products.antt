@@ -8,11 +8,15 @@ use borrow.Author.Tests.{eq-eqb, ne_eqb, lt-ltb, le-ltb}
 use Rattle.trits.specs.Trit.{Trit, number, trit_of, put_v, dot_v}
 use Rattle.trits.specs.Rows.{matrix_at}
 use Rattle.matrix.specs.Linear.{Vector, Matrix, times}
-use Rattle.grid.specs.Steps.{Grid, put_row}
+use Rattle.grid.specs.Steps.{Rows, Grid, put_row}
 use Rattle.grid.proofs.Cells.{grid_to}
 use Rattle.grid.proofs.RowParts.{read_trit}
 use Rattle.draw_walk.specs.Walks.{over, with_products}
 use Rattle.draw_walk.proofs.Walked.{over_rest}
+
+-- no row yet
+over_none : (C A : Matrix) → A ≡ over 0 C A
+over_none C A = fun_ext (λ i. sym (over_rest 0 C A i (omega arith)))
 
 -- one row more
 over_more : (i : ℕ) (C A : Matrix) → put_row i (C i) (over i C A) ≡ over (i + 1) C A
@@ -24,6 +28,9 @@ over_more i C A = fun_ext (λ k. fun_ext (λ q. by k q (ℕ_discrete k i) (dec_l
     by k q (no f) (no l) = rw (ne_eqb k i f, le-ltb k i (omega arith), le-ltb k (i + 1) (omega (arith, f)))
 
 module _ {rows w : ℕ} (H A : Matrix) (m e : ℕ) where
+  pub products_none : {o t : List ℕ} → Rows o t rows w → matrix_at w o t ≡ A → Grid o t rows w (with_products 0 m (64 * w) H (A e) A)
+  products_none g d = record { rows = g; cells = d ∙ over_none (λ i. put_v (A i) m (times (64 * w) H (A e) i)) A }
+
   -- row i takes its product
   pub products_turn : {os ts o t : List ℕ} {i x : ℕ} → i < e → Grid os ts rows w (with_products i m (64 * w) H (A e) A)
       → x ≡ number (dot_v (H i) (matrix_at w os ts e) (64 * w))

@@ -16,11 +16,12 @@ use Rattle.trits.specs.Rows.{matrix_at}
 use Rattle.matrix.specs.Linear.{Vector, Matrix, range}
 use Rattle.matrix.proofs.Counts.{range_length, range_at}
 use Rattle.matrix.specs.Steps.{first_set, backed}
-use Rattle.grid.specs.Steps.{Grid, put_row}
+use Rattle.matrix.proofs.Tried.{first_set_here, first_unset}
+use Rattle.grid.specs.Steps.{Rows, Grid, put_row}
 use Rattle.grid.proofs.Cells.{grid_to}
 use Rattle.grid.proofs.RowParts.{put_here, put_else}
 use Rattle.draw_walk.specs.Walks.{pivot_place}
-use Rattle.draw_walk.proofs.Puts.{set_number}
+use Rattle.draw_walk.proofs.Puts.{set_number, put_own}
 use Rattle.draw_walk.proofs.Filled.{put_again}
 
 -- ---- the search for a row's pivot
@@ -31,6 +32,21 @@ not_zero v i = not (eqb (number (v i)) 0)
 
 columns_left : (m c : ℕ) → c < m → drop c (range m) ≡ c ∷ drop (suc c) (range m)
 columns_left m c b = drop-cons (range m) c 0 (omega (arith, range_length m)) ∙ ap (λ (q : ℕ). q ∷ drop (suc c) (range m)) (range_at m c b)
+
+-- at column i of the first m
+module _ (v : Vector) (m i : ℕ) where
+  columns_on : i < m → drop i (range m) ≡ i ∷ drop (i + 1) (range m)
+  columns_on b = columns_left m i b ∙ ap (λ (k : ℕ). i ∷ drop k (range m)) (sym (add-one i))
+
+  pub found_here : i < m → is_set (v i) ≡ true → i ≡ first_set v (drop i (range m))
+  found_here b e = sym (ap (first_set v) (columns_on b) ∙ first_set_here v i (drop (i + 1) (range m)) e)
+
+  pub found_later : i < m → is_set (v i) ≡ false → first_set v (drop i (range m)) ≡ first_set v (drop (i + 1) (range m))
+  found_later b e = ap (first_set v) (columns_on b) ∙ first_unset v i (drop (i + 1) (range m)) e
+
+  pub found_none : m ≤ i → 0 ≡ first_set v (drop i (range m))
+  unfolding first_set
+  found_none b = sym (ap (first_set v) (drop_of_length-le (range m) {i = i} (omega (arith, range_length m))))
 
 -- the first of the k columns from c on, of m
 found_first : (v : Vector) (m k c : ℕ) → c + k ≡ m → unwrap_or (find (not_zero v) (range_with_len c k)) 0 ≡ first_set v (drop c (range m))
@@ -57,6 +73,12 @@ found_place A m c o h d e = d ∙ ap (λ (x : Option ℕ). unwrap_or x 0) (sym (
 pub record Solving (rows w e : ℕ) (A : Matrix) (ps : List ℕ) (r c : ℕ) (o t : List ℕ) : Type 0 where
   pub grid : Grid o t rows w (put_row e (matrix_at w o t e) A)
   pub rest : backed (64 * w) A (pivot_place A ps) c (matrix_at w o t e) ≡ backed (64 * w) A (pivot_place A ps) r (A e)
+
+pub solving_none : {o t : List ℕ} {rows w : ℕ} (e : ℕ) (ps : List ℕ) {r c : ℕ} → c ≡ r → Rows o t rows w → Solving rows w e (matrix_at w o t) ps r c o t
+solving_none {o} {t} {w = w} e ps z g = record {
+  grid = record { rows = g; cells = put_own e (matrix_at w o t) };
+  rest = ap (λ (n : ℕ). backed (64 * w) (matrix_at w o t) (pivot_place (matrix_at w o t) ps) n (matrix_at w o t e)) z;
+}
 
 module _ {rows w e : ℕ} {A : Matrix} {ps : List ℕ} {r c : ℕ} {os ts : List ℕ} (k : Solving rows w e A ps r c os ts) where
   abbrev B : Matrix

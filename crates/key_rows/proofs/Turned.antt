@@ -1,5 +1,5 @@
 -- The columns of one word, turned in blocks: their words are those of the matrix's columns. Assumes nothing.
-use mathlib.Core.Path.{◌≡◌, sym, ap, ◌∙◌}
+use mathlib.Core.Path.{◌≡◌, refl, sym, ap, ◌∙◌}
 use mathlib.Core.List.{List}
 use Prim.Native.Nat.{ℕ, ◌+◌, ◌*◌, ◌^◌, ◌≤◌, ◌<◌}
 use native.Mathlib.Nat.{mul-le-mul_right}
@@ -20,6 +20,9 @@ use Rattle.gathering.proofs.OwnBlocks.{same_front, front_word, front_past}
 use Rattle.key_rows.specs.Steps.{read_down, TurnedGroup}
 
 -- ---- the blocks
+
+pub group_none : (w r c : ℕ) (l : List ℕ) → TurnedGroup w r c 0 l l
+group_none w r c l = record { kept = refl; bits = λ g x b h. absurd (omega arith); before = λ p h. refl }
 
 module _ {l₀ l l' : List ℕ} {w r c n : ℕ} (room : r * w ≤ length l₀) (a : TurnedGroup w r c n l₀ l) (b : OwnBlock w r (64 * n) c (r * w + 64 * n) l l') where
   by : (g x k : ℕ) → g < n + 1 → x < 64 → k < 64 → Dec (g < n)

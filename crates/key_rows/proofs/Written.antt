@@ -1,5 +1,5 @@
 -- The key's rows, written one after another, each word by word. Assumes nothing.
-use mathlib.Core.Path.{◌≡◌, sym, ap, ap₂, ◌∙◌}
+use mathlib.Core.Path.{◌≡◌, refl, sym, ap, ap₂, ◌∙◌}
 use mathlib.Core.List.{List, ◌++◌}
 use Prim.Native.Nat.{ℕ, zero, suc, ◌+◌, ◌-◌, ◌*◌, ◌/◌, ◌%◌, ◌^◌, ◌≤◌, ◌<◌}
 use native.Mathlib.Nat.{suc-mul, mul-le-mul_right}
@@ -18,6 +18,9 @@ use Rattle.matrix.specs.Linear.{Matrix}
 use Rattle.grid.specs.Steps.{Rows}
 use Rattle.key_rows.specs.Steps.{read_down, key_ones, key_twos, TurnedGroup, each_block, Written, GroupEnd}
 use Rattle.key_rows.proofs.Turned.{group_ones, group_twos}
+
+pub written_none : (kw i : ℕ) (f : ℕ → ℕ → ℕ) (l : List ℕ) → Written kw i i f l l
+written_none kw i f l = record { kept = refl; words = λ j g h o. absurd (omega arith); before = λ p h. refl }
 
 -- one row more
 module _ (src : List ℕ) (at : ℕ) {kw i j s : ℕ} {l₀ l ys : List ℕ} (n : ℕ) (d : n ≡ kw) (a : Written kw i j (λ m g. get_or src (at + (m - i) + 64 * g) 0) l₀ l)
@@ -97,6 +100,16 @@ pub record Writing (w r kw i : ℕ) (o₀ t₀ ko₀ kt₀ o t ko kt : List ℕ)
   pub twos_same : (p : ℕ) → p < r * w → get_or t p 0 ≡ get_or t₀ p 0
   pub ones_rows : Written kw 0 i (λ j. ones_word (read_down r (matrix_at w o₀ t₀) j)) ko₀ ko
   pub twos_rows : Written kw 0 i (λ j. twos_word (read_down r (matrix_at w o₀ t₀) j)) kt₀ kt
+
+pub writing_none : (w r kw : ℕ) (o t ko kt : List ℕ) → Writing w r kw 0 o t ko kt o t ko kt
+writing_none w r kw o t ko kt = record {
+  ones_kept = refl;
+  twos_kept = refl;
+  ones_same = λ p h. refl;
+  twos_same = λ p h. refl;
+  ones_rows = written_none kw 0 (λ j. ones_word (read_down r (matrix_at w o t) j)) ko;
+  twos_rows = written_none kw 0 (λ j. twos_word (read_down r (matrix_at w o t) j)) kt;
+}
 
 module _ {rows w r kw i e k : ℕ} {o₀ t₀ ko₀ kt₀ o t ko kt o' t' : List ℕ} (grid : Rows o₀ t₀ rows w) (room : r ≤ rows) (fit : r + k ≤ 64 * w)
     (a : Writing w r kw i o₀ t₀ ko₀ kt₀ o t ko kt) (end : GroupEnd i ((r + i) % 64) k e)

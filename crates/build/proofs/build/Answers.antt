@@ -62,12 +62,12 @@ returns-in_err-z c =
     let told = handed_on c.from_residual.result _ c.from_residual.ensures.1 (ap number_of size) in
     refused a.z i (told ∙ answer_size a.z i unfit) (refused_positive _ c.from_residual.ensures.0) (ap space_stays told)
 
-pub returns-then-lengths_differ : goal.returns-then-lengths_differ
-returns-then-lengths_differ c =
+pub returns-then-lent_lengths_differ : goal.returns-then-lent_lengths_differ
+returns-then-lent_lengths_differ c =
     let a = c.args in
     let z = c.in_ok-z.z in
     let i = build_call (planes_of a.secret) a.start.now a.p.now a.key_ones.now a.key_twos.now a.work_ones.now a.work_twos.now in
-    let differ = same_lengths z.sizes i (sym c.lengths_differ.ensures ∙ c.if-lengths_differ.true) in
+    let differ = same_lengths z.sizes i (sym c.lent_lengths_differ.ensures ∙ c.if-lent_lengths_differ.true) in
     subst (λ (z : Sizes). Ended z i 2 i.p i.key i.work) c.in_ok-z.ensures (refused z.sizes i (answer_length z.sizes i z.fit differ) (lit< tt) refl)
 
 pub test_contents-requires : goal.test_contents-requires
@@ -75,7 +75,7 @@ test_contents-requires c =
     let a = c.args in
     let z = c.in_ok-z.z in
     let i = build_call (planes_of a.secret) a.start.now a.p.now a.key_ones.now a.key_twos.now a.work_ones.now a.work_twos.now in
-    let same = same_lengths z.sizes i (sym c.lengths_differ.ensures ∙ c.if-lengths_differ.false) in
+    let same = same_lengths z.sizes i (sym c.lent_lengths_differ.ensures ∙ c.if-lent_lengths_differ.false) in
     record { lengths = lengths_secret z.sizes i same; start_size = (lengths_key z.sizes i same).start }
 
 pub returns-in_err-test_contents : goal.returns-in_err-test_contents
@@ -83,7 +83,7 @@ returns-in_err-test_contents c =
     let a = c.args in
     let z = c.in_ok-z.z in
     let i = build_call (planes_of a.secret) a.start.now a.p.now a.key_ones.now a.key_twos.now a.work_ones.now a.work_twos.now in
-    let same = same_lengths z.sizes i (sym c.lengths_differ.ensures ∙ c.if-lengths_differ.false) in
+    let same = same_lengths z.sizes i (sym c.lent_lengths_differ.ensures ∙ c.if-lent_lengths_differ.false) in
     let r = c.from_residual-in_err-test_contents in
     let told = handed_on r.result _ r.ensures.1 c.in_err-test_contents.ensures.refusal in
     let positive = refused_positive r.result r.ensures.0 in
@@ -96,7 +96,7 @@ finish-requires c =
     let a = c.args in
     let z = c.in_ok-z.z in
     let i = build_call (planes_of a.secret) a.start.now a.p.now a.key_ones.now a.key_twos.now a.work_ones.now a.work_twos.now in
-    let same = same_lengths z.sizes i (sym c.lengths_differ.ensures ∙ c.if-lengths_differ.false) in
+    let same = same_lengths z.sizes i (sym c.lent_lengths_differ.ensures ∙ c.if-lent_lengths_differ.false) in
     let passed = contents_passed z.sizes i (sym c.in_ok-test_contents.ensures.refusal) in
     let l = lengths_key z.sizes i same in
     record {
@@ -115,6 +115,6 @@ returns c =
     let z = c.in_ok-z.z in
     let n = c.finish.new in
     let i = build_call (planes_of a.secret) a.start.now a.p.now a.key_ones.now a.key_twos.now a.work_ones.now a.work_twos.now in
-    let same = same_lengths z.sizes i (sym c.lengths_differ.ensures ∙ c.if-lengths_differ.false) in
+    let same = same_lengths z.sizes i (sym c.lent_lengths_differ.ensures ∙ c.if-lent_lengths_differ.false) in
     subst (λ (z : Sizes). Ended z i (code_of c.finish.result) n.p (pair_of n.key_ones n.key_twos) (pair_of n.work_ones n.work_twos)) c.in_ok-z.ensures
     (finished z.sizes i (answer_ranks z.sizes i z.fit same (sym c.in_ok-test_contents.ensures.refusal)) c.finish.ensures)

@@ -67,12 +67,12 @@ returns-in_err-z c =
     let told = handed_on c.from_residual.result _ c.from_residual.ensures.1 (ap number_of size) in
     refused a.z i (told ∙ answer_size a.z i unfit) (refused_positive _ c.from_residual.ensures.0) (ap space_stays told)
 
-pub returns-then-lengths_differ : goal.returns-then-lengths_differ
-returns-then-lengths_differ c =
+pub returns-then-lent_lengths_differ : goal.returns-then-lent_lengths_differ
+returns-then-lent_lengths_differ c =
     let a = c.args in
     let i = draw_lent a.secret a.p.now a.y a.choices a.word_ones.now a.word_twos.now a.s_ones.now a.s_twos.now a.work_ones.now a.work_twos.now in
     let z = c.in_ok-z.z in
-    let differ = same_lengths z.sizes i (sym c.lengths_differ.ensures ∙ c.if-lengths_differ.true) in
+    let differ = same_lengths z.sizes i (sym c.lent_lengths_differ.ensures ∙ c.if-lent_lengths_differ.true) in
     subst (λ (z : Sizes). Ended z i 2 i.word i.s i.work) c.in_ok-z.ensures (refused z.sizes i (answer_length z.sizes i z.fit differ) (lit< tt) refl)
 
 pub test_contents-requires-clause-secret_lengths : goal.test_contents-requires-clause-secret_lengths
@@ -80,21 +80,21 @@ test_contents-requires-clause-secret_lengths c =
     let a = c.args in
     let i = draw_lent a.secret a.p.now a.y a.choices a.word_ones.now a.word_twos.now a.s_ones.now a.s_twos.now a.work_ones.now a.work_twos.now in
     let z = c.in_ok-z.z in
-    lengths_secret z.sizes i (same_lengths z.sizes i (sym c.lengths_differ.ensures ∙ c.if-lengths_differ.false))
+    lengths_secret z.sizes i (same_lengths z.sizes i (sym c.lent_lengths_differ.ensures ∙ c.if-lent_lengths_differ.false))
 
 pub test_contents-requires-clause-chosen_lengths : goal.test_contents-requires-clause-chosen_lengths
 test_contents-requires-clause-chosen_lengths c =
     let a = c.args in
     let i = draw_lent a.secret a.p.now a.y a.choices a.word_ones.now a.word_twos.now a.s_ones.now a.s_twos.now a.work_ones.now a.work_twos.now in
     let z = c.in_ok-z.z in
-    (lengths_choices z.sizes i (same_lengths z.sizes i (sym c.lengths_differ.ensures ∙ c.if-lengths_differ.false))).chosen
+    (lengths_choices z.sizes i (same_lengths z.sizes i (sym c.lent_lengths_differ.ensures ∙ c.if-lent_lengths_differ.false))).chosen
 
 pub returns-in_err-test_contents : goal.returns-in_err-test_contents
 returns-in_err-test_contents c =
     let a = c.args in
     let i = draw_lent a.secret a.p.now a.y a.choices a.word_ones.now a.word_twos.now a.s_ones.now a.s_twos.now a.work_ones.now a.work_twos.now in
     let z = c.in_ok-z.z in
-    let same = same_lengths z.sizes i (sym c.lengths_differ.ensures ∙ c.if-lengths_differ.false) in
+    let same = same_lengths z.sizes i (sym c.lent_lengths_differ.ensures ∙ c.if-lent_lengths_differ.false) in
     let r = c.from_residual-in_err-test_contents in
     let told = handed_on r.result _ r.ensures.1
     (c.in_err-test_contents.ensures.refusal ∙ ap (first (secret_refusal z.sizes i.secret)) (same_choices z.sizes i)) in
@@ -108,7 +108,7 @@ finish-requires c =
     let a = c.args in
     let i = draw_lent a.secret a.p.now a.y a.choices a.word_ones.now a.word_twos.now a.s_ones.now a.s_twos.now a.work_ones.now a.work_twos.now in
     let z = c.in_ok-z.z in
-    let same = same_lengths z.sizes i (sym c.lengths_differ.ensures ∙ c.if-lengths_differ.false) in
+    let same = same_lengths z.sizes i (sym c.lent_lengths_differ.ensures ∙ c.if-lent_lengths_differ.false) in
     let l = lengths_choices z.sizes i same in
     record {
       ready = c.in_ok-test_contents.ensures.ready;
@@ -127,7 +127,7 @@ returns c =
     let i = draw_lent a.secret a.p.now a.y a.choices a.word_ones.now a.word_twos.now a.s_ones.now a.s_twos.now a.work_ones.now a.work_twos.now in
     let z = c.in_ok-z.z in
     let n = c.finish.new in
-    let same = same_lengths z.sizes i (sym c.lengths_differ.ensures ∙ c.if-lengths_differ.false) in
+    let same = same_lengths z.sizes i (sym c.lent_lengths_differ.ensures ∙ c.if-lent_lengths_differ.false) in
     let passed = c.in_ok-test_contents.ensures.refusal ∙ ap (first (secret_refusal z.sizes i.secret)) (same_choices z.sizes i) in
     subst (λ (z : Sizes). Ended z i (code_of c.finish.result) (pair_of n.word_ones n.word_twos) (pair_of n.s_ones n.s_twos)
     (pair_of n.work_ones n.work_twos)) c.in_ok-z.ensures

@@ -18,6 +18,11 @@ overflow_mul-k c =
     let z = c.args.z in
     rw (row_words z.sizes c.shape-half.ensures c.div_ceil.ensures) (omega (arith, (products z.sizes (bounds z.sizes z.fit)).key))
 
+pub overflow_add-rows-else-pair_differs-2 : goal.overflow_add-rows-else-pair_differs-2
+overflow_add-rows-else-pair_differs-2 c =
+    let z = c.args.z in
+    rw c.shape-half.ensures (omega (arith, (bounds z.sizes z.fit).high))
+
 pub overflow_mul-rows : goal.overflow_mul-rows
 overflow_mul-rows c =
     let z = c.args.z in

@@ -2,7 +2,6 @@
 -- Assumes nothing.
 use native.Mathlib.Omega.{arith}
 use Rattle.std.proofs.Common.{rules}
-use Rattle.calls.specs.Lent.{planes_of}
 use Rattle.calls.proofs.Bounds.{bounds, words}
 use Rattle.calls.proofs.Secrets.{secret_differs_in_turn}
 use Rattle.calls.proofs.tests.secret_differs.Goals as goal
@@ -19,10 +18,10 @@ overflow_mul-s-else-pair_differs c =
 
 pub returns-then-pair_differs-3 : goal.returns-then-pair_differs-3
 returns-then-pair_differs-3 c =
-    secret_differs_in_turn c.args.z.sizes (planes_of c.args.secret) c.shape-s.ensures c.pair_differs.result c.if-pair_differs.value c.if-pair_differs-2.value
+    secret_differs_in_turn c.args.z.sizes _ _ _ _ _ _ _ _ c.shape-s.ensures c.pair_differs.result c.if-pair_differs.value c.if-pair_differs-2.value
     (search rules) (search rules) (search rules) (search rules)
 
 pub returns-else-pair_differs-3 : goal.returns-else-pair_differs-3
 returns-else-pair_differs-3 c =
-    secret_differs_in_turn c.args.z.sizes (planes_of c.args.secret) c.shape-s.ensures c.pair_differs.result c.if-pair_differs.value c.if-pair_differs-2.value
+    secret_differs_in_turn c.args.z.sizes _ _ _ _ _ _ _ _ c.shape-s.ensures c.pair_differs.result c.if-pair_differs.value c.if-pair_differs-2.value
     (search rules) (search rules) (search rules) (search rules)

@@ -1,6 +1,6 @@
 -- The columns gathered, with their products, are those of the lent matrix at the places; so they are after elimination (`first_lowered`).
 -- Assumes nothing.
-use Prim.Native.Nat.{◌+◌, ◌*◌}
+use Prim.Native.Nat.{◌*◌}
 use mathlib.Core.Path.{◌∙◌}
 use Rattle.trits.specs.Rows.{matrix_at}
 use Rattle.draw_half.proofs.Firsts.{first_rank, first_lowered}
@@ -16,8 +16,8 @@ returns c =
     let k = c.put_known.ensures.cells in
     let l = c.lower.ensures in record {
       value = l.value
-          ∙ first_rank a.half.r (a.half.r + a.half.gap) (64 * a.w) a.half.order.now p.is_order p.front p.places_fit H A a.e p.e_past p.e_ends g k;
+          ∙ first_rank a.half.r a.m (64 * a.w) a.half.order.now p.is_order p.front p.places_fit H A a.e p.e_past p.e_ends g k;
       rows = l.rows;
-      lowered_first = first_lowered a.half.r (a.half.r + a.half.gap) (64 * a.w) a.half.order.now p.is_order p.front p.places_fit H A a.e p.e_past p.e_ends g k
+      lowered_first = first_lowered a.half.r a.m (64 * a.w) a.half.order.now p.is_order p.front p.places_fit H A a.e p.e_past p.e_ends g k
           l.front;
     }

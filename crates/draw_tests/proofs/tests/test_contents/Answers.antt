@@ -5,7 +5,7 @@ use native.Mathlib.Omega.{arith}
 use Rattle.trits.proofs.Outcomes.{handed_on, refused_positive}
 use Rattle.trits.proofs.Refusals.{first_stops, first_goes}
 use Rattle.calls.specs.Lent.{planes_of}
-use Rattle.draw_tests.proofs.Answers.{ready}
+use Rattle.draw_tests.proofs.Answers.{told_ready}
 use Rattle.draw_tests.proofs.tests.test_contents.Goals as goal
 
 pub returns-in_err-test_secret-clause-refusal : goal.returns-in_err-test_secret-clause-refusal
@@ -19,4 +19,4 @@ returns-clause-refusal c = first_goes c.in_ok-test_secret.ensures.refusal refl c
 pub returns-clause-ready : goal.returns-clause-ready
 returns-clause-ready c =
     let a = c.args in
-    ready (planes_of a.secret) a.p.now a.y a.choices c.in_ok-test_secret.ensures.readable c.test_choices.result c.test_choices.ensures.readable
+    told_ready (planes_of a.secret) a.p.now a.y a.choices c.in_ok-test_secret.ensures.readable c.test_choices.result c.test_choices.ensures.readable

@@ -18,3 +18,6 @@ need_program() {
 
 # what an archive exports, one name to a line
 exported() { nm -g --defined-only "$1" | awk 'NF == 3 { print $3 }' | sort; }
+
+# what an archive needs from its host, one name to a line
+needed() { nm -u "$1" | awk '$1 == "U" { print $2 }' | sort -u; }

@@ -9,10 +9,15 @@ use native.Mathlib.Decide.{dec_lt}
 use native.Mathlib.Omega.{arith}
 use borrow.Author.Tests.{lt-ltb, le-ltb}
 use borrow.Rule.Slice.PartMut.{put_mid}
-use lib.Dec.{ltb}
+use lib.Dec.{ltb, lit<}
 use lib.ListN.{length, set, take, drop, length-append}
 use lib.Seq.{set_split, take_at, drop_at, drop-drop, length-take-le}
 use Rattle.trits.specs.Rows.{put_words}
+use Rattle.trits.specs.Refusal.{number_of}
+use Rattle.trits.specs.declared.refusal.Refusal.{Refusal}
+use Rattle.trits.specs.declared.refusal.Refusal.TheVariants.{Size, Length, BothPlanes, PastEnd, PackedByte, StreamEnd, NoPermutation, ZeroTrit, RankU}
+use Rattle.trits.specs.declared.refusal.Refusal.TheVariants.{RankV, Line, FirstPartV, FirstPartU, Weight, PackedPastEnd, NoKey, WholeKey}
+use Rattle.trits.specs.declared.refusal.Refusal.TheVariants.{OtherKey}
 use Rattle.text.specs.Numbers.{decimal_to, decimal}
 use Rattle.text.specs.Answers.{printed, yes_no, ones_plus_twos, refused_word, line_refused, sign_refused, verdict_answer}
 use Rattle.text.specs.Steps.{pair, refused_end}
@@ -111,6 +116,29 @@ up (suc j) n l = omega (arith, one_more (tens j) (j + 1) (omega arith) (up j) n 
 -- a number of 64 bits has at most twenty
 pub twenty_digits : (n : ℕ) → n < 2 ^ 64 → length (decimal n) ≤ 20
 twenty_digits n h = up 19 n (omega (arith, h))
+
+number_small : (refusal : Refusal) → number_of refusal < 2 ^ 64
+number_small Size = lit< tt
+number_small Length = lit< tt
+number_small BothPlanes = lit< tt
+number_small PastEnd = lit< tt
+number_small PackedByte = lit< tt
+number_small StreamEnd = lit< tt
+number_small NoPermutation = lit< tt
+number_small ZeroTrit = lit< tt
+number_small RankU = lit< tt
+number_small RankV = lit< tt
+number_small Line = lit< tt
+number_small FirstPartV = lit< tt
+number_small FirstPartU = lit< tt
+number_small Weight = lit< tt
+number_small PackedPastEnd = lit< tt
+number_small NoKey = lit< tt
+number_small WholeKey = lit< tt
+number_small OtherKey = lit< tt
+
+pub refusal_digits : (refusal : Refusal) → length (decimal (number_of refusal)) ≤ 20
+refusal_digits refusal = twenty_digits (number_of refusal) (number_small refusal)
 
 -- ---- the answers
 

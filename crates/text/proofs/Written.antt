@@ -117,6 +117,7 @@ up (suc j) n l = omega (arith, one_more (tens j) (j + 1) (omega arith) (up j) n 
 pub twenty_digits : (n : ℕ) → n < 2 ^ 64 → length (decimal n) ≤ 20
 twenty_digits n h = up 19 n (omega (arith, h))
 
+-- a refusal's number fits a word, so that it takes no more digits; said of each refusal, for who prints one in another crate
 number_small : (refusal : Refusal) → number_of refusal < 2 ^ 64
 number_small Size = lit< tt
 number_small Length = lit< tt
